@@ -1,12 +1,13 @@
 -- The bytes of an access piece by piece are those of the whole.
-use Rattle.std.proofs.Common.{◌≡◌, ℕ, ◌+◌, ◌^◌, ◌<◌, suc, Bool, true, cond, List, [], ◌∷◌, ◌++◌, length, Option, Some, None, Ordering, refl, sym, ap, subst, ◌∙◌, arith}
+use Rattle.std.proofs.Common.{◌≡◌, ℕ, ◌+◌, ◌^◌, ◌<◌, suc, Bool, true, false, cond, List, [], ◌∷◌, ◌++◌, length, Option, Some, None, Ordering, refl, sym, ap, subst, ◌∙◌, arith}
 use Rattle.std.specs.List.{AllByRecursion}
 use Rattle.std.specs.Ordering.{nat_cmp, is_eq, eq_by_cmp}
 use Rattle.std.specs.declared.cmp.Ordering.TheVariants.{Less, Equal, Greater}
 use Rattle.std.specs.Cmp.{IsTotalOrder, nat_cmp_total, tied_itself}
 use Rattle.std.specs.FinMap.Entries.{put, by_order}
+use Rattle.std.proofs.lemmas.Bool.Decides.{nat_tests}
 use Rattle.std.proofs.lemmas.List.{append-nil, length-append}
-use Rattle.av_plain.specs.World.{World, Process, Page, pages, lives, set_process, with_bytes, Shows}
+use Rattle.av_plain.specs.World.{World, Process, Page, is_locked_page, pages, lives, set_process, with_bytes, Shows}
 use Rattle.av_plain.specs.Fault.{is_allowed, permits}
 use Rattle.av_plain.specs.Access.{after_write, Reads}
 use Rattle.av_plain.proofs.World.{lives-set, pages-set}
@@ -79,3 +80,22 @@ allowed-stored w write p a (b ∷ bytes) page = same (pages w p page)
     same : (o : Option Page) → permits write o ≡ permits write (with_bytes (λ _. o) a (b ∷ bytes) page)
     same None = refl
     same (Some q) = refl
+
+-- and which pages are locked
+pub locked-stored : (w : World) (p a : ℕ) (bytes : List ℕ) (q page : ℕ) →
+    is_locked_page (pages w q page) ≡ is_locked_page (pages (after_write w p a bytes) q page)
+locked-stored w p a [] q page = refl
+locked-stored w p a (b ∷ bytes) q page =
+    by (eq_by_cmp nat_cmp q p) refl ∙ ap is_locked_page (sym (pages-set w p (with_bytes (pages w p) a (b ∷ bytes)) q page))
+  where
+    same : (o : Option Page) → is_locked_page o ≡ is_locked_page (with_bytes (λ _. o) a (b ∷ bytes) page)
+    same None = refl
+    same (Some x) = refl
+
+    number : eq_by_cmp nat_cmp q p ≡ true → q ≡ p
+    number e = grind (arith, nat_tests, e)
+
+    by : (c : Bool) → eq_by_cmp nat_cmp q p ≡ c
+        → is_locked_page (pages w q page) ≡ is_locked_page (cond c (with_bytes (pages w p) a (b ∷ bytes) page) (pages w q page))
+    by true e = ap (λ n. is_locked_page (pages w n page)) (number e) ∙ same (pages w p page)
+    by false e = refl

@@ -12,14 +12,14 @@ use Rattle.av_base.specs.Page.{address_of, page_of, place_in_page}
 use Rattle.av_base.specs.Words.{within}
 use Rattle.av_base.specs.declared.slot.Slot.{Slot}
 use Rattle.av_trace.specs.declared.note.Note.{Note}
-use Rattle.av_trace.specs.declared.note.Note.TheVariants.{Aged, Copied, Dropped, Failed, Kept, Loaded, Mapped, New, Put, Started, Unmapped, Written, Zeroed}
+use Rattle.av_trace.specs.declared.note.Note.TheVariants.{Aged, Copied, Dropped, Failed, Joined, Kept, Loaded, Mapped, Moved, New, Put, Shared, Started, Unmapped, Written, Zeroed}
 use Rattle.av_trace.specs.declared.reply.OutOf.{OutOf}
 use Rattle.av_plain.specs.Access.{after_write, page_events}
-use Rattle.av_plain.specs.Event.{Event, Forked, EntriesMoved, Noted, TurnedOff, TurnedOn, Used, Zapped, after, after_all, after_note, after_notes, note_events, when}
+use Rattle.av_plain.specs.Event.{Event, FlagSet, Forked, FreeSorted, EntriesMoved, Noted, TurnedOff, TurnedOn, Used, Zapped, after, after_all, after_note, after_notes, note_events, when}
 use Rattle.av_plain.specs.Fault.{ComesIn, CopyOnWrite, Denied, IsMade, Lost, MapCached, Need, NewPage, Ready, RunsOut, Serves, Sparing, Starved, Stop, SwapIn, Touches, ZeroPage, drop_at, drop_of_entry, drop_of_slot, asks_copy, need, need_of_slot, pinned_by, sparing, was_slot}
 use Rattle.av_plain.specs.Ledger.{Entry, InFrame, InSlot, Ledger, Setting, Zero, entry, frame_at, has_free, is_orphan, map_count, slot_of}
 use Rattle.av_plain.specs.Load.{after_load, after_loads, is_of_slot, with_loads, without_bytes, without_claims}
-use Rattle.av_plain.specs.Pass.{Completes, IsPass, IsSlotFor, Seeks, Spared, TakesFor, Turns, end_note, end_notes, frames_in_turn, is_dirty, is_stuck, stays_cached, turn_notes, unmap_notes}
+use Rattle.av_plain.specs.Pass.{Completes, IsPass, IsSlotFor, Seeks, Spared, TakesFor, Turns, end_note, end_notes, frames_in_turn, is_dirty, is_spared, is_stuck, stays_cached, turn_notes, unmap_notes}
 use Rattle.av_plain.specs.Sound.{IsSound}
 use Rattle.av_plain.specs.World.{Page, Process, World, pages, set_process, with_bytes, Shows}
 use Rattle.av_plain.proofs.Access.{note_events-all, note_events-append}
@@ -48,12 +48,17 @@ load_or_none (Noted (Failed s)) = inl (refl, λ l w. refl)
 load_or_none (Noted (Dropped s)) = inl (refl, λ l w. refl)
 load_or_none (Noted (Kept f c)) = inl (refl, λ l w. refl)
 load_or_none (Noted (Aged f)) = inl (refl, λ l w. refl)
+load_or_none (Noted (Shared f)) = inl (refl, λ l w. refl)
+load_or_none (Noted (Joined q a f)) = inl (refl, λ l w. refl)
+load_or_none (Noted (Moved a b)) = inl (refl, λ l w. refl)
 load_or_none (Zapped k) = inl (refl, λ l w. refl)
 load_or_none (Used b k) = inl (refl, λ l w. refl)
 load_or_none (Forked a b c) = inl (refl, λ l w. refl)
+load_or_none (FlagSet a b c d e) = inl (refl, λ l w. refl)
 load_or_none (EntriesMoved a b c d) = inl (refl, λ l w. refl)
 load_or_none (TurnedOn a b) = inl (refl, λ l w. refl)
 load_or_none (TurnedOff a) = inl (refl, λ l w. refl)
+load_or_none FreeSorted = inl (refl, λ l w. refl)
 
 -- ---- several
 
@@ -162,7 +167,7 @@ module _ (p page a : ℕ) (bytes : List ℕ) (apart : IsApart a (length bytes) p
       (cond b (option_map without_bytes x) x)
   one-stored l s o x own false is = refl
   one-stored l s o None own true is = refl
-  one-stored l s o (Some q) own true is = ap Some (λ k. record { prot = q.prot; bytes = λ i. sym (none i) k })
+  one-stored l s o (Some q) own true is = ap Some (λ k. record { prot = q.prot; flags = q.flags; bytes = λ i. sym (none i) k })
     where
       none : (i : ℕ) → cond (within a (length bytes) (address_of o + i)) (Some (slice_index bytes (address_of o + i - a))) None ≡ None
       none i = ap (λ b. cond b (Some (slice_index bytes (address_of o + i - a))) None)
@@ -339,7 +344,7 @@ module _ (m : Setting) (sp : Sparing) (p page : ℕ) where
           (own-is l q.0 _ takes.whole (own-notes l takes.sought (Loaded t takes.frame ∷ [])
           (own-none p page l (note_events takes.sought) (none-seeks m (sp l None) l takes.sought takes.seeks)) (
             own-load (after_notes l takes.sought) t takes.frame passed.sound
-                (passed.keeps.steady (p, page) (ap (is_steady (sp l None).frame) at) ∙ at),
+                (passed.keeps.steady (p, page) (ap (is_steady (is_spared (sp l None))) at) ∙ at),
             tt,
           )))
           (own-none p page (after_notes l q.0) (Noted (Mapped p (address_of page) q.1) ∷ []) refl))

@@ -12,7 +12,7 @@ use Rattle.av_plain.specs.Step.{failed_frames, failure_answers}
 use Rattle.av_plain.proofs.Device.{setting_same}
 use Rattle.av_plain.proofs.Ledger.{how_many-append}
 use Rattle.av_trace.specs.declared.reply.Answer.TheVariants.{Done}
-use Rattle.av_plain.specs.World.{Page, Shows, World, lives, pages}
+use Rattle.av_plain.specs.World.{Page, Shows, World, is_locked_page, lives, pages}
 use Rattle.av_plain.specs.Ledger.{Ledger, Setting, entry}
 use Rattle.av_plain.specs.Load.{is_of_slot, with_loads, without_bytes}
 use Rattle.av_plain.specs.Sound.{IsSound}
@@ -36,11 +36,12 @@ use Rattle.av_step.specs.Step.{IsSteadyFor}
 use Rattle.av_access.specs.Page.{IsPageRead, IsPageStep, world_after}
 use Rattle.av_access.specs.Access.{IsAccess, IsPiece, IsRead, answer_at, causes_of_access, world_served}
 use Rattle.av_fault.specs.Fault.{stop_of}
+use Rattle.av_fault.proofs.CameLaws.{locked-loads}
 use Rattle.av_access.specs.declared.access.Piece.{Piece}
 use Rattle.av_step.proofs.StepLaws.{same_then}
 use Rattle.av_access.proofs.AccessPages.{touches, touched-one, touched-more}
 use Rattle.av_access.proofs.AccessLoads.{AreOwnLoads, IsApart, loads-shows, loads-stored, own-events, with_loads-append}
-use Rattle.av_access.proofs.AccessBytes.{reads-more, stored_twice, allowed-stored, lives-stored}
+use Rattle.av_access.proofs.AccessBytes.{reads-more, stored_twice, allowed-stored, lives-stored, locked-stored}
 
 -- ---- the memories after a part of an access
 
@@ -59,6 +60,12 @@ allowed-served : (w : World) (write wants : Bool) (p a : ℕ) (bytes : List ℕ)
     is_allowed w wants (p, page) ≡ is_allowed (world_served write p a bytes w) wants (p, page)
 allowed-served w true wants p a bytes page = allowed-stored w wants p a bytes page
 allowed-served w false wants p a bytes page = refl
+
+-- and which pages are locked
+locked-served : (w : World) (write : Bool) (p a : ℕ) (bytes : List ℕ) (q page : ℕ) →
+    is_locked_page (pages w q page) ≡ is_locked_page (pages (world_served write p a bytes w) q page)
+locked-served w true p a bytes q page = locked-stored w p a bytes q page
+locked-served w false p a bytes q page = refl
 
 served_twice : (w : World) (write : Bool) (p a page at : ℕ) (xs ys : List ℕ) → (write ≡ true → 4096 * page + at ≡ a + length xs)
     → world_after write p page at ys None (world_served write p a xs w) ≡ world_served write p a (xs ++ ys) w
@@ -159,16 +166,19 @@ module _ {d d' : Device} (s : State) (mid new : Mem) (write : Bool) (p a k page 
       ∙ ap (λ ns. before ++ ns) (ap (λ ns. notes_of h.events ++ ns) (sym (notes-happening write (p, page) added end))
       ∙ sym (notes_of-append h.events (page_events write (p, page) added end)))
 
-  accesses-both : (pages : List (Bool × ℕ)) (more : List Event) (end : End) → Accesses (setting_by d new) h.next.world h.next.ledger p pages more end
-      → Accesses (setting_by d new) s.world s.ledger p (pages_of_access write a k ++ pages) (h.events ++ more) end
-  accesses-both pages more end g = accesses-append (setting_by d new) s.world h.next.world s.ledger p (pages_of_access write a k) pages h.events
+  accesses-both : (later : List (Bool × ℕ)) (more : List Event) (end : End) → Accesses (setting_by d new) h.next.world h.next.ledger p later more end
+      → Accesses (setting_by d new) s.world s.ledger p (pages_of_access write a k ++ later) (h.events ++ more) end
+  accesses-both later more end g = accesses-append (setting_by d new) s.world h.next.world s.ledger p (pages_of_access write a k) later h.events
       more end
       (alike-by-allowed s.world h.next.world p (λ wants page. allowed-loaded (setting_by d mid) s.world s.ledger h.events wants p page
       ∙ allowed-served (with_loads (setting_by d mid) s.world s.ledger h.events) write wants p a xs page
-      ∙ ap (λ w. is_allowed w wants (p, page)) (sym h.world)))
+      ∙ ap (λ w. is_allowed w wants (p, page)) (sym h.world))
+      (λ q page. sym (locked-loads (setting_by d mid) s.world s.ledger h.events q page)
+      ∙ locked-served (with_loads (setting_by d mid) s.world s.ledger h.events) write p a xs q page
+      ∙ ap (λ w. is_locked_page (pages w q page)) (sym h.world)))
       (subst (λ n. Accesses (setting_of n d) s.world s.ledger p (pages_of_access write a k) h.events Whole) (sym same)
       (subst (λ end. Accesses (setting_by d mid) s.world s.ledger p (pages_of_access write a k) h.events end) h.is_end.0 h.accesses))
-      (subst (λ l. Accesses (setting_by d new) h.next.world l p pages more end) h.ledger g)
+      (subst (λ l. Accesses (setting_by d new) h.next.world l p later more end) h.ledger g)
 
   free-both : (more : List Event) (free : Free) → ChoosesAll (setting_by d new) None h.next.ledger more h.next.free free →
       ChoosesAll (setting_by d new) None s.ledger (h.events ++ more) s.free free

@@ -4,7 +4,6 @@ use Rattle.av_base.specs.Words.{with_at}
 use Rattle.av_frames.specs.Store.{Store, Shown, shown, overlaid}
 use Rattle.av_io.specs.Count.{RoseBy}
 use Rattle.av_trace.specs.declared.note.Note.{Note}
-use Rattle.av_pagetable.specs.Entries.{entry_at}
 use Rattle.av_plain.specs.Device.{Device, IsSameDevice, setting_of}
 use Rattle.av_plain.specs.World.{World, lives}
 use Rattle.av_plain.specs.Ledger.{Ledger, InFrame, map_count, names_frame}
@@ -24,9 +23,8 @@ use Rattle.av_plain.proofs.Ledger.{how_many-found}
 use Rattle.av_plain.proofs.Ledger.NoSwap.{itself}
 use Rattle.av_plain.proofs.Sound.{lives-loads}
 use Rattle.av_swap_laws.specs.Held.{Held, IsHeld}
-use Rattle.av_swapcache.specs.Swap.{shown as shown_swap}
 use Rattle.av_mem.specs.declared.mem.Mem.{Mem}
-use Rattle.av_mem.specs.Mem.{setting_by, frame_count, plain, view, view_of_parts}
+use Rattle.av_mem.specs.Mem.{setting_by, sizes_of, frame_count, view}
 use Rattle.av_mem.proofs.KeepsLaws.{serves-keeps, state_by}
 use Rattle.av_fault.specs.declared.fault.Stop.{Stop}
 use Rattle.av_fault.specs.declared.fault.Stop.TheVariants.{Bus, Oom, Segv}
@@ -128,7 +126,15 @@ read_served {d} {d'} s new p page at n before now shown shown' same added notes 
 
 -- the view of a memory system whose frames are seen so
 abbrev seen : Mem → Shown → View
-seen k x = view_of_parts x k.lists (λ p page. plain (entry_at k.tables p page)) k.spaces k.anons (shown_swap k.swap)
+seen k x = record (view k) {
+  frames = x.count;
+  bytes = x.bytes;
+  maps = x.maps;
+  homes = x.home;
+  slot = x.slot;
+  dirty = x.dirty;
+  free = x.free;
+}
 
 -- what stands of it then, and what a page's events did before
 record StandsSeen (d d' : Device) (k : Mem) (s : State) (write : Bool) (p page : ℕ) (added : List Note) (w : World) (r : Rmap) (l : Ledger)
@@ -142,8 +148,9 @@ record StandsSeen (d d' : Device) (k : Mem) (s : State) (write : Bool) (p page :
   there : AreThere (setting_of x.count d') l
   areas_fit : AreasFit (setting_of x.count d') l
   free : ListsAll (setting_of x.count d') l (free_of (seen k x))
-  lists : k.lists.frames ≡ x.count
-  room : (shown_swap k.swap).frames ≡ x.count
+  lists : (sizes_of k).lists ≡ x.count
+  items : (sizes_of k).items ≡ x.count
+  room : (sizes_of k).swap ≡ x.count
   touches : Touches (setting_of x.count d) s.world s.ledger write (p, page) added None
   chosen : ChoosesAll (setting_of x.count d) None s.ledger (page_events write (p, page) added None) s.free (free_of (seen k x))
 
@@ -184,6 +191,7 @@ module _ {d d' : Device} (s : State) (p page at : ℕ) (piece : List ℕ) (befor
         areas_fit = serves.areas_fit;
         free = serves.free;
         lists = serves.lists;
+        items = serves.items;
         room = serves.swap.frames;
         touches = t.touches;
         chosen = t.served.free;
@@ -208,6 +216,7 @@ module _ {d d' : Device} (s : State) (p page at : ℕ) (piece : List ℕ) (befor
           areas_fit = stands.areas_fit;
           free = stands.free;
           lists = stands.lists;
+          items = stands.items;
           tables = serves.tables;
           fit = serves.fit;
           swap = record {

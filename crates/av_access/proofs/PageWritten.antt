@@ -65,12 +65,14 @@ some_written m a piece page = elim (m page) as (λ o. is_some o ≡ true → is_
       if within a (length piece) (4096 * page + i) then Some (slice_index piece (4096 * page + i - a)) else p.bytes i;
 }) o) ≡ true) [ None ↦ λ h. h | Some p ↦ λ h. h ]
 
-prot_written : (m : Process) (a : ℕ) (piece : List ℕ) (page : ℕ) → option_map (λ (q : Page). q.prot) (with_bytes m a piece page) ≡ option_map
-    (λ (q : Page). q.prot) (m page)
-prot_written m a piece page = elim (m page) as (λ o. option_map (λ (q : Page). q.prot) (option_map (λ (p : Page). record p {
+-- what is said of a page beside its bytes
+marks_written : {X : Type 0} (mark : Page → X)
+    → ((p : Page) (bytes : ℕ → Option ℕ) → mark (record p { bytes = bytes }) ≡ mark p) → (m : Process) (a : ℕ) (piece : List ℕ) (page : ℕ)
+    → option_map mark (with_bytes m a piece page) ≡ option_map mark (m page)
+marks_written mark same m a piece page = elim (m page) as (λ o. option_map mark (option_map (λ (p : Page). record p {
   bytes = λ i.
       if within a (length piece) (4096 * page + i) then Some (slice_index piece (4096 * page + i - a)) else p.bytes i;
-}) o) ≡ option_map (λ (q : Page). q.prot) o) [ None ↦ refl | Some p ↦ refl ]
+}) o) ≡ option_map mark o) [ None ↦ refl | Some p ↦ ap Some (same p _) ]
 
 -- a piece within one page
 elsewhere : (page other at n i : ℕ) → at + n ≤ 4096 → i < 4096 → other ≢ page → within (4096 * page + at) n (4096 * other + i) ≡ false
@@ -197,12 +199,16 @@ module _ (m : Setting) (h : Held) (p page f start : ℕ) (piece : List ℕ) (may
     alive = λ q. may.areas.alive q ∙ sym (lives-set w p now q ∙ lives_as q (eq_by_cmp nat_cmp q p) refl);
     number = may.areas.number ∙ sym (length-set_old w p now may.tidy.in_order may.alive);
     apart = may.areas.apart;
-    covers = λ q o. may.areas.covers q o ∙ sym (by_process w p now q o
-        (λ x. option_map (λ (q : Page). q.prot) x ≡ option_map (λ (q : Page). q.prot) (pages w q o))
-        (λ same. prot_written (pages w p) (4096 * page + start) piece o ∙ ap (λ x. option_map (λ (q : Page). q.prot) (pages w x o)) (sym same))
-        (λ _. refl));
+    covers = λ q o. may.areas.covers q o ∙ sym (marks_as (λ (q : Page). q.prot) (λ p bytes. refl) q o);
+    flags = λ q o. may.areas.flags q o ∙ sym (marks_as (λ (q : Page). q.flags) (λ p bytes. refl) q o);
   }
     where
+      marks_as : {X : Type 0} (mark : Page → X) → ((p : Page) (bytes : ℕ → Option ℕ) → mark (record p { bytes = bytes }) ≡ mark p) → (q o : ℕ)
+          → option_map mark (pages stored q o) ≡ option_map mark (pages w q o)
+      marks_as mark still q o = by_process w p now q o (λ x. option_map mark x ≡ option_map mark (pages w q o))
+          (λ same. marks_written mark still (pages w p) (4096 * page + start) piece o ∙ ap (λ x. option_map mark (pages w x o)) (sym same))
+          (λ _. refl)
+
       lives_as : (q : ℕ) (b : Bool) → eq_by_cmp nat_cmp q p ≡ b → cond b true (lives w q) ≡ lives w q
       lives_as q true e = sym (ap (lives w) (same_number q p e) ∙ may.alive)
       lives_as q false e = refl
@@ -251,4 +257,5 @@ module _ (m : Setting) (h : Held) (p page f start : ℕ) (piece : List ℕ) (may
     headers = may.held.headers;
     covered = may.held.covered;
     homes = may.held.homes;
+    items = may.held.items;
   }

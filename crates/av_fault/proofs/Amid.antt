@@ -6,7 +6,7 @@ use Rattle.av_vma.specs.Pages.{pages_in}
 use Rattle.av_vma.specs.declared.area.Area.{Area}
 use Rattle.av_plain.specs.Areas.{Anons, Areas, chain_by}
 use Rattle.av_plain.specs.Choice.{ListsAll}
-use Rattle.av_plain.specs.Event.{Event, Forked, EntriesMoved, Noted, TurnedOff, TurnedOn, Used, Zapped, after}
+use Rattle.av_plain.specs.Event.{Event, FlagSet, Forked, FreeSorted, EntriesMoved, Noted, TurnedOff, TurnedOn, Used, Zapped, after}
 use Rattle.av_plain.specs.Ledger.{Ledger, Setting, key_cmp}
 use Rattle.av_plain.specs.Load.{with_loads}
 use Rattle.av_plain.specs.Sound.{AreThere, AreasFit, AtPages, IsSound, IsTidy}
@@ -37,10 +37,12 @@ abbrev pub IsOfAccess : Setting → World → Ledger → Event → Type 0
 IsOfAccess m w l (Noted note) = IsLawful m None l note × IsNamed l note × Brings (at_page w) note
 IsOfAccess m w l (Used write k) = Unit {0}
 IsOfAccess m w l (Zapped k) = ⊥
-IsOfAccess m w l (Forked p q es) = ⊥
+IsOfAccess m w l (Forked p q pages) = ⊥
+IsOfAccess m w l (FlagSet p from n flag set) = ⊥
 IsOfAccess m w l (EntriesMoved p n from to) = ⊥
 IsOfAccess m w l (TurnedOn k area) = ⊥
 IsOfAccess m w l (TurnedOff k) = ⊥
+IsOfAccess m w l FreeSorted = ⊥
 
 -- what a lawful event does to the ledger
 record Ensues (m : Setting) (w : World) (l : Ledger) (e : Event) : Type 0 where
@@ -56,10 +58,12 @@ ensues m w l (Noted note) sorted h = record {
 }
 ensues m w l (Used write k) sorted h = record { lawful = tt; no_new = used-no_new m l write k sorted; at = used-at w l write k }
 ensues m w l (Zapped k) sorted h = absurd h
-ensues m w l (Forked p q es) sorted h = absurd h
+ensues m w l (Forked p q pages) sorted h = absurd h
+ensues m w l (FlagSet p from n flag set) sorted h = absurd h
 ensues m w l (EntriesMoved p n from to) sorted h = absurd h
 ensues m w l (TurnedOn k area) sorted h = absurd h
 ensues m w l (TurnedOff k) sorted h = absurd h
+ensues m w l FreeSorted sorted h = absurd h
 
 -- the areas and anon_vmas stay, and the memories are as the event leaves them
 pub record Beside (m : Setting) (h h' : Held) (e : Event) : Type 0 where

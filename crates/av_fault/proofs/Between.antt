@@ -21,9 +21,10 @@ use Rattle.av_plain.specs.Transcript.{State, rmap_of}
 use Rattle.av_plain.specs.World.{Page, World, pages}
 use Rattle.av_plain.proofs.Device.{setting_same}
 use Rattle.av_mem.specs.declared.mem.Mem.{Mem}
-use Rattle.av_mem.specs.Mem.{AgreesWith, AreByHeaders, HasLists, HasTables, Keeps, SwapFits, frame_count, held_by, ranges_of, setting_by, view}
+use Rattle.av_mem.specs.Mem.{AgreesWith, AreByHeaders, HasItems, HasLists, HasTables, Keeps, SwapFits, frame_count, held_by, ranges_of, setting_by, view}
 use Rattle.av_mem.specs.Steps.{KeepsParts}
-use Rattle.av_mem.proofs.StayLaws.{anons-stay, spaces-stay}
+use Rattle.av_mem.proofs.KeepsLaws.{keeps-serves}
+use Rattle.av_mem.proofs.ServesLaws.{anons-fit, lists-fit, swap-fits, tables-fit}
 use Rattle.av_mem.specs.Between.{IsBetween, KeepsBetween}
 use Rattle.av_fault.proofs.Amid.{Amid}
 
@@ -32,6 +33,7 @@ use Rattle.av_fault.proofs.Amid.{Amid}
 -- what is said of the parts beside the view
 pub record PartsFit (d : Device) (k : Mem) : Type 0 where
   pub lists : HasLists k
+  pub items : HasItems k
   pub tables : HasTables k
   pub fit : AnonsFit k.spaces k.anons
   pub swap : SwapFits d None k
@@ -52,7 +54,7 @@ module _ (d : Device) (k : Mem) (w : World) (r : Rmap) (l : Ledger) where
   }
 
   pub to-fit : KeepsBetween d k w r l → PartsFit d k
-  to-fit h = record { lists = h.serves.lists; tables = h.serves.tables; fit = h.serves.fit; swap = h.serves.swap }
+  to-fit h = record { lists = h.serves.lists; items = h.serves.items; tables = h.serves.tables; fit = h.serves.fit; swap = h.serves.swap }
 
   pub of-amid : Amid (setting_by d k) (held_by d k w r l) → PartsFit d k → KeepsBetween d k w r l
   of-amid a f = record {
@@ -68,6 +70,7 @@ module _ (d : Device) (k : Mem) (w : World) (r : Rmap) (l : Ledger) where
       areas_fit = a.areas_fit;
       free = a.free;
       lists = f.lists;
+      items = f.items;
       tables = f.tables;
       fit = f.fit;
       swap = f.swap;
@@ -76,36 +79,9 @@ module _ (d : Device) (k : Mem) (w : World) (r : Rmap) (l : Ledger) where
 
 -- between two commands it stands for a state
 pub between-of : (d : Device) (k : Mem) (s : State) → Keeps d k s → KeepsBetween d k s.world (rmap_of s) s.ledger
-between-of d k s h = record {
-  sound = h.stands.sound.ledger;
-  serves = record {
-    held = record {
-      ledger = h.stands.parts.ledger;
-      bytes = h.stands.parts.bytes;
-      headers = h.stands.parts.headers;
-      covered = record { frames = h.stands.reach; slots = h.stands.slots };
-      homes = h.stands.homes;
-    };
-    areas = h.stands.parts.areas;
-    are = h.stands.areas;
-    anons = h.stands.anons;
-    tidy = h.stands.sound.world;
-    at_pages = h.stands.sound.at_pages;
-    there = h.stands.sound.in_areas;
-    areas_fit = h.stands.sound.areas_fit;
-    free = subst (ListsAll (setting_by d k) s.ledger) (sym h.stands.free) h.stands.lists;
-    lists = h.lists;
-    tables = h.tables;
-    fit = h.anons;
-    swap = h.swap;
-  };
-}
+between-of d k s h = record { sound = h.stands.sound.ledger; serves = keeps-serves d k s h }
 
 -- ---- the device
-
--- the headers of one device
-headers-same : (a b : Device) → IsSameDevice a b → headers_of b ≡ headers_of a
-headers-same a b same = ap (λ (m : Setting). m.headers) (setting_same 0 a b same)
 
 pub same-still : (d : Device) → IsSameDevice d d
 same-still d = record { sizes = refl; first = refl; failures = omega arith }
@@ -124,41 +100,14 @@ same-then a b c ab bc = record {
 pub setting-stays : (d d' : Device) (old new : Mem) → IsSameDevice d d' → frame_count new ≡ frame_count old → setting_by d' new ≡ setting_by d old
 setting-stays d d' old new same count = ap (λ n. setting_of n d') count ∙ setting_same (frame_count old) d d' same
 
--- the swap areas that are on have the pages of their headers still
-by-headers-stay : (o : Option (ℕ → Option Layout)) (h h' : ShownSwap) → h'.on ≡ h.on → h'.bad ≡ h.bad → AreByHeaders o h → AreByHeaders o h'
-by-headers-stay None h h' on bad are = tt
-by-headers-stay (Some told) h h' on bad are = λ a. subst (λ x. IfSome x (λ header. IsSomeAnd (told a) (AgreesWith h' a header)))
-    (sym (ap (λ os. find nat_cmp a os) on)) (by a (header_at h a) (are a))
-  where
-    agrees : (a : ℕ) (header : Header) (o : Option Layout) → IsSomeAnd o (AgreesWith h a header) → IsSomeAnd o (AgreesWith h' a header)
-    agrees a header None x = x
-    agrees a header (Some layout) x = record {
-      pages = x.pages;
-      slots = λ page below. x.slots page below ∙ sym (ap (λ (b : Slot → Bool). not (b (record { area = a; page = page }))) bad);
-    }
-
-    by : (a : ℕ) (x : Option Header) → IfSome x (λ header. IsSomeAnd (told a) (AgreesWith h a header))
-        → IfSome x (λ header. IsSomeAnd (told a) (AgreesWith h' a header))
-    by a None x = tt
-    by a (Some header) x = agrees a header (told a) x
-
 -- where nothing changes beside the view, the parts fit still
 pub fit-stays : (d d' : Device) (old new : Mem) → IsSameDevice d d' → KeepsParts old new → PartsFit d old → PartsFit d' new
 fit-stays d d' old new same parts h = record {
-  lists = parts.lists ∙ h.lists ∙ sym parts.count;
-  tables = λ p. ap (λ (there : ℕ → Bool). there p) parts.processes ∙ h.tables p
-      ∙ ap (λ (s : AllSpaces). is_some (ranges_of s.processes p)) (sym (spaces-stay parts));
-  fit = subst (λ (s : AllSpaces). AnonsFit s new.anons) (sym (spaces-stay parts)) (subst (AnonsFit old.spaces) (sym (anons-stay parts)) h.fit);
-  swap = record {
-    frames = parts.swap.frames ∙ h.swap.frames ∙ sym parts.count;
-    closed = parts.swap.closing ∙ h.swap.closed;
-    on_device = λ a. subst (λ (on : List (ℕ × Header)). IfSome (find nat_cmp a on) (λ (x : Header). IsSomeAnd (d'.sizes a) (λ n. x.pages ≤ n)))
-        (sym parts.swap.on)
-        (subst (λ (sizes : ℕ → Option ℕ). IfSome (header_at (shown_swap old.swap) a) (λ (x : Header). IsSomeAnd (sizes a) (λ n. x.pages ≤ n)))
-        (sym same.sizes) (h.swap.on_device a));
-    by_headers = subst (λ o. AreByHeaders o (shown_swap new.swap)) (sym (headers-same d d' same))
-        (by-headers-stay (headers_of d) (shown_swap old.swap) (shown_swap new.swap) parts.swap.on parts.swap.bad h.swap.by_headers);
-  };
+  lists = lists-fit old new parts h.lists;
+  items = parts.items ∙ h.items ∙ sym parts.count;
+  tables = tables-fit old new parts h.tables;
+  fit = anons-fit old new parts h.fit;
+  swap = swap-fits old new parts d d' None same h.swap;
 }
 
 -- ---- on another device
@@ -214,6 +163,7 @@ module _ (d : Device) (k : Mem) (w : World) (r : Rmap) (l : Ledger) (n : ℕ) (h
       in_order = h.sound.in_order;
       slots_once = h.sound.slots_once;
       frames_once = h.sound.frames_once;
+      merged = h.sound.merged;
       in_range = h.sound.in_range;
       listed = h.sound.listed;
       flying = h.sound.flying;
@@ -233,6 +183,7 @@ module _ (d : Device) (k : Mem) (w : World) (r : Rmap) (l : Ledger) (n : ℕ) (h
         headers = λ a. unsaid (find nat_cmp a l.on);
         covered = h.serves.held.covered;
         homes = h.serves.held.homes;
+        items = h.serves.held.items;
       };
       areas = h.serves.areas;
       are = h.serves.are;
@@ -252,6 +203,7 @@ module _ (d : Device) (k : Mem) (w : World) (r : Rmap) (l : Ledger) (n : ℕ) (h
         };
       };
       lists = h.serves.lists;
+      items = h.serves.items;
       tables = h.serves.tables;
       fit = h.serves.fit;
       swap = record {

@@ -2,9 +2,11 @@
 use Rattle.std.proofs.Common.{◌≡◌, inl, inr, ℕ, Bool, true, false, List, [], ◌∷◌, ◌++◌, Option, Some, None, refl, sym, ap, subst, ◌∙◌, arith}
 use Rattle.std.proofs.lemmas.List.{append_assoc}
 use Rattle.std.proofs.lemmas.Result.{IfOk-weaker}
-use Rattle.std.specs.Prelude.{Err, IfOk, Ok, Result}
+use Rattle.std.specs.Option.{option_map_or}
+use Rattle.std.specs.Prelude.{Err, IfOk, Ok, Result, option_map}
 use Rattle.std.specs.declared.alloc.AllocError.{AllocError}
 use Rattle.av_base.specs.Page.{address_of}
+use Rattle.av_base.specs.declared.flags.Flags.{Flags}
 use Rattle.av_base.specs.declared.slot.Slot.{Slot}
 use Rattle.av_pagetable.specs.declared.pte.Pte.TheVariants.{Away}
 use Rattle.av_pagetable.specs.Entries.{entry_at}
@@ -16,17 +18,18 @@ use Rattle.av_vma.specs.declared.area.Area.{Area}
 use Rattle.av_plain.specs.Areas.{Rmap, rmap_after_all, rmap_after_note}
 use Rattle.av_plain.specs.Device.{Device, as_told}
 use Rattle.av_plain.specs.Event.{Event, Noted, Used, after_all, after_notes, note_events}
-use Rattle.av_plain.specs.Fault.{ComesIn, FindsNone, Serves, SwapIn, Touches, drop_at, is_allowed, need, need_of_slot, sparing, was_slot}
+use Rattle.av_plain.specs.Fault.{ComesIn, FindsNone, IsMade, Serves, SwapIn, Touches, drop_at, is_allowed, need, need_of_slot, sparing, was_slot}
 use Rattle.av_plain.specs.Ledger.{InSlot, Key, Ledger, Setting, entry, frame_at}
 use Rattle.av_plain.specs.Load.{with_loads}
 use Rattle.av_plain.specs.Pass.{is_fail}
 use Rattle.av_plain.specs.Stands.{prot_of}
-use Rattle.av_plain.specs.World.{World}
-use Rattle.av_plain.proofs.Access.{after_all-append, after_notes-append, note_events-all, note_events-append}
+use Rattle.av_plain.specs.World.{Page, World, is_locked_page, pages}
+use Rattle.av_plain.proofs.Access.{after_all-append, after_notes-append, note_events-all, note_events-append, spares-alike}
 use Rattle.av_plain.proofs.AreasLeft.{rmap_after_all-append}
 use Rattle.av_plain.proofs.Covered.Page.{fit-areas}
 use Rattle.av_plain.proofs.Covered.Swap.{fit-seeks}
 use Rattle.av_plain.proofs.Ledger.{how_many-append}
+use Rattle.av_plain.proofs.Sound.{flags-loads}
 use Rattle.av_mem.specs.declared.mem.Mem.{Mem}
 use Rattle.av_mem.specs.Mem.{ranges_of, setting_by}
 use Rattle.av_mem.specs.Between.{Does, HasDone, IsBetween, KeepsBetween}
@@ -55,20 +58,38 @@ is-slot : (s : Slot) (o : Option ℕ) → was_slot (need_of_slot s o) ≡ true
 is-slot s None = refl
 is-slot s (Some f) = refl
 
--- what is made does not depend on the memories
+-- loads leave the same pages locked, so that a pass leaves the same frames alone
+pub locked-loads : (m : Setting) (w : World) (l : Ledger) (events : List Event) (p page : ℕ)
+    → is_locked_page (pages (with_loads m w l events) p page) ≡ is_locked_page (pages w p page)
+locked-loads m w l events p page = by (pages (with_loads m w l events) p page) (pages w p page) (flags-loads m w l events p page)
+  where
+    by : (x y : Option Page) → option_map (λ (q : Page). q.flags) x ≡ option_map (λ (q : Page). q.flags) y → is_locked_page x ≡ is_locked_page y
+    by None None e = refl
+    by None (Some y) e = cc
+    by (Some x) None e = cc
+    by (Some x) (Some y) e = ap (λ (o : Option Flags). option_map_or (λ (f : Flags). f.locked) o false) e
+
+sparing-loads : (m : Setting) (w : World) (l : Ledger) (events : List Event) → sparing (with_loads m w l events) ≡ sparing w
+sparing-loads m w l events = spares-alike (with_loads m w l events) w (locked-loads m w l events)
+
+-- what is made depends on the memories by what a pass leaves alone
 makes-alike : (m : Setting) (w w' : World) (l : Ledger) (write came : Bool) (k : Key) (added : List Note) (touched : Touched)
-    → Makes m w l write came k added touched → Makes m w' l write came k added touched
-makes-alike m w w' l write came k added touched = by touched
+    → sparing w ≡ sparing w' → Makes m w l write came k added touched → Makes m w' l write came k added touched
+makes-alike m w w' l write came k added touched same = by touched
   where
     made : IsMadeBy m w l write came k added → IsMadeBy m w' l write came k added
-    made x = record { making = x.making; made = x.made; whole = x.whole }
+    made x = record {
+      making = x.making;
+      made = subst (λ sp. IsMade m sp l k (need write l (entry l k)) x.making) same x.made;
+      whole = x.whole;
+    }
 
     by : (touched : Touched) → Makes m w l write came k added touched → Makes m w' l write came k added touched
     by (Ready f) x = made x
     by Zeros x = made x
     by (Stopped Segv) x = x
     by (Stopped Bus) x = x
-    by (Stopped (Oom out)) x = x
+    by (Stopped (Oom out)) x = subst (λ sp. FindsNone m sp l (need write l (entry l k)) added out) same x
 
 -- ---- the page came in
 
@@ -124,7 +145,7 @@ module _ (d d' : Device) (old mid : Mem) (w : World) (r : Rmap) (l : Ledger) (k 
     makes_then : Makes m w ledger_noted write true k made.added touched
     makes_then = subst (λ x. Makes m w x write true k made.added touched) (note_events-all l came.added)
         (subst (λ m. Makes m w ledger_come write true k made.added touched) (setting-stays d d' old mid came.done.same came.done.count)
-        (makes-alike (setting_by d' mid) world_come w ledger_come write true k made.added touched made.makes))
+        (makes-alike (setting_by d' mid) world_come w ledger_come write true k made.added touched (sparing-loads m w l come_events) made.makes))
 
     serves : IsMadeBy m w ledger_noted write true k made.added → Serves m (sparing w) l write k added
     serves x = record {

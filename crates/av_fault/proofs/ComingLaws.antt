@@ -24,7 +24,7 @@ use Rattle.av_plain.specs.Event.{Event, Noted, after_all, after_note, after_note
 use Rattle.av_plain.specs.Fault.{ComesIn, need_of_slot, sparing}
 use Rattle.av_plain.specs.Ledger.{InFrame, InSlot, Key, Ledger, Setting, entry, frame_at, has_free, is_free}
 use Rattle.av_plain.specs.Load.{with_loads}
-use Rattle.av_plain.specs.Pass.{TakesFor, fails, is_fail}
+use Rattle.av_plain.specs.Pass.{TakesFor, fails, is_fail, is_spared}
 use Rattle.av_plain.specs.Sound.{no_excuse, slots}
 use Rattle.av_plain.specs.Stands.{Pte as Plain, View, entry_of, free_of}
 use Rattle.av_plain.specs.World.{World}
@@ -143,7 +143,7 @@ module _ (d d1 : Device) (old mid : Mem) (w : World) (r : Rmap) (l : Ledger) (q 
   at_now : entry l1 q ≡ Some (InSlot s)
   at_now = ap (λ x. entry x q) by_notes
       ∙ (seeks-kept m (sparing w l None) l sought.added h.sound sought.seeks).keeps.steady q
-      (ap (is_steady (sparing w l None).frame) at_first) ∙ at_first
+      (ap (is_steady (is_spared (sparing w l None))) at_first) ∙ at_first
 
   out_now : frame_at l1 s ≡ None
   out_now = uncached-frame s l1 (ap (λ x. slots x s) by_notes
@@ -189,6 +189,7 @@ module _ (d d1 : Device) (old mid : Mem) (w : World) (r : Rmap) (l : Ledger) (q 
             headers = a.held.headers;
             covered = a.held.covered;
             homes = a.held.homes;
+            items = a.held.items;
           };
           areas = a.areas;
           are = a.are;

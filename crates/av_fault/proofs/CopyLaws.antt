@@ -1,6 +1,7 @@
 -- A page gets a copy of its frame, and is written.
-use Rattle.std.proofs.Common.{◌≡◌, ℕ, ◌<◌, ◌==◌, Bool, true, false, cond, ◌&&◌, List, [], ◌∷◌, ◌++◌, Option, Some, None, is_some, refl, sym, ap, subst, ◌∙◌}
+use Rattle.std.proofs.Common.{◌≡◌, ℕ, ◌<◌, ◌==◌, Bool, true, false, cond, ◌&&◌, List, [], ◌∷◌, ◌++◌, Option, Some, None, is_some, refl, sym, ap, subst, ◌∙◌, arith}
 use Rattle.av_base.specs.Page.{address_of, page_of}
+use Rattle.av_base.specs.Words.{with_at}
 use Rattle.av_base.specs.declared.slot.Slot.{Slot}
 use Rattle.av_pagetable.specs.declared.pte.Pte.{Pte}
 use Rattle.av_pagetable.specs.declared.pte.Pte.TheVariants.{Away, Empty, Here, Zero}
@@ -14,29 +15,31 @@ use Rattle.av_plain.specs.Choice.{ListsFree}
 use Rattle.av_plain.specs.Device.{Device}
 use Rattle.av_plain.specs.Event.{Noted, Used, after_note, after_notes, after_use}
 use Rattle.av_plain.specs.Fault.{CopyOnWrite, IsMade, Ready as NoNeed, drop_at, drop_of_entry, drop_of_slot, asks_copy, need, sparing}
-use Rattle.av_plain.specs.Ledger.{Entry, InFrame, InSlot, Zero as Zeros, Key, Ledger, Setting, entry, is_free, names_frame, slot_of}
-use Rattle.av_plain.specs.Pass.{TakesFor}
+use Rattle.av_plain.specs.Ledger.{Entry, InFrame, InSlot, Zero as Zeros, Key, Ledger, Setting, entry, is_free, map_count, names_frame, slot_of}
+use Rattle.av_plain.specs.Pass.{TakesFor, is_spared}
 use Rattle.av_plain.specs.Sound.{no_excuse}
-use Rattle.av_plain.specs.Stands.{View, entry_of}
+use Rattle.av_plain.specs.Stands.{Pte as Plain, View, entry_of}
 use Rattle.av_plain.specs.World.{World, pages}
 use Rattle.av_plain.proofs.Access.{after_notes-append, note_events-all}
 use Rattle.av_plain.proofs.Ledger.{entry-set, how_many-found, same_key-itself}
 use Rattle.av_plain.proofs.Load.{without-loads}
-use Rattle.av_plain.proofs.Sound.Access.{shared-is, shared-stays, unused}
+use Rattle.av_plain.proofs.Event.{changed-by}
+use Rattle.av_plain.proofs.Sound.Access.{shared-is, shared-stays, sparing-pins, unused}
 use Rattle.av_plain.proofs.Sound.Counts.{same-itself}
-use Rattle.av_plain.proofs.Sound.Entries.{copied-kept}
+use Rattle.av_plain.proofs.Sound.Sharing.{copied-kept, free-apart}
 use Rattle.av_plain.proofs.Sound.Steps.{is_steady}
-use Rattle.av_swap_laws.specs.Held.{Held}
-use Rattle.av_swap_laws.specs.Steps.{view_copy, view_seen}
+use Rattle.av_swap_laws.specs.Held.{Held, Steps}
+use Rattle.av_swap_laws.specs.May.{AreOnce}
+use Rattle.av_swap_laws.specs.Steps.{view_copy, view_copy_last, view_seen, with_pte}
 use Rattle.av_swap_laws.proofs.Cache.{once-of}
 use Rattle.av_swap_laws.proofs.From.{IsFirst, first-is}
 use Rattle.av_swap_laws.proofs.Load.{unslotted}
-use Rattle.av_swap_laws.proofs.WholePages.{copy-steps}
+use Rattle.av_swap_laws.proofs.WholePages.{copy-steps, last-steps}
 use Rattle.av_mem.specs.declared.mem.Mem.{Mem}
 use Rattle.av_mem.specs.Mem.{held_by, plain, setting_by, view}
 use Rattle.av_mem.specs.Steps.{KeepsParts}
 use Rattle.av_mem.specs.Between.{HasDone, KeepsBetween}
-use Rattle.av_mem.specs.Entries.{IsTaken, NamesFrame}
+use Rattle.av_mem.specs.Entries.{IsTaken, NamesFrame, view_copied}
 use Rattle.av_fault.specs.Making.{HasMade}
 use Rattle.av_fault.specs.Seek.{HasSought}
 use Rattle.av_fault.specs.Using.{IsHere}
@@ -47,15 +50,20 @@ use Rattle.av_fault.proofs.Amid.{Amid}
 use Rattle.av_fault.proofs.Between.{fit-stays, same-still, to-amid, to-fit}
 use Rattle.av_fault.proofs.EntryLaws.{page-back}
 use Rattle.av_fault.proofs.Run.{Run, run-done, run-none, run-then}
-use Rattle.av_fault.proofs.SharedLaws.{shared-by}
+use Rattle.av_fault.proofs.SharedLaws.{is_last, keeps-use, loses-use, shared-by}
 use Rattle.av_fault.proofs.SoughtLaws.{entry-sought, ledger_now, pages-sought, passed, rmap_now, world_now}
 use Rattle.av_fault.proofs.TakenLaws.{home-twice, taken-made, used-run}
 use Rattle.av_fault.proofs.UsingLaws.{entry-here}
 
 -- the entry after the note
 copy-there : (p a f : ℕ) (l : Ledger) → entry (after_note (Copied p a f) l) (p, page_of a) ≡ Some (InFrame f false)
-copy-there p a f l = entry-set (p, page_of a) (InFrame f false) l (p, page_of a)
+copy-there p a f l = changed-by (λ x. entry x (p, page_of a)) (λ g x. refl) (p, page_of a) f l
+    ∙ entry-set (p, page_of a) (InFrame f false) l (p, page_of a)
     ∙ ap (λ b. cond b (Some (InFrame f false)) (entry l (p, page_of a))) (same_key-itself (p, page_of a))
+
+-- a frame that was free has no slot then either
+copy-slotless : (p a f : ℕ) (l : Ledger) → is_free l f ≡ true → slot_of (after_note (Copied p a f) l) f ≡ None
+copy-slotless p a f l free = changed-by (λ x. slot_of x f) (λ g x. refl) (p, page_of a) f l ∙ unslotted l f free
 
 -- ---- of views alone
 
@@ -68,38 +76,73 @@ module _ (m : Setting) (h : Held) (amid : Amid m h) (p a f g : ℕ) (left : List
   abbrev home : Option (ℕ × ℕ)
   home = home_of (page_of a) (h.rmap.areas p (page_of a))
 
-  abbrev made : Held
-  made = record h {
-    view = view_copy p (page_of a) g f true left home h.view;
-    ledger = after_note (Copied p a f) h.ledger;
-    rmap = at_home f q h.rmap;
-  }
+  abbrev made : View → Held
+  made v = record h { view = v; ledger = after_note (Copied p a f) h.ledger; rmap = at_home f q h.rmap }
 
   is_first : IsFirst m h.ledger f left
   is_first = first-is m h.ledger f left (subst (ListsFree m h.ledger) first amid.free.frames)
 
-  run : Run m h made (Noted (Copied p a f) ∷ [])
-  run = run-then m h h made [] (Noted (Copied p a f)) (run-none m h amid) (tt, tt, mapped)
-      (copy-steps m None h amid.held p a f left true amid.sound.in_order (once-of m no_excuse h.ledger amid.sound) is_first.free first is_first.alone
-      g seen here shared)
-      (record {
-        world = sym (without-loads m h.world h.ledger (Noted (Copied p a f) ∷ []) refl);
-        view_areas = refl;
-        view_anons = refl;
-        areas = refl;
-        anons = refl;
-      })
-      (copied-kept m no_excuse h.ledger q f g seen amid.sound here (shared-is h.ledger g shared) is_first.below (unused h.ledger f is_first.free))
+  named : 0 < map_count h.ledger g
+  named = how_many-found (names_frame g) q h.ledger.entries (InFrame g seen) here (same-itself g)
 
-  both : (p == p && page_of a == page_of a) ≡ true
-  both = λ i. same-itself p i && same-itself (page_of a) i
+  -- whatever becomes of the frame that is copied
+  module _ (v : View) (steps : Steps m None (Noted (Copied p a f)) h (made v)) (areas : v.areas ≡ h.view.areas) (anons : v.anons ≡ h.view.anons)
+      (homes : v.homes ≡ with_at f home h.view.homes)
+      (table : v.table ≡ with_pte p (page_of a) (Some (record { entry = InFrame f false; write = true })) h.view.table) where
+    run : Run m h (made v) (Noted (Copied p a f) ∷ [])
+    run = run-then m h h (made v) [] (Noted (Copied p a f)) (run-none m h amid) (tt, tt, mapped) steps
+        (record {
+          world = sym (without-loads m h.world h.ledger (Noted (Copied p a f) ∷ []) refl);
+          view_areas = areas;
+          view_anons = anons;
+          areas = refl;
+          anons = refl;
+        })
+        (copied-kept m no_excuse h.ledger q f g seen amid.sound here (free-apart h.ledger q f g seen here (unused h.ledger f is_first.free))
+        (shared-is h.ledger g shared) is_first.below (unused h.ledger f is_first.free))
 
-  pub copy-run : Run m h (record made { view = view_seen p (page_of a) f true made.view; ledger = after_use true q made.ledger })
-      (Noted (Copied p a f) ∷ Used true q ∷ [])
-  copy-run = used-run m h made (Copied p a f) q f run (copy-there p a f h.ledger) (unslotted h.ledger f is_first.free)
-      (run.amid.held.ledger.tables.write_bits p (page_of a) (record { entry = InFrame f false; write = true }) f
-      (ap (λ b. cond b (Some (record { entry = InFrame f false; write = true })) (h.view.table p (page_of a))) both) refl (same-itself f))
-      (home-twice f home h.view.homes) (λ i. record h.rmap { homes = home-twice f home h.rmap.homes i })
+    both : (p == p && page_of a == page_of a) ≡ true
+    both = λ i. same-itself p i && same-itself (page_of a) i
+
+    bit-there : v.table p (page_of a) ≡ Some (record { entry = InFrame f false; write = true })
+    bit-there = ap (λ (t : ℕ → ℕ → Option Plain). t p (page_of a)) table
+        ∙ ap (λ b. cond b (Some (record { entry = InFrame f false; write = true })) (h.view.table p (page_of a))) both
+
+    used : Run m h (record (made v) { view = view_seen p (page_of a) f true v; ledger = after_use true q (made v).ledger })
+        (Noted (Copied p a f) ∷ Used true q ∷ [])
+    used = used-run m h (made v) (Copied p a f) q f run (copy-there p a f h.ledger) (copy-slotless p a f h.ledger is_first.free)
+        (run.amid.held.ledger.tables.write_bits p (page_of a) (record { entry = InFrame f false; write = true }) f bit-there refl (same-itself f))
+        (ap (with_at f home) homes ∙ home-twice f home h.view.homes ∙ sym homes)
+        (λ i. record h.rmap { homes = home-twice f home h.rmap.homes i })
+
+  -- it is free where this was its last use, else it keeps the others
+  pub copy-run : Run m h (record (made (view_copied p (page_of a) g f left home h.view)) {
+    view = view_seen p (page_of a) f true (view_copied p (page_of a) g f left home h.view);
+    ledger = after_use true q (after_note (Copied p a f) h.ledger);
+  }) (Noted (Copied p a f) ∷ Used true q ∷ [])
+  copy-run = by (is_last (h.view.maps g) (h.view.slot g)) refl
+    where
+      once : AreOnce h.ledger
+      once = once-of m no_excuse h.ledger amid.sound
+
+      as_said : is_last (map_count h.ledger g) (slot_of h.ledger g) ≡ is_last (h.view.maps g) (h.view.slot g)
+      as_said = λ i. is_last (sym (amid.held.ledger.frames.maps g) i) (sym (amid.held.ledger.frames.slots g) i)
+
+      below : g < m.frames
+      below = let some = named in amid.sound.in_range g (omega (arith, some))
+
+      by : (b : Bool) → is_last (h.view.maps g) (h.view.slot g) ≡ b
+          → (let v : View = cond b (view_copy_last p (page_of a) g f true left home h.view) (view_copy p (page_of a) g f true left home h.view) in
+          Run m h (record (made v) { view = view_seen p (page_of a) f true v; ledger = after_use true q (after_note (Copied p a f) h.ledger) })
+          (Noted (Copied p a f) ∷ Used true q ∷ []))
+      by true e = used (view_copy_last p (page_of a) g f true left home h.view)
+          (last-steps m None h amid.held p a f left true amid.sound.in_order once is_first.free first is_first.alone g seen here
+          (loses-use h.ledger g (as_said ∙ e)) below)
+          refl refl refl refl
+      by false e = used (view_copy p (page_of a) g f true left home h.view)
+          (copy-steps m None h amid.held p a f left true amid.sound.in_order once is_first.free first is_first.alone g seen here
+          (keeps-use m h.ledger g amid.sound named shared (as_said ∙ e)))
+          refl refl refl refl
 
 -- ---- of the memory system
 
@@ -109,7 +152,7 @@ module _ (d : Device) (mid new : Mem) (w : World) (r : Rmap) (l : Ledger) (p f g
   -- at the page of an address
   abbrev CopyDone : ℕ → ℕ → Type 0
   CopyDone a page = entry l (p, page) ≡ Some (InFrame g seen) → is_some (pages w p page) ≡ true
-      → view new ≡ view_seen p page f true (view_copy p page g f true left (home_of page (r.areas p page)) (view mid))
+      → view new ≡ view_seen p page f true (view_copied p page g f left (home_of page (r.areas p page)) (view mid))
       → HasDone d d mid new w r l (Noted (Copied p a f) ∷ Used true (p, page) ∷ [])
 
   copy-done : (a : ℕ) → CopyDone a (page_of a)
@@ -120,7 +163,7 @@ module _ (d : Device) (mid new : Mem) (w : World) (r : Rmap) (l : Ledger) (p f g
       let home = home_of (page_of a) (r.areas p (page_of a)) in
       let l' = after_note (Copied p a f) l in
       run-done d d mid new w w r (at_home f k r) l (after_use true k l') (Noted (Copied p a f) ∷ Used true k ∷ []) here
-      (view_seen p (page_of a) f true (view_copy p (page_of a) g f true left home (view mid)))
+      (view_seen p (page_of a) f true (view_copied p (page_of a) g f left home (view mid)))
       (copy-run m here (to-amid d mid w r l h) p a f g left first seen at shared mapped) now refl refl
       (sym (without-loads m w l (Noted (Copied p a f) ∷ Used true k ∷ []) refl))
       (sym (ap (λ o. rmap_after_use true k o (at_home f k r)) (copy-there p a f l) ∙ (λ i. record r { homes = home-twice f home r.homes i })))
@@ -149,7 +192,8 @@ module _ (d d' : Device) (old mid : Mem) (w : World) (r : Rmap) (l : Ledger) (be
 
   -- the pinned frame is as it was
   pub copy-at : entry l1 k ≡ Some (InFrame g here.seen)
-  copy-at = entry-sought d d' old mid w r l (Some g) before mids got h s k (ap (is_steady (sparing w l (Some g)).frame) at ∙ same-itself g) ∙ at
+  copy-at = entry-sought d d' old mid w r l (Some g) before mids got h s k (ap (is_steady (is_spared (sparing w l (Some g)))) at
+      ∙ sparing-pins w l g) ∙ at
 
   pub copy-names : NamesFrame mid k g
   copy-names = by (entry_at mid.tables k.0 k.1) refl (s.done.between.serves.held.ledger.tables.entries k.0 k.1 ∙ copy-at)
@@ -180,14 +224,14 @@ module _ (d d' : Device) (old mid : Mem) (w : World) (r : Rmap) (l : Ledger) (be
   copied-shared =
       let p = passed d d' old mid w r l (Some g) before mids got h s in
       subst (λ x. asks_copy x g ≡ true) (sym (note_events-all l s.added))
-      (shared-by m (after_notes l s.added) g p.sound (shared-stays (sparing w l (Some g)).frame l (after_notes l s.added) g (same-itself g) p.keeps
+      (shared-by m (after_notes l s.added) g p.sound (shared-stays (is_spared (sparing w l (Some g))) l (after_notes l s.added) g (sparing-pins w l g) p.keeps
       (how_many-found (names_frame g) k l.entries (InFrame g here.seen) at (same-itself g)) (shared-is l g shared)))
 
 module _ (d d' : Device) (old mid new : Mem) (w : World) (r : Rmap) (l : Ledger) (before mids now : List Note) (k : Key) (f g : ℕ)
     (came settled : Bool)
     (h : KeepsBetween d old w r l) (s : HasSought d d' old mid w r l (Some g) before mids Frame) (here : IsHere old k g settled)
     (shared : asks_copy l g ≡ true) (home : Option (ℕ × ℕ)) (home_is : home ≡ home_of k.1 (pages_of old.spaces.processes k.0 k.1))
-    (taken : IsTaken mid new f (λ left. view_seen k.0 k.1 f true (view_copy k.0 k.1 g f true left home (view mid))))
+    (taken : IsTaken mid new f (λ left. view_seen k.0 k.1 f true (view_copied k.0 k.1 g f left home (view mid))))
     (parts : KeepsParts mid new) where
   abbrev note : Note
   note = Copied k.0 (address_of k.1) f
@@ -229,7 +273,7 @@ module _ (d d' : Device) (old mid new : Mem) (w : World) (r : Rmap) (l : Ledger)
   undropped =
       let l3 = after_notes l (s.added ++ note ∷ []) in
       ap (drop_of_entry (setting_by d old) true came l3) there ∙ ap (drop_of_slot (setting_by d old) true came l3)
-      (ap (λ x. slot_of x f) (after_notes-append l s.added (note ∷ [])) ∙ unslotted (after_notes l s.added) f free)
+      (ap (λ x. slot_of x f) (after_notes-append l s.added (note ∷ [])) ∙ copy-slotless k.0 (address_of k.1) f (after_notes l s.added) free)
 
   at_key : (k.0 == k.0 && k.1 == k.1) ≡ true
   at_key = λ i. same-itself k.0 i && same-itself k.1 i
@@ -243,11 +287,11 @@ module _ (d d' : Device) (old mid new : Mem) (w : World) (r : Rmap) (l : Ledger)
       (copy-done-at d' mid new w2 r2 l2 k.0 f g taken.left taken.first here.seen s.done.between
       (copied-shared d d' old mid w r l before mids k g Frame h s settled here shared) parts k.1 at_now
       (s.done.between.serves.at_pages k.0 k.1 (ap is_some at_now))
-      (taken.view ∙ ap (λ x. view_seen k.0 k.1 f true (view_copy k.0 k.1 g f true taken.left x (view mid))) home_now))
+      (taken.view ∙ ap (λ x. view_seen k.0 k.1 f true (view_copied k.0 k.1 g f taken.left x (view mid))) home_now))
       notes refl
       (subst (λ n. IsMade (setting_by d old) (sparing w) l k n (s.added ++ note ∷ []))
       (sym (copy-needs d d' old mid w r l before mids k g Frame h s settled here shared)) takes)
       undropped
       (ap (λ (v : View). v.table k.0 k.1) taken.view
       ∙ ap (λ b. cond b (Some (record { entry = InFrame f true; write = true }))
-      (cond b (Some (record { entry = InFrame f false; write = true })) ((view mid).table k.0 k.1))) at_key)
+      ((view_copied k.0 k.1 g f taken.left home (view mid)).table k.0 k.1)) at_key)

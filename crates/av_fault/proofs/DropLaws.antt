@@ -15,7 +15,7 @@ use Rattle.av_plain.specs.Areas.{Rmap}
 use Rattle.av_plain.specs.Device.{Device}
 use Rattle.av_plain.specs.Event.{Noted, after_note, after_notes, off_cache, when}
 use Rattle.av_plain.specs.Fault.{drop_of_slot, asks_copy, is_unneeded}
-use Rattle.av_plain.specs.Ledger.{Entry, InFrame, InSlot, Ledger, Setting, Zero as ZeroEntry, frame_at, in_flight, is_full, map_count, same_slot, slot_entries, slot_of}
+use Rattle.av_plain.specs.Ledger.{Entry, InFrame, InSlot, Ledger, Setting, Zero as ZeroEntry, frame_at, in_flight, is_full, is_merged, map_count, same_slot, slot_entries, slot_of}
 use Rattle.av_plain.specs.Pass.{fails}
 use Rattle.av_plain.specs.Sound.{IsSound, flights, no_excuse}
 use Rattle.av_plain.specs.Stands.{Pte as Plain, View}
@@ -23,7 +23,7 @@ use Rattle.av_plain.specs.World.{World}
 use Rattle.av_plain.proofs.Load.{without-loads}
 use Rattle.av_plain.proofs.Sound.Changes.{any-counts, drop-sound}
 use Rattle.av_plain.proofs.Sound.Counts.{same-itself}
-use Rattle.av_plain.proofs.Sound.Steps.{settle-cache, settle-entries}
+use Rattle.av_plain.proofs.Sound.Steps.{merged-dropped, settle-cache, settle-entries}
 use Rattle.av_swap_laws.specs.Steps.{view_drop, view_freed, view_given_back, view_uncached}
 use Rattle.av_swap_laws.proofs.Cache.{once-of, slot-frame, slot_of-off}
 use Rattle.av_swap_laws.proofs.From.{cached-in_range, cached-there, unneeded-leaves}
@@ -278,8 +278,12 @@ dropped-alone m l f sound alone = by (slot_of l f) refl
     same : (s : Slot) → map_count (after_note (Dropped s) l) f ≡ map_count l f
     same s = ap (λ es. map_count (record l { entries = es }) f) (settle-entries (frame_at l s) (off_cache s l))
 
+    merged : (s : Slot) → is_merged (after_note (Dropped s) l) f ≡ is_merged l f
+    merged s = any-counts (λ y. f == y) (after_note (Dropped s) l).merged ∙ ap (nat_lt 0) (merged-dropped l s sound.frames_once f)
+        ∙ sym (any-counts (λ y. f == y) l.merged)
+
     at_slot : (s : Slot) → slot_of l f ≡ Some s → (b : Bool) → asks_copy (after_notes l (when b (Dropped s))) f ≡ false
-    at_slot s is true = shared-less l (after_note (Dropped s) l) f (same s) (uncached s is) alone
+    at_slot s is true = shared-less l (after_note (Dropped s) l) f (same s) (uncached s is) (merged s) alone
     at_slot s is false = alone
 
     by : (o : Option Slot) → slot_of l f ≡ o → asks_copy (after_notes l (drop_of_slot m true false l o)) f ≡ false

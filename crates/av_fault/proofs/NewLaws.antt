@@ -17,7 +17,7 @@ use Rattle.av_plain.specs.Device.{Device}
 use Rattle.av_plain.specs.Event.{Noted, Used, after_note, after_notes, after_use}
 use Rattle.av_plain.specs.Fault.{IsMade, NewPage, drop_at, drop_of_entry, drop_of_slot, need, sparing}
 use Rattle.av_plain.specs.Ledger.{Entry, InFrame, InSlot, IsBlank, Key, Ledger, Setting, Zero, entry, is_free, slot_of}
-use Rattle.av_plain.specs.Pass.{TakesFor}
+use Rattle.av_plain.specs.Pass.{TakesFor, is_spared}
 use Rattle.av_plain.specs.Sound.{no_excuse}
 use Rattle.av_plain.specs.Stands.{View, entry_of}
 use Rattle.av_plain.specs.World.{World, pages}
@@ -174,7 +174,7 @@ module _ (d d' : Device) (old mid new : Mem) (w : World) (r : Rmap) (l : Ledger)
 
   blank_now : IsBlank (entry l1 k)
   blank_now = subst IsBlank
-      (sym (entry-sought d d' old mid w r l None before mids Frame h s k (blank-steady (sparing w l None).frame (entry l k) blank))) blank
+      (sym (entry-sought d d' old mid w r l None before mids Frame h s k (blank-steady (is_spared (sparing w l None)) (entry l k) blank))) blank
 
   mapped_now : IsMapped mid k
   mapped_now = mapped-sought d d' old mid w r l None before mids Frame h s k mapped

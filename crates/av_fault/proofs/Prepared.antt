@@ -201,22 +201,22 @@ module _ (d : Device) (old : Mem) (s : State) (keeps : Keeps d old s) (spaces : 
       chain_at q o None e = tt
       chain_at q o (Some A) e = ap (λ (a : Anons). chain_by a A.anon) anons_are ∙ own_chain A q o (areas_prepared q o ∙ e) A.anon refl
 
--- protections stay
-prots_prepared : (len : Lengths) (next page : ℕ) (on : Pages) → AreLaid on → (q : ℕ) →
-    option_map prot_on (after_prepare len next page on q) ≡ option_map prot_on (on q)
-prots_prepared len next page on laid q = by (on page) refl
+-- what an area says of its pages stays, but for its anon_vma
+marks_prepared : {X : Type 0} (mark : Area → X) → ((A : Area) (own : Option ℕ) → mark (record A { anon = own }) ≡ mark A)
+    → (len : Lengths) (next page : ℕ) (on : Pages) → AreLaid on → (q : ℕ) → option_map mark (after_prepare len next page on q) ≡ option_map mark (on q)
+marks_prepared mark same len next page on laid q = by (on page) refl
   where
     over : (A : Area) (own : Option ℕ) → on page ≡ Some A → (b : Bool) → has_page A q ≡ b →
-        option_map prot_on (cond b (Some (record A { anon = own })) (on q)) ≡ option_map prot_on (on q)
-    over A own e true has = ap (option_map prot_on) (sym (laid.all page q A e has))
+        option_map mark (cond b (Some (record A { anon = own })) (on q)) ≡ option_map mark (on q)
+    over A own e true has = ap Some (same A own) ∙ ap (option_map mark) (sym (laid.all page q A e has))
     over A own e false has = refl
 
-    by : (o : Option Area) → on page ≡ o → option_map prot_on (with_anon len next o on q) ≡ option_map prot_on (on q)
+    by : (o : Option Area) → on page ≡ o → option_map mark (with_anon len next o on q) ≡ option_map mark (on q)
     by None e = refl
     by (Some A) e = bare (is_some A.anon)
       where
-        bare : (b : Bool) → option_map prot_on (cond b on (with_area (record A { anon = Some (unwrap_or (loan_beside len on A) next) }) on) q)
-            ≡ option_map prot_on (on q)
+        bare : (b : Bool) → option_map mark (cond b on (with_area (record A { anon = Some (unwrap_or (loan_beside len on A) next) }) on) q)
+            ≡ option_map mark (on q)
         bare true = refl
         bare false = over A (Some (unwrap_or (loan_beside len on A) next)) e (has_page A q) refl
 
@@ -243,15 +243,16 @@ module _ (d : Device) (old : Mem) (w : World) (r : Rmap) (l : Ledger) (h : Keeps
           ∙ sym (ap (λ n. is_some (areas_of old.spaces.processes n)) (number_is q p e) ∙ lives)
       by false e = ap is_some (changed.others q (other_is q p e))
 
-  prots_same : (q o : ℕ) → prot_of (ranges_of spaces.processes q) o ≡ prot_of (ranges_of old.spaces.processes q) o
-  prots_same q o = prots_are spaces.processes q o ∙ by (q == p) refl ∙ sym (prots_are old.spaces.processes q o)
+  marks_same : {X : Type 0} (mark : Area → X) → ((A : Area) (own : Option ℕ) → mark (record A { anon = own }) ≡ mark A) → (q o : ℕ)
+      → option_map mark (areas_on spaces.processes q o) ≡ option_map mark (areas_on old.spaces.processes q o)
+  marks_same mark same q o = by (q == p) refl
     where
-      by : (b : Bool) → (q == p) ≡ b → option_map prot_on (areas_on spaces.processes q o) ≡ option_map prot_on (areas_on old.spaces.processes q o)
-      by true e = ap (λ n. option_map prot_on (areas_on spaces.processes n o)) (number_is q p e) ∙ ap (option_map prot_on) (changed.pages o)
-          ∙ prots_prepared (lengths old.spaces.areas old.anons) old.anons.next page (areas_on old.spaces.processes p)
+      by : (b : Bool) → (q == p) ≡ b → option_map mark (areas_on spaces.processes q o) ≡ option_map mark (areas_on old.spaces.processes q o)
+      by true e = ap (λ n. option_map mark (areas_on spaces.processes n o)) (number_is q p e) ∙ ap (option_map mark) (changed.pages o)
+          ∙ marks_prepared mark same (lengths old.spaces.areas old.anons) old.anons.next page (areas_on old.spaces.processes p)
           (laid old.spaces.processes p changed.were_rising) o
-          ∙ sym (ap (λ n. option_map prot_on (areas_on old.spaces.processes n o)) (number_is q p e))
-      by false e = ap (λ a. option_map prot_on (pages_in a o)) (changed.others q (other_is q p e))
+          ∙ sym (ap (λ n. option_map mark (areas_on old.spaces.processes n o)) (number_is q p e))
+      by false e = ap (λ a. option_map mark (pages_in a o)) (changed.others q (other_is q p e))
 
   -- the page's area has an anon_vma then
   pub prepared-owns : IsSome (areas_on old.spaces.processes p page) → IsSomeAnd ((prepare_page p page r).areas p page) (λ area. IsSome area.anon)
@@ -271,7 +272,9 @@ module _ (d : Device) (old : Mem) (w : World) (r : Rmap) (l : Ledger) (h : Keeps
         alive = λ q. lives_same q ∙ h.serves.areas.alive q;
         number = changed.number ∙ h.serves.areas.number;
         apart = all_apart spaces.processes changed.rising;
-        covers = λ q o. prots_same q o ∙ h.serves.areas.covers q o;
+        covers = λ q o. prots_are spaces.processes q o ∙ marks_same prot_on (λ A own. refl) q o ∙ sym (prots_are old.spaces.processes q o)
+            ∙ h.serves.areas.covers q o;
+        flags = λ q o. marks_same (λ (A : Area). A.flags) (λ A own. refl) q o ∙ h.serves.areas.flags q o;
       };
       are = areas_prepared d old (state_by old w r l) keeps spaces now p page changed made;
       anons = anons_prepared d old (state_by old w r l) keeps spaces now p page changed made new refl refl;
@@ -281,6 +284,7 @@ module _ (d : Device) (old : Mem) (w : World) (r : Rmap) (l : Ledger) (h : Keeps
       areas_fit = h.serves.areas_fit;
       free = h.serves.free;
       lists = h.serves.lists;
+      items = h.serves.items;
       tables = λ q. h.serves.tables q ∙ alive_is old.spaces.processes q ∙ sym (lives_same q) ∙ sym (alive_is spaces.processes q);
       fit = made.fit;
       swap = record {

@@ -45,7 +45,7 @@ module _ (d : Device) (k : Mem) (w : World) (r : Rmap) (l : Ledger) (h : KeepsBe
 module _ (d d' : Device) (old new : Mem) (w : World) (r : Rmap) (l : Ledger) (pinned : Option ℕ) (before now : List Note) where
   -- what the search ends with
   abbrev pub HasEnded : SeekEnd → Type 0
-  HasEnded end = HasAdded (λ m w l added. Seeks m (sparing w l pinned) l added × IsEnd m None pinned end l added) d d' old new w r l before now
+  HasEnded end = HasAdded (λ m w l added. Seeks m (sparing w l pinned) l added × IsEnd m (sparing w l pinned) end l added) d d' old new w r l before now
 
   pub sought-frame : (f : ℕ) → HasEnded (ends.Frame f) → HasSought d d' old new w r l pinned before now Frame
   sought-frame f h = record {

@@ -14,6 +14,7 @@ use Rattle.av_plain.specs.Event.{after_all, after_notes, note_events}
 use Rattle.av_plain.specs.Fault.{sparing}
 use Rattle.av_plain.specs.Ledger.{Key, Ledger, Setting, entry, has_free, is_free}
 use Rattle.av_plain.specs.Load.{with_loads}
+use Rattle.av_plain.specs.Pass.{is_spared}
 use Rattle.av_plain.specs.World.{World}
 use Rattle.av_plain.proofs.Access.{note_events-all}
 use Rattle.av_plain.proofs.Covered.Page.{fit-areas}
@@ -74,11 +75,11 @@ module _ (d d' : Device) (old mid : Mem) (w : World) (r : Rmap) (l : Ledger) (pi
   abbrev pub world_now : World
   world_now = with_loads m w l (note_events s.added)
 
-  pub passed : Passed m (sparing w l pinned).frame l (after_notes l s.added)
+  pub passed : Passed m (is_spared (sparing w l pinned)) l (after_notes l s.added)
   passed = seeks-kept m (sparing w l pinned) l s.added h.sound s.seeks
 
   -- an entry that isn't a frame stays, and so does that of the pinned one
-  pub entry-sought : (k : Key) → is_steady (sparing w l pinned).frame (entry l k) ≡ true → entry ledger_now k ≡ entry l k
+  pub entry-sought : (k : Key) → is_steady (is_spared (sparing w l pinned)) (entry l k) ≡ true → entry ledger_now k ≡ entry l k
   entry-sought k steady = ap (λ x. entry x k) (note_events-all l s.added) ∙ passed.keeps.steady k steady
 
   pub areas-sought : rmap_now.areas ≡ r.areas

@@ -137,7 +137,7 @@ module _ (d d' : Device) (old mid : Mem) (w : World) (r : Rmap) (l : Ledger) (pi
           wants = wants;
           seeks = subst (λ p. Seeks m (sparing w l p) l s.added) (sym pins) s.seeks;
           none = s.finds.0;
-          numbers = subst (λ p. out ≡ out_of m p (sparing w l p) (after_notes l s.added)) (sym pins) s.finds.1;
+          numbers = subst (λ p. out ≡ out_of m (sparing w l p) (after_notes l s.added)) (sym pins) s.finds.1;
         });
         ready = tt;
         done = s.done;

@@ -7,6 +7,7 @@ use Rattle.av_frames.specs.declared.frames.Frames.{Frames}
 use Rattle.av_pagetable.specs.declared.pte.Pte.{Pte}
 use Rattle.av_pagetable.specs.declared.pte.Pte.TheVariants.{Here}
 use Rattle.av_pagetable.specs.Entries.{ProcessTables, entry_at, has, with_entry}
+use Rattle.av_rmap.specs.Items.{shown as shown_items}
 use Rattle.av_spaces.specs.Spaces.{pages_of}
 use Rattle.av_swapcache.specs.Swap.{shown as shown_swap}
 use Rattle.av_vma.specs.Pages.{home_of}
@@ -188,8 +189,9 @@ module _ (m : Setting) (h : Held) (a : Amid m h) (q : Key) (f : ℕ) (seen : Boo
       headers = steps.held.headers;
       covered = steps.held.covered;
       homes = steps.held.homes;
+      items = steps.held.items;
     };
-    areas = λ x. let y = steps.areas x in record { alive = y.alive; number = y.number; apart = y.apart; covers = y.covers };
+    areas = λ x. let y = steps.areas x in record { alive = y.alive; number = y.number; apart = y.apart; covers = y.covers; flags = y.flags };
     chosen = steps.chosen;
   }
 
@@ -238,7 +240,7 @@ pub marked-set : (old : Mem) (tables : ProcessTables) (p page f : ℕ) (e : Pte)
 marked-set old tables p page f e is set processes =
     let new = record old { tables = tables } in
     record {
-      seen = entry_put_in old new p page (Here f true true) (set ∙ ap (λ x. with_entry p page x (entry_at old.tables)) is) refl refl refl refl refl;
+      seen = entry_put_in old new p page (Here f true true) (set ∙ ap (λ x. with_entry p page x (entry_at old.tables)) is) refl refl refl refl refl refl;
       parts = (rest-tables old tables processes).parts;
       there = set-here p page e (entry_at old.tables) (entry_at tables) set ∙ is;
     }
@@ -280,7 +282,8 @@ module _ (old mid : Mem) (q : Key) (f : ℕ) (home : Option (ℕ × ℕ)) (cache
   new = record mid { frames = frames }
 
   seen_now : view new ≡ view_own q.0 q.1 f home (dirtied (view old).dirty) (view old)
-  seen_now = (λ i. view_of_parts (frames_as i) mid.lists (λ p page. plain (entry_at mid.tables p page)) mid.spaces mid.anons (shown_swap mid.swap))
+  seen_now = (λ i. view_of_parts (frames_as i) mid.lists (shown_items mid.items) (λ p page. plain (entry_at mid.tables p page)) mid.spaces mid.anons
+      (shown_swap mid.swap))
       ∙ ap (λ (v : View). record v { homes = with_at f home v.homes; dirty = dirtied v.dirty }) marked.seen
 
   pub written-parts : KeepsParts old new
@@ -289,6 +292,7 @@ module _ (old mid : Mem) (q : Key) (f : ℕ) (home : Option (ℕ × ℕ)) (cache
     processes = p.processes;
     count = ap (λ (x : ShownFrames). x.count) frames_as ∙ p.count;
     lists = p.lists;
+    items = p.items;
     swap = record { frames = p.swap.frames; on = p.swap.on; bad = p.swap.bad; closing = p.swap.closing; priority = p.swap.priority };
   }
 

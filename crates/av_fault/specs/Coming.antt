@@ -27,10 +27,10 @@ use Rattle.av_fault.specs.declared.seek.Got.TheVariants.{Frame, Out}
 abbrev pub Misses : Setting → World → Ledger → Slot → List Note → Stop → Type 0
 Misses m w l s added Bus =
     (frame_at l s ≡ None) × Seeks m (sparing w l None) l added
-    × Finds m None (sparing w l None) (after_notes l added) Frame
+    × Finds m (sparing w l None) (after_notes l added) Frame
 Misses m w l s added (Oom out) =
     (frame_at l s ≡ None) × Seeks m (sparing w l None) l added
-    × Finds m None (sparing w l None) (after_notes l added) (Out out)
+    × Finds m (sparing w l None) (after_notes l added) (Out out)
 Misses m w l s added Segv = ⊥
 
 -- the slot's page is in a frame with these notes

@@ -60,8 +60,8 @@ failed_by (Stopped (Oom out)) = out.fault
 abbrev pub touch_events : Bool → Key → List Note → Touched → List Event
 touch_events write k added touched = page_events write k added (end_of touched)
 
--- the page's entry is this frame, or zeros; nothing else names a frame that is to be written, nor
--- the slot at which it is cached
+-- the page's entry is this frame, or zeros; a write to a frame that is to be written asks for no
+-- copy
 abbrev pub IsReady : Bool → Ledger → Key → Touched → Type 0
 IsReady write l k (Ready f) =
     (entry l k ≡ Some (InFrame f true)) × (write ≡ true → asks_copy l f ≡ false)

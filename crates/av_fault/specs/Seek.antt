@@ -16,9 +16,9 @@ use Rattle.av_fault.specs.declared.seek.Got.{Got}
 use Rattle.av_fault.specs.declared.seek.Got.TheVariants.{Frame, Out}
 
 -- a frame is free, or none is, and these are the numbers of an out-of-memory
-abbrev pub Finds : Setting → Option ℕ → Spared → Ledger → Got → Type 0
-Finds m pinned spared l Frame = IsTrue (has_free m l)
-Finds m pinned spared l (Out out) = (has_free m l ≡ false) × (out ≡ out_of m pinned spared l)
+abbrev pub Finds : Setting → Spared → Ledger → Got → Type 0
+Finds m spared l Frame = IsTrue (has_free m l)
+Finds m spared l (Out out) = (has_free m l ≡ false) × (out ≡ out_of m spared l)
 
 -- how many frames these numbers call cached
 abbrev pub failed_of : Got → ℕ
@@ -34,4 +34,4 @@ pub record HasSought (d d' : Device) (old new : Mem) (w : World) (r : Rmap) (l :
   pub done : HasDone d d' old new w r l (note_events added)
   pub failures : RoseBy (fails added) d.failures d'.failures
   pub failed : failed_of got ≤ fails added
-  pub finds : Finds (setting_by d old) pinned (sparing w l pinned) (after_notes l added) got
+  pub finds : Finds (setting_by d old) (sparing w l pinned) (after_notes l added) got

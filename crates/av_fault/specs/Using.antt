@@ -4,6 +4,7 @@ use Rattle.std.specs.Prelude.{None, is_some}
 use Rattle.av_base.specs.declared.slot.Slot.{Slot}
 use Rattle.av_pagetable.specs.Entries.{entry_at}
 use Rattle.av_pagetable.specs.declared.pte.Pte.TheVariants.{Here}
+use Rattle.av_rmap.specs.Items.{is_merged}
 use Rattle.av_trace.specs.declared.note.Note.{Note}
 use Rattle.av_plain.specs.Areas.{Rmap}
 use Rattle.av_plain.specs.Device.{Device}
@@ -28,9 +29,11 @@ abbrev pub is_named_in : View → Option Slot → Bool
 is_named_in v None = false
 is_named_in v (Some s) = nat_lt 0 (v.entries s)
 
--- another entry names the frame, or an entry names its slot
+-- a write to the frame has to copy it: another entry names it, or an entry names its slot, or it is
+-- merged
 abbrev pub asks_copy_in : View → ℕ → Bool
-asks_copy_in v f = nat_lt 1 (v.maps f) || is_named_in v (v.slot f)
+asks_copy_in v f =
+    nat_lt 1 (v.maps f) || is_named_in v (v.slot f) || is_merged (v.items f)
 
 -- the slot of the frame was dropped, if it has one that a write needs no more; whether it has one
 -- still

@@ -137,7 +137,7 @@ fn touch_to_read<D: SwapDev>(
 }
 
 /// Makes a page ready that may be written: a frame of zeros, or the frame that it has or that its
-/// slot has, or a copy of that where others have it too.
+/// slot has, or a copy of that where others have it too, or it is merged.
 fn touch_to_write<D: SwapDev>(
     mem: &mut Mem,
     dev: &mut D,

@@ -76,7 +76,7 @@ pub(crate) fn make_new<D: SwapDev>(
     Ok(Touched::Ready(frame))
 }
 
-/// Gives a page a copy of its frame, which another entry names, or its slot.
+/// Gives a page a copy of its frame, which another entry names, or its slot, or which is merged.
 pub(crate) fn make_copy<D: SwapDev>(
     mem: &mut Mem,
     dev: &mut D,

@@ -11,7 +11,7 @@ ghost use Rattle.av_plain.specs.Ledger.{Ledger, slot_of};
 ghost use Rattle.av_plain.specs.World.{World};
 ghost use Rattle.av_spaces.specs.Spaces.{pages_of};
 ghost use Rattle.av_vma.specs.Pages.{home_of};
-ghost use Rattle.av_mem.specs.Mem.{frame_count, view};
+ghost use Rattle.av_mem.specs.Mem.{HasItems, frame_count, view};
 ghost use Rattle.av_mem.specs.Steps.{KeepsParts};
 ghost use Rattle.av_mem.specs.Between.{Does, HasBetween, HasDone, IsBetween, KeepsBetween};
 ghost use Rattle.av_fault.specs.Making.{HasMade};
@@ -60,7 +60,7 @@ pub(crate) fn read_in(
 }
 
 /// Makes a page ready that may be written and has this frame: a copy where others have the frame or
-/// its slot, else its own, whose slot is dropped where it is needed no more. What it has is at home
+/// its slot or it is merged, else its own, whose slot is dropped where it is needed no more. What it has is at home
 /// there then. Where the entry is settled, it is marked as written already.
 pub(crate) fn write_frame<D: SwapDev>(
     mem: &mut Mem,
@@ -91,18 +91,21 @@ pub(crate) fn write_frame<D: SwapDev>(
     Ok(Touched::Ready(frame))
 }
 
-/// Whether another entry names the frame, or an entry names the slot at which it is cached.
+/// Whether a write to the frame has to copy it: another entry names it, or an entry names the slot
+/// at which it is cached, or it is merged.
 fn asks_copy(mem: &Mem, frame: u32) -> bool
-    requires { frame < frame_count mem.now }
+    requires itemed { HasItems mem.now }
+    requires in_range { frame < frame_count mem.now }
     ensures { result ≡ asks_copy_in (view mem.now) frame }
 {
     if mem.frames.maps(frame) > 1 {
         return true;
     }
-    match mem.frames.slot(frame) {
+    let named = match mem.frames.slot(frame) {
         Some(slot) => mem.swap.entries(slot) > 0,
         None => false,
-    }
+    };
+    named || mem.is_merged(frame)
 }
 
 /// Drops the slot at which a frame is cached where no entry names the slot and it isn't in flight.

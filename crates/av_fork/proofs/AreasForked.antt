@@ -20,10 +20,10 @@ use Rattle.av_spaces.specs.Spaces.{AllSpaces, IsSpawned, Spaces, areas_of, pages
 use Rattle.av_spaces.proofs.ForkKept.{owned_there}
 use Rattle.av_spaces.proofs.ForkLaws.{areas_in_child-more, kin_after-more}
 use Rattle.av_spaces.proofs.Kin.{stay_same}
-use Rattle.av_plain.specs.Areas.{Rmap, chain_by, none_on}
+use Rattle.av_plain.specs.Areas.{Items, Rmap, chain_by, none_on}
 use Rattle.av_plain.specs.Fork.{AreForked, GoOver, GoesBy, with_child_area}
 use Rattle.av_plain.specs.Device.{Device}
-use Rattle.av_plain.specs.Ledger.{Ledger}
+use Rattle.av_plain.specs.Ledger.{Ledger, is_merged}
 use Rattle.av_plain.specs.Report.{AreApart, range_of}
 use Rattle.av_plain.specs.Stands.{AnonsStand, kin_of}
 use Rattle.av_plain.specs.Transcript.{State, rmap_of}
@@ -37,6 +37,18 @@ use Rattle.av_frames.specs.Store.{shown}
 use Rattle.av_fork.specs.Areas.{HasFork}
 use Rattle.av_fork.proofs.AreasReused.{Shows, chain_in}
 use Rattle.av_fork.proofs.AreasStep.{GoesOn, goes_on}
+
+-- ---- items
+
+-- areas that go over leave all items
+goes_items : (q : ℕ) (area : Area) (own : Option ℕ) (r next : Rmap) → GoesBy own q area r next → next.items ≡ r.items
+goes_items q area None r next goes = ap (λ (x : Rmap). x.items) goes
+goes_items q area (Some own) r next goes = ap (λ (x : Rmap). x.items) goes.2
+
+over_items : (q : ℕ) (areas : List Area) (r next : Rmap) → GoOver q areas r next → next.items ≡ r.items
+over_items q [] r next goes = ap (λ (x : Rmap). x.items) goes
+over_items q (area ∷ areas) r next (mid, first, later) =
+    over_items q areas mid next later ∙ goes_items q area (own_to_fork area) r mid first
 
 -- ---- areas that are apart
 
@@ -284,14 +296,16 @@ module _ (d : Device) (old : Mem) (s : State) (keeps : Keeps d old s) (parent ch
             own (Some v) e = shown_chain new.spaces new.anons v (owned_there new.spaces new.anons f.fit v
                 (p, page, subst (λ o. IsSomeAnd o (λ area. area.anon ≡ Some v)) (sym (shows.areas p page ∙ is)) e))
 
-    pub has_fork : new.frames ≡ old.frames → HasFork old new parent child s
-    has_fork same_frames = record {
+    pub has_fork : new.frames ≡ old.frames → new.items ≡ old.items → HasFork old new parent child s
+    has_fork same_frames same_items = record {
       next = next;
       forked = forked;
       areas = shows.areas;
       anons = anons_stand;
       homes = λ g. ap (λ frames. (shown frames).home g) same_frames ∙ keeps.stands.homes g
           ∙ sym (ap (λ homes. homes g) (child-has parent child (rmap_of s) next forked).homes);
+      items = λ g. ap (λ items. (view (record old { items = items })).items g) same_items ∙ keeps.stands.items g
+          ∙ ap (λ (items : Items). cond (is_merged s.ledger g) (items g) []) (sym (over_items child going first next all_reach.goes));
       fit = f.fit;
       these = areas_in_child child going k;
       spawned = f.spawned;
@@ -301,9 +315,11 @@ module _ (d : Device) (old : Mem) (s : State) (keeps : Keeps d old s) (parent ch
 pub has_fork_by : (d : Device) (old new : Mem) (s : State) (keeps : Keeps d old s) (parent child : ℕ) (areas : Option (List Area))
     → areas_of old.spaces.processes parent ≡ areas
     → areas_of old.spaces.processes child ≡ None → IsSomeAnd areas (λ areas. IsForked old.spaces old.anons new.spaces new.anons child (areas_to_fork areas))
-    → IsSomeAnd areas (λ areas. GoInTurn old.spaces old.anons child (areas_to_fork areas)) → new.frames ≡ old.frames → HasFork old new parent child s
-has_fork_by d old new s keeps parent child None there dead f turn same = absurd f
-has_fork_by d old new s keeps parent child (Some areas) there dead f turn same = has_fork d old s keeps parent child areas there dead turn new f same
+    → IsSomeAnd areas (λ areas. GoInTurn old.spaces old.anons child (areas_to_fork areas)) → new.frames ≡ old.frames → new.items ≡ old.items
+    → HasFork old new parent child s
+has_fork_by d old new s keeps parent child None there dead f turn same items = absurd f
+has_fork_by d old new s keeps parent child (Some areas) there dead f turn same items =
+    has_fork d old s keeps parent child areas there dead turn new f same items
 
 -- ---- the ledger
 

@@ -8,7 +8,7 @@ use Rattle.av_pagetable.specs.declared.pte.Pte.TheVariants.{Empty}
 use Rattle.av_vma.specs.Index.{first_of, past_of}
 use Rattle.av_vma.specs.Pages.{AreLaid}
 use Rattle.av_vma.specs.declared.area.Area.{Area}
-use Rattle.av_fork.specs.Entries.{goes_with_entry, left_in, without_range}
+use Rattle.av_fork.specs.Entries.{entry_goes_over, left_in, without_range}
 
 equal : (a b : ℕ) → (a == b) ≡ true → a ≡ b
 equal a b h = grind (arith, nat_tests, h)
@@ -100,8 +100,8 @@ module _ (on : ℕ → Option Area) (laid : AreLaid on) (page : ℕ) (area : Are
       below : (first past : ℕ) → within first (past - first) page ≡ true → page < past
       below first past h = grind (arith, nat_tests, h)
 
-  pub run-alike : (other : ℕ) → page ≤ other → other < past_of area → goes_with_entry (on other) ≡ goes_with_entry (Some area)
-  run-alike other low high = ap goes_with_entry (laid.all page other area at (inside (first_of area) (past_of area) (laid.here page area at) high))
+  pub run-alike : (other : ℕ) → page ≤ other → other < past_of area → entry_goes_over (on other) ≡ entry_goes_over (Some area)
+  run-alike other low high = ap entry_goes_over (laid.all page other area at (inside (first_of area) (past_of area) (laid.here page area at) high))
     where
       inside : (first past : ℕ) → within first (past - first) page ≡ true → other < past → within first (past - first) other ≡ true
       inside first past h high = grind (arith, nat_tests, h, low, high)
@@ -170,12 +170,12 @@ module _ (areas : ℕ → Option Area) (p next : ℕ) (old now : ℕ → ℕ →
         at : (o : ℕ) (x y z : Bool) → nat_lt o next ≡ x → within page (past - page) o ≡ y → nat_lt o past ≡ z
             → new p o ≡ cond z (left_in areas (old p) o) (old p o)
         at o x true z i j k = inside o (from_page o j) (to_past o j)
-            ∙ ap (λ e. cond (goes_with_entry (areas o)) e Empty) (left-here o false (not_before o j))
+            ∙ ap (λ e. cond (entry_goes_over (areas o)) e Empty) (left-here o false (not_before o j))
             ∙ ap (λ b. cond b (left_in areas (old p) o) (old p o)) (sym (within_past o j) ∙ k)
         at o true false z i j k = outside o j ∙ left-here o true i ∙ ap (λ b. cond b (left_in areas (old p) o) (old p o)) (sym (below_both o i) ∙ k)
         at o false false true i j k =
             let empty = none o (from_next o i) (to_page o j k) in
-            outside o j ∙ left-here o false i ∙ nothing (goes_with_entry (areas o)) (old p o) (sym (left-here o false i) ∙ empty)
+            outside o j ∙ left-here o false i ∙ nothing (entry_goes_over (areas o)) (old p o) (sym (left-here o false i) ∙ empty)
         at o false false false i j k = outside o j ∙ left-here o false i
 
         by : (q o : ℕ) (a : Bool) → (q == p) ≡ a
@@ -185,13 +185,13 @@ module _ (areas : ℕ → Option Area) (p next : ℕ) (old now : ℕ → ℕ →
 
   -- where all of these go over nothing is done
   pub left-over : (page past : ℕ) → next ≤ page → page < past → ((o : ℕ) → next ≤ o → o < page → now p o ≡ Empty)
-      → ((o : ℕ) → page ≤ o → o < past → goes_with_entry (areas o) ≡ true) → now ≡ left_below areas p past old
+      → ((o : ℕ) → page ≤ o → o < past → entry_goes_over (areas o) ≡ true) → now ≡ left_below areas p past old
   left-over page past up some none over = left-further page past up some none now
       (λ o low high. sym (ap (λ b. cond b (now p o) Empty) (over o low high))) (λ o out. refl) (λ q o e. refl)
 
   -- and where none does, they are taken out
   pub left-out : (page past : ℕ) → next ≤ page → page < past → ((o : ℕ) → next ≤ o → o < page → now p o ≡ Empty)
-      → ((o : ℕ) → page ≤ o → o < past → goes_with_entry (areas o) ≡ false) → ranged p page past now ≡ left_below areas p past old
+      → ((o : ℕ) → page ≤ o → o < past → entry_goes_over (areas o) ≡ false) → ranged p page past now ≡ left_below areas p past old
   left-out page past up some none out = left-further page past up some none (ranged p page past now)
       (λ o low high. own o ∙ ap (λ b. cond b Empty (now p o)) (in_it o low high) ∙ sym (ap (λ b. cond b (now p o) Empty) (out o low high)))
       (λ o outside. own o ∙ ap (λ b. cond b Empty (now p o)) outside)
@@ -215,7 +215,7 @@ module _ (areas : ℕ → Option Area) (p next : ℕ) (old now : ℕ → ℕ →
 
       at : (o : ℕ) (x : Bool) → nat_lt o next ≡ x → now p o ≡ left_in areas (old p) o
       at o true i = left-here o true i
-      at o false i = left-here o false i ∙ nothing (goes_with_entry (areas o)) (old p o) (sym (left-here o false i) ∙ none o (from_next o i))
+      at o false i = left-here o false i ∙ nothing (entry_goes_over (areas o)) (old p o) (sym (left-here o false i) ∙ none o (from_next o i))
 
       by : (q o : ℕ) (a : Bool) → (q == p) ≡ a → now q o ≡ cond {A = ℕ → Pte} a (left_in areas (old p)) (old q) o
       by q o true e = ap (λ q. now q o) (equal q p e) ∙ at o (nat_lt o next) refl

@@ -1,5 +1,5 @@
 -- What the memory system is seen as while the entries of a process go over to a child: the tables change first, and then the counts, group by group.
-use Rattle.std.proofs.Common.{◌≡◌, ℕ, ◌+◌, ◌-◌, ◌*◌, ◌/◌, ◌<◌, ◌≤◌, Bool, true, false, cond, not, ◌&&◌, ◌==◌, List, length, Option, Some, None, option_map, refl, sym, ap, subst, ◌∙◌, arith}
+use Rattle.std.proofs.Common.{◌≡◌, ℕ, ◌+◌, ◌-◌, ◌*◌, ◌/◌, ◌<◌, ◌≤◌, Bool, true, false, cond, not, ◌&&◌, ◌==◌, List, [], length, Option, Some, None, option_map, refl, sym, ap, subst, ◌∙◌, arith}
 use Rattle.std.proofs.lemmas.Bool.Decides.{nat_tests}
 use Rattle.std.proofs.lemmas.Bool.{false≢true}
 use Rattle.av_base.specs.Limits.{most_processes, top_page}
@@ -16,6 +16,7 @@ use Rattle.av_plain.specs.Fork.{goes_over, inheritance}
 use Rattle.av_plain.specs.Ledger.{Entry, InFrame, InSlot, Ledger, entry, map_count, names_frame, names_slot, slot_entries}
 use Rattle.av_plain.specs.Stands.{LedgerStands, View, entry_of, free_of}
 use Rattle.av_plain.specs.World.{Page, Process}
+use Rattle.av_plain.proofs.Covered.Fork.{merged-forked_ledger}
 use Rattle.av_plain.proofs.Fork.{child_ledger, handed, inherited-goes, not-inherited}
 use Rattle.av_plain.proofs.Ledger.{how_many-found}
 use Rattle.av_plain.proofs.Ledger.NoSwap.{itself}
@@ -33,7 +34,7 @@ use Rattle.av_mem.specs.Steps.{KeepsParts}
 use Rattle.av_mem.proofs.EntryCounts.{by-counts, in-use-then, no_more}
 use Rattle.av_mem.proofs.Groups.{IsGroupFrom, group_from}
 use Rattle.av_mem.proofs.LetGoLaws.{ledger-same}
-use Rattle.av_fork.specs.Entries.{FlagsAre, HasForkedEntries, goes_with_entry, left_in}
+use Rattle.av_fork.specs.Entries.{FlagsAre, HasForkedEntries, entry_goes_over, left_in}
 use Rattle.av_fork.proofs.EntriesCounts.{tally-group, tally-on}
 use Rattle.av_fork.proofs.EntriesLedger.{forked-stands, handed_pte, more, more-few}
 
@@ -111,13 +112,13 @@ module _ (areas : ℕ → Option Area) (p q : ℕ) (old : ℕ → ℕ → Pte) (
       by : (b : Bool) → (p == q) ≡ b → cond b (left_in areas (protect_tables p q old q)) (protect_tables p q old p) o ≡ read_only (old p o)
       by true h =
           let gone = none-both o (equal p q h) in
-          ap (λ e. cond (goes_with_entry (areas o)) e Empty) (protected-child o ∙ ap child_entry gone) ∙ none (goes_with_entry (areas o))
+          ap (λ e. cond (entry_goes_over (areas o)) e Empty) (protected-child o ∙ ap child_entry gone) ∙ none (entry_goes_over (areas o))
           ∙ sym (ap read_only gone)
       by false h = protected-parent o
 
   pub forked-child : (o : ℕ) → fork_tables areas p q old q o ≡ handed_entry areas (old p) o
   forked-child o = ap (λ b. cond b (left_in areas (protect_tables p q old q)) (protect_tables p q old q) o) (is_same q)
-      ∙ ap (λ e. cond (goes_with_entry (areas o)) e Empty) (protected-child o)
+      ∙ ap (λ e. cond (entry_goes_over (areas o)) e Empty) (protected-child o)
 
   forked-other : (x o : ℕ) → (x == p) ≡ false → (x == q) ≡ false → fork_tables areas p q old x o ≡ old x o
   forked-other x o i j = ap (λ b. cond b (left_in areas (protect_tables p q old q)) (protect_tables p q old x) o) j
@@ -131,7 +132,7 @@ abbrev pub areas_on : Mem → ℕ → ℕ → Option Area
 areas_on k p = pages_of k.spaces.processes p
 
 abbrev pub goes_on : Mem → ℕ → ℕ → Bool
-goes_on k p o = goes_with_entry (areas_on k p o)
+goes_on k p o = entry_goes_over (areas_on k p o)
 
 -- what is seen then: all entries have gone over, and those below a page are counted
 abbrev pub fork_view : Mem → ℕ → ℕ → ℕ → View
@@ -260,7 +261,7 @@ module _ (old : Mem) (p q : ℕ) where
         goes-over o = by (areas_on old p o) (pages o) (flags o)
           where
             by : (a : Option Area) (x : Option Page) → option_map (λ (area : Area). area.flags) a ≡ option_map (λ (q : Page). q.flags) x
-                → goes_with_entry a ≡ goes_over x
+                → entry_goes_over a ≡ goes_over x
             by None None e = refl
             by None (Some x) e = cc
             by (Some a) None e = cc
@@ -304,4 +305,6 @@ module _ (old : Mem) (p q : ℕ) where
             swap = h.swap;
           });
           free = fork-chosen (setting_by d old) None l p q over (view old) (view now) h.sound.in_order unnamed (ap free_of is);
+          items = λ items are f. ap (λ (v : View). v.items f) is ∙ are f
+              ∙ ap (λ b. cond b (items f) []) (sym (merged-forked_ledger p q over l f));
         }

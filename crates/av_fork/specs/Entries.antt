@@ -9,7 +9,8 @@ use Rattle.av_plain.specs.Fork.{inheritance}
 use Rattle.av_plain.specs.Ledger.{Ledger}
 use Rattle.av_pagetable.specs.declared.pte.Pte.{Pte}
 use Rattle.av_pagetable.specs.declared.pte.Pte.TheVariants.{Empty}
-use Rattle.av_plain.specs.Stands.{View, free_of}
+use Rattle.av_plain.specs.Areas.{Items}
+use Rattle.av_plain.specs.Stands.{ItemsAre, View, free_of}
 use Rattle.av_plain.specs.World.{Page, Process}
 use Rattle.av_vma.specs.Pages.{pages_in}
 use Rattle.av_vma.specs.declared.area.Area.{Area}
@@ -23,22 +24,24 @@ FlagsAre v p pages = (page : ℕ)
     ≡ option_map (λ (q : Page). q.flags) (pages page)
 
 -- whether the entry of a page goes over, by the page's area: it isn't left out, and isn't wiped
-abbrev pub goes_with_entry : Option Area → Bool
-goes_with_entry None = false
-goes_with_entry (Some area) = not area.flags.dont_fork && not area.flags.wipe_on_fork
+abbrev pub entry_goes_over : Option Area → Bool
+entry_goes_over None = false
+entry_goes_over (Some area) = not area.flags.dont_fork && not area.flags.wipe_on_fork
 
 -- the entries of a process without those that don't go over
 abbrev pub left_in : (ℕ → Option Area) → (ℕ → Pte) → ℕ → Pte
-left_in areas table page = if goes_with_entry (areas page) then table page else Empty
+left_in areas table page = if entry_goes_over (areas page) then table page else Empty
 
 -- or without those of a range of pages
 abbrev pub without_range : ℕ → ℕ → (ℕ → Pte) → ℕ → Pte
 without_range from past table page = if within from (past - from) page then Empty else table page
 
--- the child has inherited each entry of the parent whose page goes over and isn't wiped: nothing is
--- taken, and nothing becomes free. A frame that is merged gets entries, and no item
+-- the child has inherited each entry of the parent that goes over: nothing is taken, nothing becomes
+-- free, and the items stay, so a merged frame gets entries and no item
 pub record HasForkedEntries (d : Device) (old new : Mem) (pages : Process) (l : Ledger) (p q : ℕ)
     : Type 0 where
   pub stands : HasLedger d new (after l (Forked p q (inheritance pages l p)))
   pub free : Chooses (setting_by d old) None l (Forked p q (inheritance pages l p))
       (free_of (view old)) (free_of (view new))
+  pub items : (items : Items) → ItemsAre (view old) l items
+      → ItemsAre (view new) (after l (Forked p q (inheritance pages l p))) items

@@ -4,7 +4,7 @@ ghost use Rattle.std.specs.Prelude.{◌≡◌, ℕ, ◌*◌, ◌<◌, ◌≤◌,
 ghost use Rattle.av_base.specs.Limits.{most_processes, top_page};
 ghost use Rattle.av_base.specs.Words.{with_at};
 ghost use Rattle.av_base.specs.declared.slot.Slot.{Slot};
-ghost use Rattle.av_fork.specs.Entries.{goes_with_entry, left_in, without_range, FlagsAre};
+ghost use Rattle.av_fork.specs.Entries.{entry_goes_over, left_in, without_range, FlagsAre};
 ghost use Rattle.av_fork.specs.Entries.{HasForkedEntries};
 ghost use Rattle.av_pagetable.specs.Entries.{entry_at, has};
 ghost use Rattle.av_pagetable.specs.Table.{page_bound};
@@ -24,9 +24,9 @@ use av_pagetable::{GROUP, Pte};
 use av_spaces::Spaces;
 use std::alloc::{AllocError, Global};
 
-/// Gives a process with an empty table each entry of another one whose page goes over and isn't
-/// wiped: not seen, and written in place by neither. Without memory nothing is promised of entries
-/// and counts.
+/// Gives a process with an empty table each entry of another one that goes over, by the flags of
+/// its page: not seen, and written in place by neither. Without memory nothing is promised of
+/// entries and counts.
 pub fn fork_entries(mem: &mut Mem, alloc: Global, parent: u16, child: u16) -> Result<(), AllocError>
     requires orderly { IsOrderly mem.old }
     requires few { (f : ℕ) → (view mem.old).maps f ≤ most_processes * top_page }
@@ -53,9 +53,9 @@ pub fn fork_entries(mem: &mut Mem, alloc: Global, parent: u16, child: u16) -> Re
     Ok(())
 }
 
-/// Takes the entries out of a child's table whose pages don't go over from its parent, or are
-/// wiped. They aren't counted yet.
-// It goes by the areas that have entries, so it asks for one or two of most processes.
+/// Takes the entries out of a child's table that don't go over from its parent. They aren't counted
+/// yet.
+// It looks up each area that has entries once, and takes no memory.
 fn leave_out(mem: &mut Mem, parent: u16, child: u16)
     ensures left { entry_at mem.new.tables ≡ with_at child
         (left_in (pages_of mem.old.spaces.processes parent) (entry_at mem.old.tables child))
@@ -74,20 +74,20 @@ fn leave_out(mem: &mut Mem, parent: u16, child: u16)
     }
 }
 
-/// Whether the entry of a page goes over to a child, and up to which page all of the process do as
-/// it does.
+/// Whether the entry of a page goes over to a child, and before which page all of the process's do
+/// as it does.
 fn run_from(spaces: &Spaces, process: u16, page: u64) -> (bool, u64)
     requires below { page < page_bound }
     ensures further { page < result.1 }
     ensures alike { (other : ℕ) → page ≤ other → other < result.1
-        → goes_with_entry (pages_of spaces.now.processes process other) ≡ result.0 }
+        → entry_goes_over (pages_of spaces.now.processes process other) ≡ result.0 }
 {
     match spaces.area(process, page) {
         Some(area) => {
             let goes = !area.flags.dont_fork && !area.flags.wipe_on_fork;
             (goes, area.end / PAGE_SIZE)
         }
-        // No entry is on such a page, and none would go over.
+        // A page that isn't mapped has no entry.
         None => (false, page + 1),
     }
 }

@@ -1,13 +1,15 @@
 //! Fork: what a child gets of its parent's areas, and of its parent's entries.
 //!
-//! `fork_areas` lets a child live with the areas of its parent. Proved for every state that the
-//! memory system stands for: it has the areas, anon_vmas and homes then that the definitions leave
-//! after a fork.
+//! `fork_areas` lets a child live with those areas of its parent that aren't left out. Proved for
+//! every state that the memory system stands for: it has the areas, anon_vmas, homes and items then
+//! that the definitions leave after a fork.
 //!
-//! `fork_entries` gives a process each entry of another one: the parent's page table is copied
-//! whole, and then the frames and slots that the copy names are counted, 64 pages at a time, by
-//! `count_each_for_child` of av_mem. Proved for every ledger that the memory system's parts stand
-//! for: they stand for it after the event of the fork, and what is free is as it was.
+//! `fork_entries` gives a process each entry of another one that goes over, that is, of each page
+//! that is neither left out nor wiped: the parent's page table is copied whole, the copy loses the
+//! entries that don't go over, area by area, and then the frames and slots that it names are
+//! counted, 64 pages at a time, by `count_each_for_child` of av_mem. Proved for every ledger that
+//! the memory system's parts stand for: they stand for it after the event of the fork, what is free
+//! is as it was, and no frame gets or loses an item.
 #![tactic(auto)]
 
 mod areas;

@@ -7,6 +7,7 @@ use Rattle.std.specs.Ordering.{nat_cmp, is_eq, is_lt}
 use Rattle.std.specs.FinMap.Entries.{is_sorted, below_all, find}
 use Rattle.av_base.specs.Limits.{most_processes}
 use Rattle.av_base.specs.Words.{with_at}
+use Rattle.av_base.specs.declared.flags.Flags.{Flags}
 use Rattle.av_trace.specs.declared.command.Command.TheVariants.{Spawn, Exit}
 use Rattle.av_vma.specs.declared.area.Area.{Area}
 use Rattle.av_trace.specs.declared.reply.Errno.{Errno}
@@ -72,6 +73,10 @@ ranges_ended old new p h q = ap (option_map (map range_of)) (h.areas q) ∙ by (
     by true = refl
     by false = refl
 
+-- the flags of a page of a process that may not live
+abbrev pub flags_at : Option (List Area) → ℕ → Option Flags
+flags_at areas page = option_map (λ (area : Area). area.flags) (pages_in areas page)
+
 -- ---- one more process
 
 -- the tests of a process that is to live, by the memories
@@ -125,7 +130,12 @@ module _ {d : Device} (old : Mem) (tables : ProcessTables) (spaces : AllSpaces) 
     world = world_as (setting_by d old) s.world s.ledger [] (Spawn p) Done refl;
     ledger = refl;
     free = keeps.stands.free;
-    rmap = record { areas = refl; anons = are_left d old s keeps spaces old.anons stay (with_at p none_on s.areas) spawn-on; homes = refl };
+    rmap = record {
+      areas = refl;
+      anons = are_left d old s keeps spaces old.anons stay (with_at p none_on s.areas) spawn-on;
+      homes = refl;
+      items = refl;
+    };
     shows = tt;
   }
 
@@ -146,12 +156,20 @@ module _ {d : Device} (old : Mem) (tables : ProcessTables) (spaces : AllSpaces) 
     covers = λ q page. ap (λ o. prot_of o page) (ranges_spawned old.spaces.processes spaces.processes p spawned q) ∙ by q page (q == p)
         ∙ sym (ap (option_map (λ (x : Page). x.prot))
         (pages-set s.world p no_pages q page ∙ ap (λ b. cond b None (pages s.world q page)) (at_number q p)));
+    flags = λ q page. ap (λ o. flags_at o page) (spawned.areas q) ∙ flags_by q page (q == p)
+        ∙ sym (ap (option_map (λ (x : Page). x.flags))
+        (pages-set s.world p no_pages q page ∙ ap (λ b. cond b None (pages s.world q page)) (at_number q p)));
   }
     where
       by : (q page : ℕ) (b : Bool) → prot_of (cond b (Some []) (ranges_of old.spaces.processes q)) page ≡ option_map (λ (x : Page). x.prot)
           (cond b None (pages s.world q page))
       by q page true = refl
       by q page false = keeps.stands.parts.areas.covers q page
+
+      flags_by : (q page : ℕ) (b : Bool) → flags_at (cond b (Some []) (areas_of old.spaces.processes q)) page ≡ option_map (λ (x : Page). x.flags)
+          (cond b None (pages s.world q page))
+      flags_by q page true = refl
+      flags_by q page false = keeps.stands.parts.areas.flags q page
 
   spawn-tables : HasTables (moved_on old tables spaces old.anons)
   spawn-tables q = ap (λ (h : ℕ → Bool). h q) processes ∙ by (q == p)
@@ -169,7 +187,7 @@ module _ {d : Device} (old : Mem) (tables : ProcessTables) (spaces : AllSpaces) 
   spawned-steps = changed old (moved_on old tables spaces old.anons) s (Spawn p) (answer_only Done) p no_pages none_on s.ledger keeps stay refl
       (swap_alike old old old (moved_on old tables spaces old.anons) refl refl (swap_itself old))
       (stays_orderly d old tables spaces old.anons s.ledger entries (orderly old s keeps))
-      refl refl
+      refl refl keeps.stands.items
       (λ q page other. refl) (cached-itself s.ledger) (λ page. kept-nothing d (view old) s.ledger (entry s.ledger (p, page))) (reach_of old s keeps)
       (λ page home there is. absurd (no_entry page there)) spawn-step spawn-on spawn-areas spawn-tables
 
@@ -240,6 +258,7 @@ module _ {d : Device} (old mid : Mem) (tables : ProcessTables) (spaces : AllSpac
     areas = with_at p none_on s.areas;
     anons = left_of anons s.anons;
     homes = s.homes;
+    items = s.items;
   }
 
   abbrev reply : Reply
@@ -271,7 +290,7 @@ module _ {d : Device} (old mid : Mem) (tables : ProcessTables) (spaces : AllSpac
     free = subst (λ free. ChoosesAll (setting_by d old) None s.ledger events free (free_of (view mid))) keeps.stands.free taken.free;
     rmap = subst (λ r. AreNext r s.world (Exit p) Done (rmap_of next))
         (sym (rmap_after_all-zaps s.ledger (keys_of_process s.ledger p) s.ledger (rmap_of s)))
-        (record { areas = refl; anons = are_left d old s keeps spaces anons stay (with_at p none_on s.areas) exit-on; homes = refl });
+        (record { areas = refl; anons = are_left d old s keeps spaces anons stay (with_at p none_on s.areas) exit-on; homes = refl; items = refl });
     shows = tt;
   }
 
@@ -310,6 +329,8 @@ module _ {d : Device} (old mid : Mem) (tables : ProcessTables) (spaces : AllSpac
     apart = all_apart spaces.processes ended.rising;
     covers = λ q page. ap (λ o. prot_of o page) (ranges_ended mid.spaces.processes spaces.processes p ended q) ∙ covered q page (q == p)
         ∙ sym (ap (option_map (λ (x : Page). x.prot)) (pages-ended s.world p q page));
+    flags = λ q page. ap (λ o. flags_at o page) (ended.areas q) ∙ flagged q page (q == p)
+        ∙ sym (ap (option_map (λ (x : Page). x.flags)) (pages-ended s.world p q page));
   }
     where
       number : (n m w w' : ℕ) → n + 1 ≡ m → m ≡ w → w' + 1 ≡ w → n ≡ w'
@@ -323,6 +344,12 @@ module _ {d : Device} (old mid : Mem) (tables : ProcessTables) (spaces : AllSpac
           (cond b None (pages s.world q page))
       covered q page true = refl
       covered q page false = ap (λ (x : AllSpaces). prot_of (ranges_of x.processes q) page) (spaces-stay rest.parts) ∙ keeps.stands.parts.areas.covers q page
+
+      flagged : (q page : ℕ) (b : Bool) → flags_at (cond b None (areas_of mid.spaces.processes q)) page ≡ option_map (λ (x : Page). x.flags)
+          (cond b None (pages s.world q page))
+      flagged q page true = refl
+      flagged q page false = ap (λ (x : AllSpaces). flags_at (areas_of x.processes q) page) (spaces-stay rest.parts)
+          ∙ keeps.stands.parts.areas.flags q page
 
   kept_now : (q page : ℕ) → IsKept (view old) d s.ledger (entry l (q, page)) (pages (end_process s.world p) q page)
   kept_now q page = subst (IsKept (view old) d s.ledger (entry l (q, page))) (sym (pages-ended s.world p q page)) (by (q == p) refl)
@@ -361,6 +388,7 @@ module _ {d : Device} (old mid : Mem) (tables : ProcessTables) (spaces : AllSpac
           swap = record { finds = had.swap.finds; counts = had.swap.counts; flight = had.swap.flight; on = had.swap.on };
         };
     lists = taken.stands.lists;
+    items = taken.stands.items;
     swap = taken.stands.swap;
   }
 
@@ -377,7 +405,7 @@ module _ {d : Device} (old mid : Mem) (tables : ProcessTables) (spaces : AllSpac
   exit-steps = stepped old new s next (Exit p) reply keeps exit-step rest.parts.count (swap_alike old mid old new refl refl rest.parts.swap)
       stands_now refl
       exit-on (anons_stand d old s keeps spaces anons stay (with_at p none_on s.areas) exit-on new refl refl)
-      (λ f. ap (λ h. h f) rest.homes ∙ keeps.stands.homes f)
+      (λ f. ap (λ h. h f) rest.homes ∙ keeps.stands.homes f) (taken.items s.items keeps.stands.items)
       (reach_after old s keeps spaces anons stay l (with_at p none_on s.areas) exit-on homes_stay
       (zaps-reach s.ledger (rmap_of s) (keys_of_process s.ledger p) (reach_of old s keeps)))
       stay.fit areas_now has_now

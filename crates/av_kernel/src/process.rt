@@ -44,8 +44,8 @@ pub fn spawn(mem: &mut Mem, alloc: Global, process: u16, reply: &mut Reply) -> R
     Ok(())
 }
 
-/// Does a `fork`: the child lives then, with the parent's pages. It has each entry of the parent,
-/// and each area.
+/// Does a `fork`: the child lives then, with those of the parent's pages that aren't left out. It
+/// has their areas, and their entries but for those that are wiped.
 pub fn fork(
     mem: &mut Mem,
     alloc: Global,

@@ -12,7 +12,8 @@
 --   when an area is prepared (`rmap_after_note`, `with_anon`): first_write, second_write,
 --     by_a_read, not_joined
 --   the anon_vma that it gets (`loan_beside`, `can_lend`): taken_behind, after_first,
---     not_from_child, other_offset, other_flags, in_one_process
+--     not_from_child, other_offset, other_flags, other_lock,
+--     in_one_process
 --   a new one (`with_root`): first_write, next_number
 --   the rows of `areas` (`AreRowsOf`, `area_row`): that of `areas_are_shown`
 use Rattle.std.specs.Prelude.{◌≡◌, ℕ, List, [], ◌∷◌, map, Option, Some, None, option_map}

@@ -1,17 +1,21 @@
 -- Worked examples for flags of pages: what advice, locks and forks make of pages and areas, and
 -- which frames stay. Which example would fail if a definition were wrong:
---   refusals and their order (`tests`): refusals_of_advice, refusals_of_locks
+--   refusals and their order (`tests`): refusals_of_advice, refusals_of_locks; which pages a lock
+--     meets (`ends_too_high`, `locks_too_many`): nothing_at_the_end, past_the_end, more_than_may
+--   the flag that an advice is about (`flag_of_advice`): forks_again, kept_again, not_merged,
+--     may_be_merged
 --   the pages over which an advice goes (`pages_to_locked`, `with_advice`): over_a_hole,
 --     zeros_over_a_hole, zeros_to_locked, none_behind_locked, none_where_bad
 --   a lock (`with_lock`, `lock_event`): locked_to_hole, too_many, of_bytes; which pages it brings
 --     in, and how (`access_of`):
---     brought_in, not_all_mapped
+--     brought_in, not_all_mapped, by_protection; and how much is told (`BringsIn`): from_the_page
 --   what a child gets (`page_of_child`, `inheritance`): with_flags, zeros_in_child,
---     whole_in_child, inherited; its areas (`areas_to_fork`, `own_to_fork`, `forked_area`):
+--     whole_in_child, merged_in_child, inherited; its areas (`areas_to_fork`, `own_to_fork`, `forked_area`):
 --     `by_flags` of `Forks`
 --   flags that are moved (`process_after_mremap`, `left_behind`): added, left; areas
 --     (`pages_left`): `two_leave_two` of `Mremap`
 --   areas that are cut and joined (`rmap_after_flag`): flagged_inside, set_already, joined_again
+--   the rows of `areas` (`AreAreas`, `ShowFlags`): shown_without, shown_with_one, falling, repeated
 --   frames that stay (`is_locked`, `is_spared`, `cause_of`, `out_of`): spared_in_pass, reclaimed,
 --     all_locked
 use Rattle.std.specs.Prelude.{◌≡◌, ℕ, Bool, true, ◌==◌, if◌then◌else◌, List, [], ◌∷◌, map}
@@ -23,8 +27,11 @@ use Rattle.av_base.specs.declared.flags.Flag.TheVariants as flags
 use Rattle.av_base.specs.declared.flags.Flags.{Flags}
 use Rattle.av_trace.specs.declared.advice.Advice.TheVariants.{DontFork, DontNeed, DoFork}
 use Rattle.av_trace.specs.declared.command.Command.{Command}
-use Rattle.av_trace.specs.declared.command.Command.TheVariants.{Madvise, Mlock, Munlock}
+use Rattle.av_trace.specs.declared.command.Command.TheVariants.{Areas as AsksAreas, Madvise}
+use Rattle.av_trace.specs.declared.command.Command.TheVariants.{Mlock, Munlock}
 use Rattle.av_trace.specs.declared.reply.Answer.{Answer}
+use Rattle.av_trace.specs.declared.reply.Answer.TheVariants.{AreaList}
+use Rattle.av_trace.specs.declared.row.Row.TheVariants.{Area as AreaRow}
 use Rattle.av_trace.specs.declared.reply.Errno.{Errno}
 use Rattle.av_trace.specs.declared.reply.Errno.TheVariants.{Einval, Enomem, Esrch}
 use Rattle.av_vma.specs.Pages.{pages_in}
@@ -34,10 +41,11 @@ use Rattle.av_plain.specs.Event.{FlagSet}
 use Rattle.av_plain.specs.Ledger.{InFrame, InSlot, first_ledger}
 use Rattle.av_plain.specs.Step.{next}
 use Rattle.av_plain.specs.Transcript.{State}
-use Rattle.av_plain.specs.World.{Page, Process, World, pages}
+use Rattle.av_plain.specs.World.{Page, Process, World, pages, zeros}
 use Rattle.av_laws.specs.Areas.{area, rmap_with}
-use Rattle.av_laws.specs.Examples.{one_area, only_frames, page_with, read_write, slot, state_of}
-use Rattle.av_laws.specs.Examples.{with_slots}
+use Rattle.av_laws.specs.Examples.{MayNotCome, execute_only, machine, no_access, one_area}
+use Rattle.av_laws.specs.Examples.{only_frames, page_with, with_rows_of}
+use Rattle.av_laws.specs.Examples.{read_only, read_write, slot, state_of, with_slots, write_only}
 
 -- ---- flags
 
@@ -49,6 +57,9 @@ wiped_off = with_flag flags.WipeOnFork true no_flags
 
 abbrev pub locked : Flags
 locked = with_flag flags.Locked true no_flags
+
+abbrev pub all_set : Flags
+all_set = record { dont_fork = true; wipe_on_fork = true; locked = true; mergeable = true }
 
 -- these are the flags of a process's pages from one on, after a command that was answered so
 abbrev pub LeavesFlags : World → Command → Answer → ℕ → ℕ → List (Option Flags) → Type 0
@@ -140,3 +151,26 @@ refusals_of_locks =
     ∷ (Munlock 2 0x10000 18446744073709551615, Some Esrch)
     ∷ (Munlock 1 0x10000 18446744073709551615, Some Einval) ∷ (Munlock 1 0x10000 67108865, None)
     ∷ []
+
+-- ---- protections
+
+-- pages 0x10 to 0x13 allow nothing, reads, writes, or to be executed
+abbrev pub four_kinds : Process
+four_kinds page =
+    if page == 0x10 then Some (zeros no_access)
+    else (if page == 0x11 then Some (zeros read_only)
+    else (if page == 0x12 then Some (zeros write_only)
+    else (if page == 0x13 then Some (zeros execute_only) else None)))
+
+-- ---- rows
+
+-- process 1 has the topmost page, with these flags
+abbrev pub topmost_like : Flags → World
+topmost_like all = (1, λ page. if page == 0x7fffffffe then Some (page_like 0 all) else None) ∷ []
+
+-- `areas` doesn't show it with those flags, and this chain
+abbrev pub NotShown : Flags → Flags → List ℕ → Type 0
+NotShown all shown chain =
+    MayNotCome (machine 4) (topmost_like all) first_ledger (AsksAreas 1)
+    (with_rows_of (AreaList 1)
+    (AreaRow 0x7fffffffe000 0x7ffffffff000 read_write 5 None chain shown ∷ []))

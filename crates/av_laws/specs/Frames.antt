@@ -1,5 +1,15 @@
--- Ledgers and memories whose frames are merged, or move.
-use Rattle.std.specs.Prelude.{true, false, List, [], ◌∷◌, Some, None, ◌==◌}
+-- Worked examples for merged frames and frames that move: ledgers and memories. Which example would
+-- fail if a definition were wrong:
+--   which pages join, and which frame (`candidate_by`, `merged_like`, `other_like`): shared,
+--     not_mergeable, joined_already, has_the_frame, locked_target, joins
+--   what is left alone (`cause_of`, `has_turn`, `out_of`): kept, locked_first, locked_in_flight,
+--     no_turn, numbers, locked_counts_first; where a frame goes that is kept (`after_note`): ksm, locked
+--   the last copy of a merged frame (`asks_copy`, `change_frame`): those of
+--     `last_copies_free_merged_frames`
+--   which frame moves, and where to (`next_move`, `with_places`): moves, no_more, merged,
+--     goes_along; the free ones (`takes_any`, `sorts_free`, `Compacts`): moved_from_anywhere, risen,
+--     no_move
+use Rattle.std.specs.Prelude.{ℕ, true, false, if◌then◌else◌, List, [], ◌∷◌, Some, None, ◌==◌}
 use Rattle.av_base.specs.Flags.{no_flags}
 use Rattle.av_trace.specs.declared.note.Note.{Note}
 use Rattle.av_trace.specs.declared.note.Note.TheVariants.{Joined, Shared}
@@ -74,3 +84,28 @@ locked_page = record mergeable_page {
 -- the first process has those
 abbrev pub locked_pages : World
 locked_pages = (1, λ page. Some locked_page) ∷ (2, λ page. Some mergeable_page) ∷ []
+
+-- the middle page of the three may not be merged
+abbrev pub two_mergeable : World
+two_mergeable =
+    (1, λ page. Some (if page == 0x11 then page_with 0 else mergeable_page))
+    ∷ (2, λ page. Some mergeable_page) ∷ []
+
+-- two pages have one frame, as after a fork
+abbrev pub one_frame_twice : Ledger
+one_frame_twice = record first_ledger {
+  entries = ((1, 0x10), InFrame 0 false) ∷ ((2, 0x10), InFrame 0 false) ∷ [];
+  inactive = 0 ∷ [];
+}
+
+-- the merged frame is in inactive, alone, and its first entry is seen
+abbrev pub merged_in_inactive : Ledger
+merged_in_inactive = record one_merged { active = 1 ∷ []; inactive = 3 ∷ [] }
+
+-- it went to the head of active, and that entry is seen still
+abbrev pub merged_at_head : Ledger
+merged_at_head = record one_merged { active = 3 ∷ 1 ∷ []; inactive = [] }
+
+-- frame 3 is one of a locked page
+abbrev pub third_locked : Spared
+third_locked = record none_spared { locked = λ f. f == 3 }

@@ -12,6 +12,8 @@
 --     member_to_come
 --   entries of slots (`AreSlotsCovered`): slot_unhomed, slot_at_child, other_roots, other_indices,
 --     root_left_out, member_of_another
+--   entries of merged frames (`AreMergedCovered`): merged_at_home, item_left_out, item_twice,
+--     item_of_member
 use Rattle.std.specs.Prelude.{◌≡◌, ℕ, true, false, List, [], ◌∷◌, map, Option, Some, None}
 use Rattle.av_base.specs.Words.{with_at}
 use Rattle.std.specs.List.{range_with_len}
@@ -170,3 +172,17 @@ abbrev pub with_another_root : Rmap
 with_another_root = record with_child {
   anons = and_at 2 (alone 2) 3 (with_chain (0 ∷ 2 ∷ 1 ∷ [])).anons;
 }
+
+-- ---- entries of merged frames
+
+-- frame 0, which parent and child have together, is merged
+abbrev pub both_merged : Ledger
+both_merged = record both_in_frame { merged = 0 ∷ [] }
+
+-- it has these items, and no home
+abbrev pub with_items : List (ℕ × ℕ) → Rmap
+with_items items = record with_child { homes = no_homes; items = with_at 0 items no_items }
+
+-- it has the right item, and a home beside it
+abbrev pub with_home_beside : Rmap
+with_home_beside = record (with_items ((0, 0x22) ∷ [])) { homes = first_homes }

@@ -1,16 +1,16 @@
 -- Views of a kernel after a fork, when two processes have frame 0, and once that is cached at slot
 -- 1 and unmapped: some that don't stand for the states. Each is the right one but for one thing,
 -- which one clause of `Stands` refuses. (That a kernel can stand for a state its own crates show.)
-use Rattle.std.specs.Prelude.{ℕ, ◌-◌, Bool, false, ◌==◌, ◌&&◌, ◌||◌, if◌then◌else◌, List, [], ◌∷◌}
+use Rattle.std.specs.Prelude.{ℕ, ◌-◌, Bool, true, false, ◌==◌, ◌&&◌, ◌||◌, if◌then◌else◌, List, [], ◌∷◌}
 use Rattle.std.specs.Prelude.{◌++◌, Some, None, option_map, replicate, codes}
 use Rattle.av_clusters.specs.Clusters.{Slots}
 use Rattle.av_plain.specs.Device.{Device, no_device}
-use Rattle.av_plain.specs.Ledger.{InSlot, SwapArea, entry, frame_at, map_count, slot_entries}
-use Rattle.av_plain.specs.Ledger.{slot_of}
+use Rattle.av_plain.specs.Ledger.{Entry, InFrame, InSlot, Key, SwapArea, entry, frame_at}
+use Rattle.av_plain.specs.Ledger.{map_count, slot_entries, slot_of}
 use Rattle.av_base.specs.Words.{with_at}
 use Rattle.av_vma.specs.Pages.{fresh_area, pages_in}
 use Rattle.av_vma.specs.declared.area.Area.{Area}
-use Rattle.av_plain.specs.Areas.{Anons, Areas, Homes, no_areas, no_homes, no_items}
+use Rattle.av_plain.specs.Areas.{Anons, Areas, Homes, Items, no_areas, no_homes, no_items}
 use Rattle.av_plain.specs.Choice.{no_slots}
 use Rattle.av_plain.specs.Stands.{Stands, View}
 use Rattle.av_plain.specs.Transcript.{State}
@@ -18,6 +18,7 @@ use Rattle.av_laws.specs.Areas.{anons_of, child, root}
 use Rattle.av_laws.specs.Examples.{after_fork, cached_out, machine, one_area, only_frames}
 use Rattle.av_laws.specs.Examples.{read_write, slot, with_slots, with_swap}
 use Rattle.av_base.specs.Flags.{no_flags}
+use Rattle.av_laws.specs.Flags.{locked}
 
 -- an area of a process with pages for reading and writing, as it was mapped
 abbrev pub area : ℕ → ℕ → ℕ → Area
@@ -199,3 +200,56 @@ abbrev pub NotCovered : Type 0
 NotCovered =
     NotFor (record (cached_view false false) { homes = no_homes }) 7
     (record (cached_state false false) { homes = no_homes })
+
+-- ---- flags
+
+-- a kernel and a state that agree on a locked area, where its page isn't locked
+abbrev pub locked_area : ℕ → Area
+locked_area p = record (topmost p) { flags = locked }
+
+abbrev pub NotMarked : Type 0
+NotMarked =
+    Stands (machine 4) (view_with (λ p. locked_area p ∷ []) false) no_device
+    (record fork_state {
+      areas = with_at 1 (pages_in (Some (locked_area 1 ∷ [])))
+          (with_at 2 (pages_in (Some (locked_area 2 ∷ []))) no_areas);
+    }) → ⊥
+
+-- ---- merged frames
+
+-- frame 0 has this item
+abbrev pub items_with : ℕ → ℕ → Items
+items_with anon index = with_at 0 ((anon, index) ∷ []) no_items
+
+-- it is merged, and process 1 alone has it, or both have
+abbrev pub merged_in : List (Key × Entry) → State
+merged_in entries = record fork_state {
+  ledger = record fork_state.ledger { entries = entries; merged = 0 ∷ [] };
+  homes = no_homes;
+  items = items_with 0 0x7fffffffe;
+}
+
+abbrev pub in_both : State
+in_both = merged_in fork_state.ledger.entries
+
+abbrev pub in_first : State
+in_first = merged_in (((1, 0x7fffffffe), InFrame 0 true) ∷ [])
+
+-- the right view of it
+abbrev pub merged_view : View
+merged_view = record right { homes = no_homes; items = items_with 0 0x7fffffffe }
+
+-- a kernel that is seen so doesn't stand for the state
+abbrev pub NotMerged : View → Type 0
+NotMerged v = Stands (machine 4) v no_device in_both → ⊥
+
+-- nor one with a write bit over the frame, though one entry alone names it
+abbrev pub NotWritable : Type 0
+NotWritable =
+    Stands (machine 4)
+    (record merged_view {
+      maps = map_count in_first.ledger;
+      table = λ p page.
+          option_map (λ e. record { entry = e; write = true }) (entry in_first.ledger (p, page));
+    })
+    no_device in_first → ⊥

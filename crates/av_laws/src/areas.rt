@@ -46,7 +46,7 @@ ghost use Rattle.av_laws.specs.Areas.{
   with_own,
 };
 ghost use Rattle.av_laws.specs.Examples.{read_only, read_write};
-ghost use Rattle.av_laws.specs.Flags.{left_out};
+ghost use Rattle.av_laws.specs.Flags.{left_out, locked};
 
 /// A change inside an area splits it, and its parts join where it is undone; a hole leaves two
 /// parts, whose offsets run on. A mapping joins its neighbours, and one at a fixed place takes away
@@ -128,6 +128,8 @@ pub fn first_frames_prepare()
         (behind_root (with_own 1 (record unlike { pgoff = 0x20 }))) two_roots }
     ensures other_flags { Prepares (behind_root (record unlike { flags = left_out })) one_root
         (behind_root (with_own 1 (record unlike { flags = left_out }))) two_roots }
+    ensures other_lock { Prepares (behind_root (record unlike { flags = locked })) one_root
+        (behind_root (with_own 1 (record unlike { flags = locked }))) two_roots }
     ensures not_joined { Prepares (behind_root alike) one_root
         (behind_root (with_own 0 alike)) one_root }
     ensures by_a_read { NotePrepares (Zeroed 1 0x12000) four no_anons four no_anons }

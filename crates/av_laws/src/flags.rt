@@ -1,10 +1,18 @@
 //! Worked examples for flags of pages: what advice and locks leave, what a fork makes of flags,
 //! what moves with pages, how areas are cut and joined, and which frames stay.
 
-ghost use Rattle.std.specs.Prelude.{[], ◌∷◌, false, true, None, Some};
+ghost use Rattle.std.specs.Prelude.{◌≡◌, [], ◌∷◌, false, true, None, Some};
 ghost use Rattle.av_base.specs.Flags.{no_flags};
 ghost use Rattle.av_base.specs.declared.flags.Flag.TheVariants as flags;
-ghost use Rattle.av_trace.specs.declared.advice.Advice.TheVariants.{DontFork, DontNeed, WipeOnFork};
+ghost use Rattle.av_trace.specs.declared.advice.Advice.TheVariants.{
+  DoFork,
+  DontFork,
+  DontNeed,
+  KeepOnFork,
+  Mergeable,
+  Unmergeable,
+  WipeOnFork,
+};
 ghost use Rattle.av_trace.specs.declared.command.Command.TheVariants.{
   Fork,
   Madvise,
@@ -24,11 +32,13 @@ ghost use Rattle.av_trace.specs.declared.note.Note.TheVariants.{
   Unmapped,
   Written,
 };
-ghost use Rattle.av_trace.specs.declared.reply.Answer.TheVariants.{Done, MapAt, Refused};
+ghost use Rattle.av_trace.specs.declared.reply.Answer.TheVariants.{Done, MapAt, Oom, Refused};
 ghost use Rattle.av_trace.specs.declared.reply.Errno.TheVariants.{Einval, Enomem};
 ghost use Rattle.av_plain.specs.Areas.{no_anons};
 ghost use Rattle.av_plain.specs.Event.{FlagSet, Forked, Noted, Used, Zapped};
 ghost use Rattle.av_plain.specs.Fault.{Starved};
+ghost use Rattle.av_plain.specs.Ledger.{first_ledger};
+ghost use Rattle.av_plain.specs.Lock.{accesses_of};
 ghost use Rattle.av_laws.specs.Areas.{area, four};
 ghost use Rattle.av_laws.specs.Examples.{
   AreRefused,
@@ -44,8 +54,11 @@ ghost use Rattle.av_laws.specs.Examples.{
 ghost use Rattle.av_laws.specs.Flags.{
   CutsAreas,
   LeavesFlags,
+  NotShown,
+  all_set,
   both_locked,
   flagged,
+  four_kinds,
   left_out,
   locked,
   none_written,
@@ -65,6 +78,32 @@ pub fn flags_are_refused()
     ensures refusals_of_locks { AreRefused (machine 4)
         (three_written no_flags no_flags no_flags).world
         (three_written no_flags no_flags no_flags).ledger refusals_of_locks }
+    ensures nothing_at_the_end { AreRefused (machine 4)
+        (three_written no_flags no_flags no_flags).world first_ledger
+        ((Mlock 1 0xffffffffffffffff 0, None) ∷ (Munlock 1 0xffffffffffffffff 0, None) ∷ []) }
+    ensures past_the_end { AreRefused (machine 4)
+        (three_written no_flags no_flags no_flags).world first_ledger
+        ((Mlock 1 0xffffffffffffe001 4096, Some Einval)
+        ∷ (Mlock 1 0xffffffffffffe000 4096, None) ∷ []) }
+    ensures more_than_may { AreRefused (machine 4)
+        (three_written no_flags no_flags no_flags).world first_ledger
+        ((Mlock 1 0x10001 67108864, Some Enomem) ∷ []) }
+{}
+
+/// Each word of advice is about one flag, and sets or clears it; the others stay.
+pub fn advice_is_about_one_flag()
+    ensures forks_again { LeavesFlags (three_written all_set all_set all_set).world
+        (Madvise 1 0x7fffffffc000 4096 DoFork) Done 1 0x7fffffffc
+        (Some (record all_set { dont_fork = false }) ∷ []) }
+    ensures kept_again { LeavesFlags (three_written all_set all_set all_set).world
+        (Madvise 1 0x7fffffffc000 4096 KeepOnFork) Done 1 0x7fffffffc
+        (Some (record all_set { wipe_on_fork = false }) ∷ []) }
+    ensures not_merged { LeavesFlags (three_written all_set all_set all_set).world
+        (Madvise 1 0x7fffffffc000 4096 Unmergeable) Done 1 0x7fffffffc
+        (Some (record all_set { mergeable = false }) ∷ []) }
+    ensures may_be_merged { LeavesFlags (three_written no_flags no_flags no_flags).world
+        (Madvise 1 0x7fffffffc000 4096 Mergeable) Done 1 0x7fffffffc
+        (Some (record no_flags { mergeable = true }) ∷ []) }
 {}
 
 /// Advice goes over all mapped pages of a range, but that nothing is needed goes to a locked page;
@@ -105,6 +144,10 @@ pub fn flags_follow()
     ensures whole_in_child { LeavesBytes (three_written left_out wiped_off no_flags).world
         (Fork 1 2) Done 2 0x7fffffffe000
         (Some 3 ∷ []) }
+    ensures merged_in_child { LeavesFlags
+        (three_written (record all_set { dont_fork = false }) no_flags no_flags).world (Fork 1 2)
+        Done 2 0x7fffffffc
+        (Some (record no_flags { wipe_on_fork = true; mergeable = true }) ∷ []) }
     ensures added { LeavesFlags (three_written left_out locked no_flags).world
         (Mremap 1 0x7fffffffc000 8192 12288 MayMove) (MapAt 0x10000) 1 0x10
         (Some left_out ∷ Some locked ∷ Some locked ∷ []) }
@@ -113,8 +156,9 @@ pub fn flags_follow()
         (Some left_out ∷ Some no_flags ∷ []) }
 {}
 
-/// Entries go where nothing is needed. An mlock brings its pages in, each as if it was written,
-/// once all are locked; where one isn't mapped none comes. A child inherits the entries of the
+/// Entries go where nothing is needed. An mlock brings its pages in, each as if it was written, or
+/// read where it can't be, once all are locked; where one isn't mapped none comes. How much it has
+/// brought in counts from the first page. A child inherits the entries of the
 /// pages that go over whole.
 pub fn flags_are_told()
     ensures entry_goes { ComesBy (machine 4) (three_written no_flags no_flags no_flags)
@@ -128,6 +172,14 @@ pub fn flags_are_told()
     ensures brought_in { ComesBy (with_swap 2 4 3) none_written (Mlock 1 0x7fffffffcfff 1)
         (reply_with Done (New 1 0x7fffffffc000 0 ∷ []))
         (FlagSet 1 0x7fffffffc 1 flags.Locked true ∷ Noted (New 1 0x7fffffffc000 0)
+        ∷ Used true (1, 0x7fffffffc) ∷ []) }
+    ensures by_protection { accesses_of four_kinds 0x10 4
+        ≡ (false, 0x11) ∷ (true, 0x12) ∷ (false, 0x13) ∷ [] }
+    ensures from_the_page { ComesBy (with_swap 1 4 3) none_written (Mlock 1 0x7fffffffcfff 2)
+        (reply_with
+        (Oom 4096 (record { pinned = 0; noslot = 0; fault = 0; locked = 1; ksm = 0 }) [])
+        (New 1 0x7fffffffc000 0 ∷ []))
+        (FlagSet 1 0x7fffffffc 2 flags.Locked true ∷ Noted (New 1 0x7fffffffc000 0)
         ∷ Used true (1, 0x7fffffffc) ∷ []) }
     ensures not_all_mapped { ComesBy (with_swap 2 4 3) none_written (Mlock 1 0x7fffffffe000 8192)
         (reply_with (Refused Enomem) [])
@@ -160,4 +212,13 @@ pub fn locked_frames_are_spared()
         (Noted (Kept 0 Locked) ∷ []) }
     ensures all_locked { IsServed (with_swap 2 4 3) both_locked false 1 []
         (Some (Starved (record { pinned = 0; noslot = 0; fault = 0; locked = 2; ksm = 0 }))) }
+{}
+
+/// A row of `areas` has the flags of the area's pages, and no other; and its chain rises, so that no
+/// anon_vma stands twice in it.
+pub fn rows_show_flags()
+    ensures shown_without { NotShown left_out no_flags [] }
+    ensures shown_with_one { NotShown no_flags left_out [] }
+    ensures falling { NotShown no_flags no_flags (1 ∷ 0 ∷ []) }
+    ensures repeated { NotShown no_flags no_flags (0 ∷ 0 ∷ []) }
 {}

@@ -4,7 +4,7 @@
 ghost use Rattle.std.specs.Prelude.{◌≡◌, [], ◌∷◌, false, Some, None};
 ghost use Rattle.av_vma.specs.Pages.{home_of};
 ghost use Rattle.av_plain.specs.Areas.{no_anons};
-ghost use Rattle.av_plain.specs.Covered.{AreSlotsCovered};
+ghost use Rattle.av_plain.specs.Covered.{AreMergedCovered, AreSlotsCovered};
 ghost use Rattle.av_plain.specs.Ledger.{InFrame, first_ledger};
 ghost use Rattle.av_laws.specs.Areas.{rmap_with};
 ghost use Rattle.av_laws.specs.Homes.{
@@ -14,6 +14,7 @@ ghost use Rattle.av_laws.specs.Homes.{
   both_at_slot,
   both_cached,
   both_in_frame,
+  both_merged,
   by_events,
   in_place,
   loaded_at,
@@ -27,6 +28,8 @@ ghost use Rattle.av_laws.specs.Homes.{
   with_chain,
   with_child,
   with_home,
+  with_home_beside,
+  with_items,
   with_number_to_come,
   with_other_index,
   with_two_roots,
@@ -85,4 +88,16 @@ pub fn homes_cover_slots()
     ensures other_indices { AreSlotsCovered both_at_slot with_other_index → ⊥ }
     ensures root_left_out { AreSlotsCovered both_at_slot (with_chain (1 ∷ [])) → ⊥ }
     ensures member_of_another { AreSlotsCovered both_at_slot with_another_root → ⊥ }
+{}
+
+/// Where a merged frame is one of parent and child, their pages are found from the root at their
+/// index alone. Refused are a home beside the item, no item, the item twice, and one at the child's
+/// own anon_vma, which is no root.
+pub fn items_cover_entries()
+    ensures merged_at_home { AreMergedCovered both_merged with_home_beside → ⊥ }
+    ensures item_left_out { AreMergedCovered both_merged (with_items []) → ⊥ }
+    ensures item_twice { AreMergedCovered both_merged (with_items ((0, 0x22) ∷ (0, 0x22) ∷ []))
+        → ⊥ }
+    ensures item_of_member { AreMergedCovered both_merged
+        (with_items ((0, 0x22) ∷ (1, 0x22) ∷ [])) → ⊥ }
 {}

@@ -1,12 +1,13 @@
 //! What follows from the definitions of `av_plain`, beside what the kernel needs of them: replies
-//! are determined, numbers add up, a refusal changes nothing, a reply is read back from its text,
-//! what is free is listed, merges and compactions keep the memories, areas cover what is mapped,
-//! frames of locked pages stay; and worked examples of the definitions. Each stands for a wrong
-//! version of one, which breaks it; where a law of this crate breaks with that version there is no
-//! example. They are single commands, turns in a pass, single steps of swap, several of a kind that
-//! differ, what lines, answers and rows say, slots that are given, areas, anon_vmas and homes that
-//! come of commands, flags of pages,
-//! forks, pages that move, states that aren't sound, and views that don't stand for a state.
+//! are determined, numbers add up, a refusal changes nothing or no more than what it met, a reply is
+//! read back from its text, what is free is listed, only equal pages are merged, a compaction takes
+//! the lowest frames, areas cover what is mapped, frames of locked pages stay; and worked examples
+//! of the definitions. Each stands for a wrong version of one, which breaks it; where a law of this
+//! crate breaks with that version there is no example. They are single commands, turns in a pass,
+//! single steps of swap, several of a kind that differ, what lines, answers, notes and rows say,
+//! slots that are given, areas, anon_vmas and homes that come of commands, flags of pages, frames
+//! that are shared or move, forks, pages that move, states that aren't sound, and views that don't
+//! stand for a state.
 //!
 //! No function does anything. Each one's contract is a law, proved of the definitions alone.
 #![tactic(auto)]
@@ -46,16 +47,20 @@ pub use examples::{
     memories_follow, pages_are_served, reports_show,
 };
 pub use flags::{
-    flags_are_refused, flags_are_told, flags_cut_areas, flags_follow, locked_frames_are_spared,
+    advice_is_about_one_flag, flags_are_refused, flags_are_told, flags_cut_areas, flags_follow,
+    locked_frames_are_spared, rows_show_flags,
 };
 pub use forks::forks_follow;
 pub use frames::{
-    compactions_take_the_lowest_frames, frames_are_shared_and_move, last_copies_free_merged_frames,
-    merged_frames_are_left_alone, merges_share_frames,
+    compactions_order_free_frames, compactions_take_the_lowest_frames, frames_are_shared_and_move,
+    kept_frames_stay_seen, last_copies_free_merged_frames, merged_frames_are_left_alone,
+    merges_ask_each_page, merges_share_frames,
 };
 pub use free::{runs_list_free_frames, runs_list_free_slots};
-pub use homes::{homes_are_of_pages, homes_cover_entries, homes_cover_slots, homes_follow};
-pub use lines::{answers_say, lines_say, rows_say, texts_stand};
+pub use homes::{
+    homes_are_of_pages, homes_cover_entries, homes_cover_slots, homes_follow, items_cover_entries,
+};
+pub use lines::{answers_say, lines_say, notes_say, rows_say, texts_stand};
 pub use locked::locked_frames_stay;
 pub use mremap::{
     areas_grow, areas_move, memories_move, mremaps_are_refused, pages_stay_or_find_a_place,
@@ -94,5 +99,5 @@ pub use unsound::{
 };
 pub use views::{
     changed_anon_vmas_do_not_stand, changed_cached_views_do_not_stand, changed_views_do_not_stand,
-    unreached_entries_do_not_stand,
+    changed_views_of_merged_frames_do_not_stand, unreached_entries_do_not_stand,
 };

@@ -10,14 +10,19 @@ ghost use Rattle.av_laws.specs.Views.{
   NotFree,
   NotGiven,
   NotKin,
+  NotMarked,
+  NotMerged,
   NotOff,
   NotReached,
+  NotWritable,
   Refused,
   area,
   cached_state,
   cached_view,
   fewer_slots,
   homes_with,
+  items_with,
+  merged_view,
   one_anon,
   right,
   topmost,
@@ -28,7 +33,7 @@ ghost use Rattle.av_laws.specs.Views.{
 /// After a fork, a view stands for the state only where it has the bytes of the shared frame, no
 /// write bit over it, all entries and counts, the free frames in their order, each of them once, no
 /// slots, no other active frames, and the areas of each process that lives: apart, over its pages
-/// alone, its own, and with their offsets.
+/// alone, its own, and with their offsets and flags.
 pub fn changed_views_do_not_stand()
     ensures other_byte { Refused (record right { bytes = λ f i. 0 }) }
     ensures write_bit { Refused (view_with (λ p. topmost p ∷ []) true) }
@@ -46,6 +51,7 @@ pub fn changed_views_do_not_stand()
     ensures area_of_another { Refused (view_with (λ p. topmost 1 ∷ []) false) }
     ensures other_offset { Refused
         (view_with (λ p. record (topmost p) { pgoff = 0 } ∷ []) false) }
+    ensures other_flags { NotMarked }
     ensures areas_of_nobody { Refused (record right { areas = λ p. Some (topmost p ∷ []) }) }
     ensures too_few_processes { Refused (record right { processes = 1 }) }
 {}
@@ -99,4 +105,14 @@ pub fn changed_cached_views_do_not_stand()
           slots = (with_slots 7 [] 1 []).slots;
         }) 7
         with_fewer_slots }
+{}
+
+/// Where the frame is merged, a view stands for the state only where it has the frame's items, and
+/// no home and no write bit for it, also where one entry alone names it. One that isn't merged has
+/// no items.
+pub fn changed_views_of_merged_frames_do_not_stand()
+    ensures other_items { NotMerged (record merged_view { items = items_with 1 0x7fffffffe }) }
+    ensures home_beside { NotMerged (record merged_view { homes = homes_with 0 0x7fffffffe }) }
+    ensures written_in_place { NotWritable }
+    ensures items_of_another { Refused (record right { items = items_with 0 0x7fffffffe }) }
 {}

@@ -15,8 +15,7 @@ use Rattle.av_rmap.specs.Items.{AreCovered, is_item, is_merged, shown as shown_i
 use Rattle.av_rmap.specs.Walk.{names_frame, names_seen}
 use Rattle.av_rmap.specs.Seen.{unseen}
 use Rattle.av_rmap.specs.Unmap.{away}
-use Rattle.av_rmap.proofs.SeenFrom.{unseen-itself}
-use Rattle.av_rmap.proofs.SeenLemmas.{unseen-other}
+use Rattle.av_rmap.proofs.SeenLemmas.{unseen-itself, unseen-other}
 use Rattle.av_rmap.proofs.UnmapLemmas.{away-other}
 use Rattle.av_swap_laws.specs.Steps.{pte_unmapped, pte_unseen, view_unmap, view_unseen}
 use Rattle.av_swapcache.specs.Swap.{shown as shown_swap, with_entries}

@@ -137,7 +137,7 @@ module _ (d : Device) (closing : Option ℕ) (k : Mem) (w : World) (r : Rmap) (l
 
 pub locks : (d : Device) (closing : Option ℕ) (k : Mem) (w : World) (r : Rmap) (l : Ledger) → T (is_sorted key_cmp l.entries)
     → Serves d closing k w r l → locked_by k ≡ is_locked w l
-  unfolding locked_by
+unfolding locked_by
 locks d closing k w r l sorted serves = λ i f. both_ways (in_any_area (is_locked_at k f) k.spaces.processes) (is_locked w l f)
     (is-there d closing k w r l sorted serves f) (is-found d closing k w r l sorted serves f) i
 

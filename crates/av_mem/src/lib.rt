@@ -1,13 +1,17 @@
 //! The memory system: its single steps, the walk over it, and how its entries come and go.
 //!
-//! `Mem` holds the frames with their two lists, the page tables, the areas, the anon_vmas and the
-//! swap areas that are on; the kernel has one. What it stands for, over any device, is said by the
-//! definitions' `Stands` over its `view`; what it keeps beside that by `Keeps`; and what stands
-//! between two events of a command by `KeepsBetween`.
+//! `Mem` holds the frames with their two lists and the items of those that are merged, the page
+//! tables, the areas, the anon_vmas and the swap areas that are on; the kernel has one. What it
+//! stands for, over any device, is said by the definitions' `Stands` over its `view`; what it keeps
+//! beside that by `Keeps`; and what stands between two events of a command by `KeepsBetween`.
 //!
 //! Proved: each step of swap (a frame is put, unmapped, unseen, moved within or between the lists,
 //! a write begins or ends, a slot is dropped, a page is loaded and mapped) makes of the view
 //! exactly what av_swap_laws has a law of.
+//!
+//! Entries are found from a frame's home, and those of a merged frame from its items: `walk`,
+//! `is_locked` and `unsee` serve each frame. `unmap` and `namers` go by the home alone, since a
+//! merged frame is never cached.
 //!
 //! `entries` has the calls through which entries of frames and slots come and go: they keep the
 //! counts. Beside them only the steps of swap change how many entries name a frame or a slot, and
@@ -19,13 +23,15 @@
 //! ledger is. `zap_range` and `zap_all` let the entries of a range of pages or of a process go:
 //! they free the frames that nothing has any more, give such slots back, and drop those that they
 //! leave as orphans, for every ledger that the parts stand for. Without memory, which only a note
-//! takes there, they promise nothing of entries and counts; `unmap` changes nothing then.
+//! takes there, they promise nothing of entries and counts; `unmap` changes nothing then. A frame
+//! that was in use becomes free in one way (`free`): it is the first free one then, in no list, and
+//! without items.
 //!
 //! `walk` gives the entries of a frame: proved for every state that the memory system stands for,
-//! with the number of its steps. It is one call of av_rmap's `walk_frame`, which looks through the
-//! trait `Look` alone, no more often than it takes steps. Not proved: that nothing which holds a
-//! `Mem`, `walk` among it, asks the tables past that trait; and how often `unmap`, `unsee` and
-//! `namers` look, whose steps nobody counts.
+//! with the number of its steps. It is one call of av_rmap's `walk_frame` or `walk_merged`, which
+//! look through the trait `Look` alone, no more often than they take steps. Not proved: that
+//! nothing which holds a `Mem`, `walk` among it, asks the tables past that trait; and how often
+//! `unmap`, `unsee`, `is_locked` and `namers` look, whose steps nobody counts.
 #![tactic(auto)]
 
 mod cache;

@@ -20,10 +20,11 @@ use Rattle.av_spaces.specs.Spaces.{AllSpaces, AreRising, areas_of, pages_of as a
 use Rattle.av_plain.specs.Device.{Device}
 use Rattle.av_plain.specs.Areas.{Anons, chain_by}
 use Rattle.av_plain.specs.Refusal.{tests, refusal, Refuses}
-use Rattle.av_plain.specs.Report.{area_row, flags_in, range_of}
+use Rattle.av_plain.specs.Report.{AreRowsOf, area_row, flags_in, range_of}
 use Rattle.av_plain.specs.Stands.{prot_of}
 use Rattle.av_plain.specs.Step.{Follows}
 use Rattle.av_plain.specs.Transcript.{State}
+use Rattle.av_plain.proofs.Chains.{shown-rise}
 use Rattle.av_plain.proofs.Report.Areas.{all_from, on_first, runs-of_rows}
 use Rattle.av_mem.specs.declared.mem.Mem.{Mem}
 use Rattle.av_mem.specs.Mem.{anons_of, setting_by, view, Keeps}
@@ -111,6 +112,10 @@ module _ {d : Device} (k : Mem) (s : State) (p : ℕ) (areas : List Area) (keeps
       (keeps.stands.anons.chains p (first_of a)))
       areas (on_pages p areas rising)
 
+  -- the rows are those of the areas that the state has
+  rows_are : AreRowsOf s.anons (s.areas p) shown
+  rows_are = (areas, rows_by (view k).anons s.anons areas chains, apart_of p areas rising, on)
+
   pub areas-steps : StepsBeside d k k s (AsksAreas p) (record { answer = AreaList (length shown); notes = []; rows = shown })
   areas-steps = record {
     next = s;
@@ -127,6 +132,7 @@ module _ {d : Device} (k : Mem) (s : State) (p : ℕ) (areas : List Area) (keeps
                 λ page. sym (ap (λ o. prot_of (option_map (map range_of) o) page) are) ∙ keeps.stands.parts.areas.covers p page,
                 λ page. flags-of_rows (view k).anons areas page (wholes p areas rising)
                     ∙ ap (λ o. option_map (λ (area : Area). area.flags) (pages_in o page)) (sym are) ∙ keeps.stands.parts.areas.flags p page,
+                shown-rise s.anons (s.areas p) shown keeps.stands.reach.rising rows_are,
               ),
               refl,
             );
@@ -136,7 +142,7 @@ module _ {d : Device} (k : Mem) (s : State) (p : ℕ) (areas : List Area) (keeps
       ledger = refl;
       free = refl;
       rmap = areas_kept k s _ _ keeps refl;
-      shows = (areas, rows_by (view k).anons s.anons areas chains, apart_of p areas rising, on);
+      shows = rows_are;
     };
     keeps = keeps;
   }

@@ -1,174 +1,378 @@
--- What a change of each entry that names a frame, one look after the other, makes of the entries.
-use Rattle.std.proofs.Common.{◌≡◌, ℕ, ◌+◌, Bool, true, false, cond, ◌&&◌, ◌⊎◌, List, [], ◌∷◌, ◌++◌, Option, Some, None, length, refl, sym, ap, subst, ◌∙◌, arith, inl, inr}
+-- What a change of each entry of a frame, one look after the other, makes of the entries.
+use Rattle.std.proofs.Common.{◌≡◌, ℕ, suc, length, drop, get_or, ◌+◌, ◌<◌, ◌≤◌, ◌==◌, ◌&&◌, ◌||◌, Bool, true, false, cond, List, [], ◌∷◌, Option, Some, None, refl, sym, ap, subst, ◌∙◌, arith, IsSomeAnd}
+use Rattle.std.proofs.Math.Seq.{drop-cons}
+use Rattle.std.proofs.lemmas.Bool.{false≢true}
 use Rattle.std.proofs.lemmas.Bool.Decides.{nat_tests}
+use Rattle.std.specs.List.{AllByRecursion, list_any}
 use Rattle.av_base.specs.Words.{how_many}
-use Rattle.av_chain.specs.Links.{one_if}
 use Rattle.av_pagetable.specs.declared.pte.Pte.{Pte}
 use Rattle.av_pagetable.specs.Entries.{with_entry}
-use Rattle.av_interval.specs.declared.span.Span.{Span}
-use Rattle.av_interval.specs.Search.{IsOrdered, overlap_of}
-use Rattle.av_rmap.specs.Covered.{IsCovered}
+use Rattle.av_vma.specs.Pages.{has_page}
+use Rattle.av_vma.specs.declared.area.Area.{Area}
+use Rattle.av_rmap.specs.Changed.{changed_in, changed_over, with_changed}
+use Rattle.av_rmap.specs.Covered.{IsCovered, IsReached}
+use Rattle.av_rmap.specs.Items.{AreCovered, Item, is_item, same_item}
 use Rattle.av_rmap.specs.View.{View, AreApart, AreSpanned}
-use Rattle.av_rmap.specs.Walk.{Key, found_in, holds, names_frame, page_at, passes_in, same_key, walk_of}
-use Rattle.av_rmap.proofs.Entries.{walk-is}
-use Rattle.av_rmap.proofs.Turns.{Found, last, rest, turn, walk-length}
+use Rattle.av_rmap.specs.Walk.{areas_from, holds, names_frame, page_at, passes_in, walk_of}
+use Rattle.av_rmap.proofs.Entries.{has-holds, holds-has, one-area}
+use Rattle.av_rmap.proofs.LookLemmas.{none-here}
+use Rattle.av_rmap.proofs.NextAreas.{IsHeld, all-held, any-where, once-each}
 
 -- a change that may be made twice, and leaves each entry that doesn't name the frame
 pub record IsOfFrame (f : ℕ) (change : Pte → Pte) : Type 0 where
   pub twice : (e : Pte) → change (change e) ≡ change e
   pub other : (e : Pte) → names_frame f e ≡ false → change e ≡ e
 
--- the entry of a key that is left to look at is as before; another is changed
-abbrev pub IsBeforeOrAfter : (Pte → Pte) → View → List Key → Key → Pte → Type 0
-IsBeforeOrAfter change before left k entry =
-    ((how_many (same_key k) left ≡ 1) × (entry ≡ before.entry k.0 k.1)) ⊎ ((how_many (same_key k) left ≡ 0) × (entry ≡ change (before.entry k.0 k.1)))
+-- whether it is the area's page with the index
+abbrev is_page : ℕ → Option Area → ℕ → ℕ → Bool
+is_page i None p page = false
+is_page i (Some area) p page = p == area.pid && page == page_at i area
 
--- the keys that are left to look at have their entries as they were; all others are changed
-pub record IsChanged (change : Pte → Pte) (before now : View) (left : List Key) : Type 0 where
+same_some : {p q : Area} → Some p ≡ Some q → p ≡ q
+same_some e = cc
+
+-- ---- one look
+
+module _ (change : Pte → Pte) (i : ℕ) where
+  look-rest : (o : Option Area) (view : View) → changed_in change i o view ≡ record view { entry = (changed_in change i o view).entry }
+  look-rest None view = refl
+  look-rest (Some area) view = refl
+
+  look-entry : (o : Option Area) (view : View) (p page : ℕ)
+      → (changed_in change i o view).entry p page ≡ cond (is_page i o p page) (change (view.entry p page)) (view.entry p page)
+  look-entry None view p page = refl
+  look-entry (Some area) view p page = by (p == area.pid && page == page_at i area) refl
+    where
+      by : (b : Bool) → (p == area.pid && page == page_at i area) ≡ b
+          → cond b (change (view.entry area.pid (page_at i area))) (view.entry p page) ≡ cond b (change (view.entry p page)) (view.entry p page)
+      by true e =
+          let first : p ≡ area.pid = grind (arith, nat_tests, e) in
+          let second : page ≡ page_at i area = grind (arith, nat_tests, e) in
+          λ n. change (view.entry (sym first n) (sym second n))
+      by false e = refl
+
+  -- areas, chains and spans stay
+  pub rest-then : (before now new : View) (o : Option Area) → now ≡ record before { entry = now.entry } → new ≡ changed_in change i o now
+      → new ≡ record before { entry = new.entry }
+  rest-then before now new o rest is = subst (λ (v : View). v ≡ record before { entry = v.entry }) (sym is)
+      (look-rest o now ∙ ap (λ (v : View). record v { entry = (changed_in change i o now).entry }) rest)
+
+  -- a look that leaves its entry leaves all
+  pub look-still : (area : Area) (view : View) → change (view.entry area.pid (page_at i area)) ≡ view.entry area.pid (page_at i area)
+      → changed_in change i (Some area) view ≡ view
+  look-still area view stays = λ n. record view { entry = λ p page. same p page n }
+    where
+      same : (p page : ℕ) → with_entry area.pid (page_at i area) (change (view.entry area.pid (page_at i area))) view.entry p page
+          ≡ view.entry p page
+      same p page = by (p == area.pid && page == page_at i area) refl
+        where
+          by : (b : Bool) → (p == area.pid && page == page_at i area) ≡ b
+              → cond b (change (view.entry area.pid (page_at i area))) (view.entry p page) ≡ view.entry p page
+          by true e =
+              let first : p ≡ area.pid = grind (arith, nat_tests, e) in
+              let second : page ≡ page_at i area = grind (arith, nat_tests, e) in
+              stays ∙ (λ n. view.entry (sym first n) (sym second n))
+          by false e = refl
+
+  -- ---- one after the other
+
+  over-rest : (areas : List ℕ) (view : View) → changed_over change i areas view ≡ record view { entry = (changed_over change i areas view).entry }
+  over-rest [] view = refl
+  over-rest (a ∷ areas) view =
+      over-rest areas (changed_in change i (view.areas a) view)
+      ∙ ap (λ (v : View). record v { entry = (changed_over change i areas (changed_in change i (view.areas a) view)).entry })
+      (look-rest (view.areas a) view)
+
+  over-entry : ((e : Pte) → change (change e) ≡ change e) → (areas : List ℕ) (view : View) (p page : ℕ)
+      → (changed_over change i areas view).entry p page
+      ≡ cond (list_any (λ a. is_page i (view.areas a) p page) areas) (change (view.entry p page)) (view.entry p page)
+  over-entry twice [] view p page = refl
+  over-entry twice (a ∷ areas) view p page =
+      over-entry twice areas now p page
+      ∙ ap (λ (v : View). cond (list_any (λ b. is_page i (v.areas b) p page) areas) (change (now.entry p page)) (now.entry p page))
+      (look-rest (view.areas a) view)
+      ∙ ap (λ e. cond later (change e) e) (look-entry (view.areas a) view p page)
+      ∙ by (is_page i (view.areas a) p page) later
+    where
+      now : View
+      now = changed_in change i (view.areas a) view
+
+      later : Bool
+      later = list_any (λ b. is_page i (view.areas b) p page) areas
+
+      by : (b c : Bool) → cond c (change (cond b (change (view.entry p page)) (view.entry p page)))
+          (cond b (change (view.entry p page)) (view.entry p page)) ≡ cond (b || c) (change (view.entry p page)) (view.entry p page)
+      by true true = twice (view.entry p page)
+      by true false = refl
+      by false c = refl
+
+-- so they do from one home
+pub over-then : (change : Pte → Pte) (before now new : View) (home : ℕ × ℕ) (areas : List ℕ) → now ≡ record before { entry = now.entry }
+    → new ≡ changed_over change home.1 areas now → new ≡ record before { entry = new.entry }
+over-then change before now new home areas rest is = subst (λ (v : View). v ≡ record before { entry = v.entry }) (sym is)
+    (over-rest change home.1 areas now ∙ ap (λ (v : View). record v { entry = (changed_over change home.1 areas now).entry }) rest)
+
+-- ---- the looks that are left, where the changes are counted
+
+-- the entry of the area's page is as it was
+abbrev IsUntouched : ℕ → View → View → ℕ → Type 0
+IsUntouched i before now a = (area : Area) → before.areas a ≡ Some area
+    → now.entry area.pid (page_at i area) ≡ before.entry area.pid (page_at i area)
+
+-- the areas that are left hold the index, each stands there once, with its entry as it was; and the looks that are left make of what stands now
+-- what all make of what stood before
+pub record IsUnderWay (change : Pte → Pte) (i : ℕ) (before now : View) (areas all : List ℕ) : Type 0 where
+  pub held : AllByRecursion (IsHeld before i) areas
+  pub once : (n : ℕ) → how_many (λ a. a == n) areas ≤ 1
+  pub untouched : AllByRecursion (IsUntouched i before now) areas
   pub rest : now ≡ record before { entry = now.entry }
-  pub each : (k : Key) → IsBeforeOrAfter change before left k (now.entry k.0 k.1)
+  pub changed : changed_over change i areas now ≡ changed_over change i all before
 
--- in how many places a key is left that a look finds where it passes
-one-of : (q key : Key) (b : Bool) (left later : List Key) → left ≡ cond b (key ∷ []) [] ++ later →
-    how_many (same_key q) left ≡ cond (same_key q key && b) 1 0 + how_many (same_key q) later
-one-of q key true left later e = ap (how_many (same_key q)) e ∙ by (same_key q key)
+pub begin : (change : Pte → Pte) (view : View) (home : ℕ × ℕ) → AreSpanned view
+    → IsUnderWay change home.1 view view (areas_from view home) (areas_from view home)
+begin change view home spanned = record {
+  held = all-held view home spanned;
+  once = once-each view home spanned;
+  untouched = same (areas_from view home);
+  rest = refl;
+  changed = refl;
+}
   where
-    by : (b : Bool) → cond b 1 0 + how_many (same_key q) later ≡ cond (b && true) 1 0 + how_many (same_key q) later
-    by true = refl
-    by false = refl
-one-of q key false left later e = ap (how_many (same_key q)) e ∙ by (same_key q key)
-  where
-    by : (b : Bool) → how_many (same_key q) later ≡ cond (b && false) 1 0 + how_many (same_key q) later
-    by true = omega arith
-    by false = omega arith
+    same : (areas : List ℕ) → AllByRecursion (IsUntouched home.1 view view) areas
+    same [] = tt
+    same (a ∷ areas) = (λ area is. refl, same areas)
 
-module _ {f : ℕ} {change : Pte → Pte} (of : IsOfFrame f change) where
-  pub none-changed : (view : View) (home : ℕ × ℕ) → AreSpanned view → AreApart view → IsCovered view (names_frame f) home →
-      IsChanged change view view (walk_of view (names_frame f) home.1 (view.spans home.0))
-  none-changed view home spanned apart covered = record {
-    rest = refl;
-    each = λ k. by k (names_frame f (view.entry k.0 k.1)) refl;
+-- where the areas that are left are these
+pub left-are : (change : Pte → Pte) (i : ℕ) (before now : View) (left areas all : List ℕ) → left ≡ areas
+    → IsUnderWay change i before now left all → IsUnderWay change i before now areas all
+left-are change i before now left areas all e h = subst (λ ns. IsUnderWay change i before now ns all) e h
+
+module _ (change : Pte → Pte) (i : ℕ) (before now : View) (a : ℕ) (areas all : List ℕ) (h : IsUnderWay change i before now (a ∷ areas) all) where
+  -- the area is there, now as before
+  area-of : (area : Area) × (before.areas a ≡ Some area) × (holds i area ≡ true)
+  area-of = by (before.areas a) refl h.held.0
+    where
+      by : (o : Option Area) → before.areas a ≡ o → IsSomeAnd o (λ area. holds i area ≡ true)
+          → (area : Area) × (before.areas a ≡ Some area) × (holds i area ≡ true)
+      by None e there = absurd there
+      by (Some area) e there = (area, e, there)
+
+  area-now : now.areas a ≡ before.areas a
+  area-now = ap (λ (v : View). v.areas a) h.rest
+
+  pub there-now : IsSomeAnd (now.areas a) (λ area. holds i area ≡ true)
+  there-now = subst (λ o. IsSomeAnd o (λ area. holds i area ≡ true)) (sym area-now) h.held.0
+
+  -- a test of its entry says now what it said before
+  pub passes-before : (passes : Pte → Bool) → passes_in now passes i (now.areas a) ≡ passes_in before passes i (before.areas a)
+  passes-before passes =
+      let on = area-of in
+      ap (passes_in now passes i) (area-now ∙ on.1)
+      ∙ ap (λ e. holds i on.0 && passes e) (h.untouched.0 on.0 on.1)
+      ∙ sym (ap (passes_in before passes i) on.1)
+
+  -- one look more
+  pub one-more : AreApart before → (new : View) → new ≡ changed_in change i (now.areas a) now → IsUnderWay change i before new areas all
+  one-more apart new is = record {
+    held = h.held.1;
+    once = λ n. let o = h.once n in omega (arith, o);
+    untouched = others areas none_here h.held.1 h.untouched.1;
+    rest = rest-then change i before now new (now.areas a) h.rest is;
+    changed = ap (changed_over change i areas) is ∙ h.changed;
   }
     where
-      by : (k : Key) (b : Bool) → names_frame f (view.entry k.0 k.1) ≡ b
-          → IsBeforeOrAfter change view (walk_of view (names_frame f) home.1 (view.spans home.0)) k (view.entry k.0 k.1)
-      by k true e = inl (walk-is view (names_frame f) home spanned apart covered k ∙ ap one_if e, refl)
-      by k false e = inr (walk-is view (names_frame f) home spanned apart covered k ∙ ap one_if e, sym (of.other (view.entry k.0 k.1) e))
+      none_here : how_many (λ b. b == a) areas ≡ 0
+      none_here =
+          let o = h.once a in
+          let itself : (a == a) ≡ true = grind (arith, nat_tests) in
+          let first = ap (λ b. cond b 1 0 + how_many (λ b. b == a) areas) itself in
+          omega (arith, o, first)
 
-  pub all-changed : (before now : View) (left : List Key) → IsChanged change before now left → left ≡ [] →
-      now ≡ record before { entry = λ process page. change (before.entry process page) }
-  all-changed before now left h none = h.rest ∙ (λ i. record before { entry = λ p page. it (p, page) (h.each (p, page)) i })
+      -- the page of another area is another
+      elsewhere : (b : ℕ) → (b == a) ≡ false → (area : Area) → before.areas b ≡ Some area → holds i area ≡ true
+          → is_page i (now.areas a) area.pid (page_at i area) ≡ false
+      elsewhere b ne area is there =
+          let on = area-of in
+          ap (λ o. is_page i o area.pid (page_at i area)) (area-now ∙ on.1)
+          ∙ by (area.pid == on.0.pid && page_at i area == page_at i on.0) refl
+        where
+          by : (c : Bool) → (area.pid == area-of.0.pid && page_at i area == page_at i area-of.0) ≡ c → c ≡ false
+          by false e = refl
+          by true e =
+              let on = area-of in
+              let process : area.pid ≡ on.0.pid = grind (arith, nat_tests, e) in
+              let page : page_at i area ≡ page_at i on.0 = grind (arith, nat_tests, e) in
+              let same : b ≡ a = apart b a (page_at i area) area on.0 is on.1 process (holds-has area i there)
+              (subst (λ x. has_page on.0 x ≡ true) (sym page) (holds-has on.0 i on.2)) in
+              let one : (b == a) ≡ true = grind (arith, nat_tests, same) in
+              absurd (false≢true (sym ne ∙ one))
+
+      other : (b : ℕ) → (b == a) ≡ false → IsHeld before i b → IsUntouched i before now b → IsUntouched i before new b
+      other b ne held untouched area at =
+          ap (λ (v : View). v.entry area.pid (page_at i area)) is
+          ∙ look-entry change i (now.areas a) now area.pid (page_at i area)
+          ∙ ap (λ c. cond c (change (now.entry area.pid (page_at i area))) (now.entry area.pid (page_at i area)))
+          (elsewhere b ne area at (subst (λ o. IsSomeAnd o (λ area. holds i area ≡ true)) at held))
+          ∙ untouched area at
+
+      others : (bs : List ℕ) → how_many (λ b. b == a) bs ≡ 0 → AllByRecursion (IsHeld before i) bs
+          → AllByRecursion (IsUntouched i before now) bs → AllByRecursion (IsUntouched i before new) bs
+      others [] none held untouched = tt
+      others (b ∷ bs) none held untouched = (
+        other b (not_it (b == a) none) held.0 untouched.0,
+        others bs (omega (arith, none)) held.1 untouched.1,
+      )
+        where
+          not_it : (c : Bool) → cond c 1 0 + how_many (λ m. m == a) bs ≡ 0 → c ≡ false
+          not_it false e = refl
+          not_it true e = absurd (omega (arith, e))
+
+module _ {f : ℕ} {change : Pte → Pte} (of : IsOfFrame f change) where
+  -- where nothing is left to find, the looks that are left change nothing
+  still : (i : ℕ) (before now : View) → now ≡ record before { entry = now.entry } → (areas : List ℕ)
+      → AllByRecursion (IsHeld before i) areas → AllByRecursion (IsUntouched i before now) areas
+      → walk_of before (names_frame f) i areas ≡ [] → changed_over change i areas now ≡ now
+  still i before now rest [] held untouched none = refl
+  still i before now rest (a ∷ areas) held untouched none =
+      ap (changed_over change i areas) (ap (λ o. changed_in change i o now) (ap (λ (v : View). v.areas a) rest)
+      ∙ by (before.areas a) refl held.0 (none-here before (names_frame f) i a areas none).0)
+      ∙ still i before now rest areas held.1 untouched.1 (none-here before (names_frame f) i a areas none).1
     where
-      it : (k : Key) → IsBeforeOrAfter change before left k (now.entry k.0 k.1) → now.entry k.0 k.1 ≡ change (before.entry k.0 k.1)
-      it k (inl h) = let none = ap (how_many (same_key k)) none in let one = h.0 in absurd (omega (arith, none, one))
-      it k (inr h) = h.1
+      by : (o : Option Area) → before.areas a ≡ o → IsSomeAnd o (λ area. holds i area ≡ true) → passes_in before (names_frame f) i o ≡ false
+          → changed_in change i o now ≡ now
+      by None e there no_entry = absurd there
+      by (Some area) e there no_entry =
+          let same = untouched.0 area e in
+          let unnamed = sym (ap (λ b. b && names_frame f (before.entry area.pid (page_at i area))) there) ∙ no_entry in
+          look-still change i area now (ap change same ∙ of.other (before.entry area.pid (page_at i area)) unnamed ∙ sym same)
 
-  -- what a call of `next` tells of the looks that were left
-  pub changed-turn : {before now : View} {left : List Key} (passes : Pte → Bool) (home : ℕ × ℕ) (after : Option (ℕ × ℕ)) (k : ℕ × ℕ)
-      (next : Option (ℕ × ℕ)) → AreSpanned before → IsChanged change before now left → IsOrdered (now.spans home.0)
-      → next ≡ overlap_of after home.1 (now.spans home.0) → next ≡ Some k → Found before passes home.1 after k (before.spans home.0)
-  changed-turn {before = before} {now = now} passes home after k next spanned h ordered is some =
-      let spans : now.spans home.0 ≡ before.spans home.0 = ap (λ (v : View). v.spans home.0) h.rest in
-      turn before passes home after k spanned (subst IsOrdered spans ordered) (sym (ap (overlap_of after home.1) spans) ∙ sym is ∙ some)
+  pub done : (i : ℕ) (before now : View) (areas all : List ℕ) → IsUnderWay change i before now areas all
+      → walk_of before (names_frame f) i areas ≡ [] → now ≡ changed_over change i all before
+  done i before now areas all h none = sym (still i before now h.rest areas h.held h.untouched none) ∙ h.changed
 
-  -- where it finds none, nothing is left
-  pub changed-last : {before now : View} {left : List Key} (home : ℕ × ℕ) (after : Option (ℕ × ℕ)) (next : Option (ℕ × ℕ)) →
-      AreSpanned before → IsChanged change before now left → next ≡ overlap_of after home.1 (now.spans home.0) → next ≡ None
-      → walk_of before (names_frame f) home.1 (rest after (before.spans home.0)) ≡ []
-  changed-last {before = before} home after next spanned h is none = (last before (names_frame f) home after spanned
-      (sym (ap (λ (v : View). overlap_of after home.1 (v.spans home.0)) h.rest) ∙ sym is ∙ none)).0
+-- ---- from one home after the other
 
-  -- ---- one look
+pub left-with : (items : List Item) (n : ℕ) (x : Item) → n < length items → drop n items ≡ get_or items n x ∷ drop (n + 1) items
+left-with items n x h = drop-cons items n x h ∙ ap (λ m. get_or items n x ∷ drop m items) next
+  where
+    next : suc n ≡ n + 1
+    next = omega arith
 
-  module _ (before now : View) (i : ℕ) (after : Option (ℕ × ℕ)) (k : ℕ × ℕ) (xs : List Span)
-      (h : IsChanged change before now (walk_of before (names_frame f) i (rest after xs)))
-      (t : Found before (names_frame f) i after k xs) where
-    abbrev left : List Key
-    left = walk_of before (names_frame f) i (rest after xs)
+-- one after the other those that are found from these homes
+abbrev pub changed_from_all : (Pte → Pte) → List Item → View → View
+changed_from_all change [] view = view
+changed_from_all change (x ∷ homes) view = changed_from_all change homes (changed_over change x.1 (areas_from view x) view)
 
-    abbrev later : List Key
-    later = walk_of before (names_frame f) i (rest (Some k) xs)
+-- whether a look from one of them is at the page
+abbrev is_found : View → List Item → ℕ → ℕ → Bool
+is_found view [] p page = false
+is_found view (x ∷ homes) p page =
+    list_any (λ a. is_page x.1 (view.areas a) p page) (areas_from view x) || is_found view homes p page
 
-    abbrev key : Key
-    key = (t.area.pid, page_at i t.area)
+-- one home more
+pub from-then : (change : Pte → Pte) (now new whole : View) (left later : List Item) (x : Item) → left ≡ x ∷ later
+    → new ≡ changed_over change x.1 (areas_from now x) now → changed_from_all change left now ≡ whole → changed_from_all change later new ≡ whole
+from-then change now new whole left later x e is so_far =
+    ap (changed_from_all change later) is ∙ sym (ap (λ homes. changed_from_all change homes now) e) ∙ so_far
 
-    abbrev named : Bool
-    named = names_frame f (before.entry t.area.pid (page_at i t.area))
+either : (b : Bool) {c : Bool} → c ≡ true → (b || c) ≡ true
+either true h = refl
+either false h = h
 
-    parts : left ≡ cond named (key ∷ []) [] ++ later
-    parts = t.walk ∙ ap (λ o. found_in before (names_frame f) i o ++ later) t.stands ∙ ap (λ b. cond (b && named) (key ∷ []) [] ++ later) t.there
+-- a page that is reached from a home is found there
+reached-found : (view : View) (x : Item) (p page : ℕ) → AreSpanned view → IsReached view x p page
+    → list_any (λ a. is_page x.1 (view.areas a) p page) (areas_from view x) ≡ true
+reached-found view x p page spanned r =
+    any-where (λ a. is_page x.1 (view.areas a) p page) r.number (ap (λ o. is_page x.1 o p page) r.stands ∙ at) (areas_from view x)
+    (some (how_many (λ a. a == r.number) (areas_from view x)) (one-area view x p page spanned r))
+  where
+    there : (holds x.1 r.area ≡ true) × (page_at x.1 r.area ≡ page)
+    there = has-holds r.area page x.1 r.here r.index
 
-    itself : same_key key key ≡ true
-    itself = grind (arith, nat_tests)
+    at : (p == r.area.pid && page == page_at x.1 r.area) ≡ true
+    at = let of = r.of in let on = there.1 in grind (arith, nat_tests, of, on)
 
-    here : how_many (same_key key) left ≡ cond named 1 0 + how_many (same_key key) later
-    here = one-of key key named left later parts ∙ ap (λ b. cond (b && named) 1 0 + how_many (same_key key) later) itself
+    some : (n : ℕ) → n ≡ 1 → 0 < n
+    some n e = omega (arith, e)
 
-    pub area-now : now.areas k.1 ≡ Some t.area
-    area-now = ap (λ (v : View). v.areas k.1) h.rest ∙ t.stands
+item-found : (view : View) (x : Item) (p page : ℕ) → AreSpanned view → IsReached view x p page → (homes : List Item)
+    → is_item x homes ≡ true → is_found view homes p page ≡ true
+item-found view x p page spanned r [] h = absurd (false≢true h)
+item-found view x p page spanned r (y ∷ ys) h = by (item-found view x p page spanned r ys) (same_item x y) refl h
+  where
+    by : (is_item x ys ≡ true → is_found view ys p page ≡ true) → (b : Bool) → same_item x y ≡ b → (b || is_item x ys) ≡ true
+        → (list_any (λ a. is_page y.1 (view.areas a) p page) (areas_from view y) || is_found view ys p page) ≡ true
+    by later true e h =
+        let first : y.0 ≡ x.0 = grind (arith, nat_tests, e) in
+        let second : y.1 ≡ x.1 = grind (arith, nat_tests, e) in
+        ap (λ b. b || is_found view ys p page)
+        ((λ n. list_any (λ a. is_page (second n) (view.areas a) p page) (areas_from view (first n, second n)))
+        ∙ reached-found view x p page spanned r)
+    by later false e h = either (list_any (λ a. is_page y.1 (view.areas a) p page) (areas_from view y)) (later h)
 
-    -- its entry is as it was: it was not looked at yet, or doesn't name the frame
-    entry-now : now.entry key.0 key.1 ≡ before.entry key.0 key.1
-    entry-now = by named refl (h.each key)
-      where
-        by : (b : Bool) → named ≡ b → IsBeforeOrAfter change before left key (now.entry key.0 key.1)
-            → now.entry key.0 key.1 ≡ before.entry key.0 key.1
-        by b e (inl s) = s.1
-        by true e (inr s) = let one = here ∙ ap (λ b. cond b 1 0 + how_many (same_key key) later) e in let none = s.0 in
-            absurd (omega (arith, one, none))
-        by false e (inr s) = s.1 ∙ of.other (before.entry t.area.pid (page_at i t.area)) e
+module _ {f : ℕ} {change : Pte → Pte} (of : IsOfFrame f change) where
+  from-rest : (homes : List Item) (view : View)
+      → changed_from_all change homes view ≡ record view { entry = (changed_from_all change homes view).entry }
+  from-rest [] view = refl
+  from-rest (x ∷ homes) view =
+      let now = changed_over change x.1 (areas_from view x) view in
+      from-rest homes now
+      ∙ ap (λ (v : View). record v { entry = (changed_from_all change homes now).entry }) (over-rest change x.1 (areas_from view x) view)
 
-    -- so a test of it says now what it said before
-    pub passes-before : (passes : Pte → Bool) → passes_in now passes i (now.areas k.1) ≡ passes_in before passes i (before.areas k.1)
-    passes-before passes = ap (passes_in now passes i) area-now ∙ ap (λ e. holds i t.area && passes e) entry-now
-        ∙ sym (ap (passes_in before passes i) t.stands)
+  -- what is found, areas and spans alone say
+  found-same : (homes : List Item) (old new : View) → new ≡ record old { entry = new.entry } → (p page : ℕ)
+      → is_found new homes p page ≡ is_found old homes p page
+  found-same homes old new rest p page = ap (λ (v : View). is_found v homes p page) rest ∙ same homes
+    where
+      same : (homes : List Item) → is_found (record old { entry = new.entry }) homes p page ≡ is_found old homes p page
+      same [] = refl
+      same (x ∷ homes) = ap (λ b. list_any (λ a. is_page x.1 (old.areas a) p page) (areas_from old x) || b) (same homes)
 
-    -- a look finds one of the entries that are left, or none
-    pub left-then : (result b : Bool) → result ≡ passes_in now (names_frame f) i (now.areas k.1) → result ≡ b
-        → length left ≡ one_if b + length later
-    left-then result b named is = walk-length before (names_frame f) i after k xs t
-        ∙ ap (λ b. one_if b + length later) (sym (passes-before (names_frame f)) ∙ sym named ∙ is)
+  from-entry : (homes : List Item) (view : View) (p page : ℕ) → (changed_from_all change homes view).entry p page
+      ≡ cond (is_found view homes p page) (change (view.entry p page)) (view.entry p page)
+  from-entry [] view p page = refl
+  from-entry (x ∷ homes) view p page =
+      from-entry homes now p page
+      ∙ ap (λ b. cond b (change (now.entry p page)) (now.entry p page))
+      (found-same homes view now (over-rest change x.1 (areas_from view x) view) p page)
+      ∙ ap (λ e. cond (is_found view homes p page) (change e) e) (over-entry change x.1 of.twice (areas_from view x) view p page)
+      ∙ by here (is_found view homes p page)
+    where
+      now : View
+      now = changed_over change x.1 (areas_from view x) view
 
-    -- the entry is changed, where it was not yet
-    pub one-changed : (new : View) → new ≡ record now {
-      entry = with_entry t.area.pid (page_at i t.area) (change (now.entry t.area.pid (page_at i t.area))) now.entry;
-    } → IsChanged change before new later
-    one-changed new is = subst (λ v. IsChanged change before v later) (sym is) (record {
-      rest = λ n. record (h.rest n) { entry = with_entry t.area.pid (page_at i t.area) (change (now.entry t.area.pid (page_at i t.area))) now.entry };
-      each = λ q. by q (same_key q key) refl;
-    })
-      where
-        is_it : (q : Key) → same_key q key ≡ true → key ≡ q
-        is_it q e = λ n. (first n, second n)
-          where
-            first : key.0 ≡ q.0
-            first = grind (arith, nat_tests, e)
+      here : Bool
+      here = list_any (λ a. is_page x.1 (view.areas a) p page) (areas_from view x)
 
-            second : key.1 ≡ q.1
-            second = grind (arith, nat_tests, e)
+      by : (b c : Bool) → cond c (change (cond b (change (view.entry p page)) (view.entry p page)))
+          (cond b (change (view.entry p page)) (view.entry p page)) ≡ cond (b || c) (change (view.entry p page)) (view.entry p page)
+      by true true = of.twice (view.entry p page)
+      by true false = refl
+      by false c = refl
 
-        at_key : (b : Bool) → named ≡ b → IsBeforeOrAfter change before left key (now.entry key.0 key.1)
-            → IsBeforeOrAfter change before later key (change (now.entry key.0 key.1))
-        at_key b e (inr s) = let all = here in let none = s.0 in
-            inr (omega (arith, all, none), ap change s.1 ∙ of.twice (before.entry key.0 key.1))
-        at_key true e (inl s) = let all = here ∙ ap (λ b. cond b 1 0 + how_many (same_key key) later) e in let one = s.0 in
-            inr (omega (arith, all, one), ap change s.1)
-        at_key false e (inl s) = let all = here ∙ ap (λ b. cond b 1 0 + how_many (same_key key) later) e in let one = s.0 in
-            inl (omega (arith, all, one), ap change s.1 ∙ of.other (before.entry key.0 key.1) e)
+  -- where the homes cover the frame's entries, all are changed
+  pub all-changed : (homes : List Item) (view : View) → AreSpanned view → AreCovered view (names_frame f) homes
+      → changed_from_all change homes view ≡ with_changed change view
+  all-changed homes view spanned covered =
+      from-rest homes view
+      ∙ (λ n. record view { entry = λ p page. (from-entry homes view p page ∙ each p page (names_frame f (view.entry p page)) refl) n })
+    where
+      each : (p page : ℕ) (b : Bool) → names_frame f (view.entry p page) ≡ b
+          → cond (is_found view homes p page) (change (view.entry p page)) (view.entry p page) ≡ change (view.entry p page)
+      each p page true named =
+          let x = covered p page named in
+          ap (λ b. cond b (change (view.entry p page)) (view.entry p page)) (item-found view x.0 p page spanned x.2 homes x.1)
+      each p page false e = by (is_found view homes p page)
+        where
+          by : (b : Bool) → cond b (change (view.entry p page)) (view.entry p page) ≡ change (view.entry p page)
+          by true = refl
+          by false = sym (of.other (view.entry p page) e)
 
-        elsewhere : (q : Key) → same_key q key ≡ false → IsBeforeOrAfter change before left q (now.entry q.0 q.1)
-            → IsBeforeOrAfter change before later q (now.entry q.0 q.1)
-        elsewhere q e s = by s
-          where
-            all : how_many (same_key q) left ≡ 0 + how_many (same_key q) later
-            all = one-of q key named left later parts ∙ ap (λ b. cond (b && named) 1 0 + how_many (same_key q) later) e
-
-            by : IsBeforeOrAfter change before left q (now.entry q.0 q.1) → IsBeforeOrAfter change before later q (now.entry q.0 q.1)
-            by (inl s) = let a = all in let one = s.0 in inl (omega (arith, a, one), s.1)
-            by (inr s) = let a = all in let none = s.0 in inr (omega (arith, a, none), s.1)
-
-        by : (q : Key) (b : Bool) → same_key q key ≡ b
-            → IsBeforeOrAfter change before later q (cond b (change (now.entry key.0 key.1)) (now.entry q.0 q.1))
-        by q true e = subst (λ (j : Key). IsBeforeOrAfter change before later j (change (now.entry key.0 key.1))) (is_it q e)
-            (at_key named refl (h.each key))
-        by q false e = elsewhere q e (h.each q)
+  -- so it is from one home
+  pub home-changed : (home : ℕ × ℕ) (view : View) → AreSpanned view → IsCovered view (names_frame f) home
+      → changed_over change home.1 (areas_from view home) view ≡ with_changed change view
+  home-changed home view spanned covered =
+      all-changed (home ∷ []) view spanned (λ p page named. (home, alone, covered p page named))
+    where
+      alone : is_item home (home ∷ []) ≡ true
+      alone = grind (arith, nat_tests)

@@ -1,20 +1,18 @@
--- What a walk through the spans of the home's anon_vma finds: the entries that pass the test, each once.
+-- What the looks from a home find: the entries that pass the test, each once.
 use Rattle.std.proofs.Common.{◌≡◌, ℕ, zero, suc, ◌+◌, ◌<◌, Bool, true, false, cond, ◌&&◌, List, [], ◌∷◌, ◌++◌, Option, Some, None, length, refl, sym, ap, subst, ◌∙◌, arith, inl, inr, ◌==◌, eq-eqb, ne_eqb}
 use Rattle.std.proofs.lemmas.Bool.{cases_eq}
 use Rattle.std.proofs.lemmas.Bool.Decides.{nat_tests}
 use Rattle.av_base.specs.Words.{how_many}
 use Rattle.av_chain.specs.Links.{one_if}
 use Rattle.av_pagetable.specs.declared.pte.Pte.{Pte}
-use Rattle.av_pagetable.specs.declared.pte.Pte.TheVariants.{Empty, Zero, Here, Away}
 use Rattle.av_vma.specs.declared.area.Area.{Area}
 use Rattle.av_vma.specs.Index.{index_of}
 use Rattle.av_vma.specs.Pages.{has_page}
-use Rattle.av_interval.specs.declared.span.Span.{Span}
-use Rattle.av_anon.specs.Spans.{is_of}
 use Rattle.av_rmap.specs.Covered.{IsCovered, IsReached}
 use Rattle.av_rmap.specs.View.{View, AreApart, AreSpanned}
-use Rattle.av_rmap.specs.Walk.{Key, same_key, names_frame, names_seen, holds, page_at, found_in, walk_of, AreItsEntries, HasSoMany}
-use Rattle.av_rmap.proofs.SpanLemmas.{one-span}
+use Rattle.av_rmap.specs.Walk.{Key, same_key, areas_from, holds, page_at, found_from, found_in, walk_of, AreItsEntries, HasSoMany}
+use Rattle.av_rmap.proofs.NextAreas.{often}
+use Rattle.av_rmap.proofs.SpanLemmas.{are_spans, one-span}
 
 pub many-append : {X : Type 0} (test : X → Bool) (xs ys : List X) → how_many test (xs ++ ys) ≡ how_many test xs + how_many test ys
 many-append test [] ys = omega arith
@@ -138,87 +136,39 @@ look-none view f i k not_it (Some area) =
 
 pub walk-of : (view : View) (f : Pte → Bool) (i : ℕ) (k : Key) (n : ℕ)
     → ((a : ℕ) → how_many (same_key k) (found_in view f i (view.areas a)) ≡ cond (a == n) 1 0) →
-    (xs : List Span) → how_many (same_key k) (walk_of view f i xs) ≡ how_many (is_of n) xs
+    (areas : List ℕ) → how_many (same_key k) (walk_of view f i areas) ≡ how_many (λ a. a == n) areas
 walk-of view f i k n each [] = refl
-walk-of view f i k n each (x ∷ xs) =
-    let h = each x.area in let rest = walk-of view f i k n each xs in
-    many-append (same_key k) (found_in view f i (view.areas x.area)) (walk_of view f i xs) ∙ omega (arith, h, rest)
+walk-of view f i k n each (a ∷ areas) =
+    let h = each a in let rest = walk-of view f i k n each areas in
+    many-append (same_key k) (found_in view f i (view.areas a)) (walk_of view f i areas) ∙ omega (arith, h, rest)
 
 pub walk-none : (view : View) (f : Pte → Bool) (i : ℕ) (k : Key) → ((a : ℕ) → how_many (same_key k) (found_in view f i (view.areas a)) ≡ 0)
-    → (xs : List Span) →
-    how_many (same_key k) (walk_of view f i xs) ≡ 0
+    → (areas : List ℕ) → how_many (same_key k) (walk_of view f i areas) ≡ 0
 walk-none view f i k each [] = refl
-walk-none view f i k each (x ∷ xs) =
-    let h = each x.area in let rest = walk-none view f i k each xs in
-    many-append (same_key k) (found_in view f i (view.areas x.area)) (walk_of view f i xs) ∙ omega (arith, h, rest)
+walk-none view f i k each (a ∷ areas) =
+    let h = each a in let rest = walk-none view f i k each areas in
+    many-append (same_key k) (found_in view f i (view.areas a)) (walk_of view f i areas) ∙ omega (arith, h, rest)
+
+-- the area of an entry that the home reaches is looked in once
+pub one-area : (view : View) (home : ℕ × ℕ) (p page : ℕ) → AreSpanned view → (r : IsReached view home p page)
+    → how_many (λ a. a == r.number) (areas_from view home) ≡ 1
+one-area view home p page spanned r =
+    often view home.1 r.number r.area r.stands (has-holds r.area page home.1 r.here r.index).0 (view.spans home.0) (are_spans view home.0 spanned)
+    ∙ one-span view home.0 r.number r.area spanned r.stands r.linked
 
 -- the walk finds the entries that pass the test, where each is reached from the home
 pub walk-is : (view : View) (f : Pte → Bool) (home : ℕ × ℕ) → AreSpanned view → AreApart view → IsCovered view f home →
-    AreItsEntries view f (walk_of view f home.1 (view.spans home.0))
+    AreItsEntries view f (found_from view f home)
 walk-is view f home spanned apart covered k = is (f (view.entry k.0 k.1)) refl
   where
-    is : (b : Bool) → f (view.entry k.0 k.1) ≡ b → how_many (same_key k) (walk_of view f home.1 (view.spans home.0)) ≡ one_if (f (view.entry k.0 k.1))
+    is : (b : Bool) → f (view.entry k.0 k.1) ≡ b → how_many (same_key k) (found_from view f home) ≡ one_if (f (view.entry k.0 k.1))
     is true e =
         let r = covered k.0 k.1 e in
-        walk-of view f home.1 k r.number (look-of view f home k apart e r) (view.spans home.0)
-        ∙ one-span view home.0 r.number r.area spanned r.stands r.linked ∙ sym (ap one_if e)
-    is false e = walk-none view f home.1 k (λ a. look-none view f home.1 k e (view.areas a)) (view.spans home.0) ∙ sym (ap one_if e)
+        walk-of view f home.1 k r.number (look-of view f home k apart e r) (areas_from view home)
+        ∙ one-area view home k.0 k.1 spanned r ∙ sym (ap one_if e)
+    is false e = walk-none view f home.1 k (λ a. look-none view f home.1 k e (view.areas a)) (areas_from view home) ∙ sym (ap one_if e)
 
 -- so the looks find as many as there are
 pub walk-many : (view : View) (f : Pte → Bool) (home : ℕ × ℕ) (n : ℕ) → AreSpanned view → AreApart view → IsCovered view f home
-    → HasSoMany view f n → length (walk_of view f home.1 (view.spans home.0)) ≡ n
-walk-many view f home n spanned apart covered many =
-    many (walk_of view f home.1 (view.spans home.0)) (walk-is view f home spanned apart covered)
-
--- what is seen names the frame
-seen-names : (frame : ℕ) (e : Pte) → names_seen frame e ≡ true → names_frame frame e ≡ true
-seen-names frame Empty h = cc
-seen-names frame Zero h = cc
-seen-names frame (Here other write seen) h = first (frame == other) h
-  where
-    first : (b : Bool) → (b && seen) ≡ true → b ≡ true
-    first true h = refl
-    first false h = h
-seen-names frame (Away slot) h = cc
-
--- where the looks find no entry of the frame, they find none that is seen
-pub none-named : (view : View) (frame i : ℕ) (xs : List Span) → walk_of view (names_frame frame) i xs ≡ [] → walk_of view (names_seen frame) i xs ≡ []
-none-named view frame i [] e = refl
-none-named view frame i (x ∷ xs) e = here (none-named view frame i xs) (view.areas x.area) e
-  where
-    here : (walk_of view (names_frame frame) i xs ≡ [] → walk_of view (names_seen frame) i xs ≡ []) → (o : Option Area)
-        → found_in view (names_frame frame) i o ++ walk_of view (names_frame frame) i xs ≡ []
-        → found_in view (names_seen frame) i o ++ walk_of view (names_seen frame) i xs ≡ []
-    here later None e = later e
-    here later (Some area) e = by (holds i area) (names_frame frame (view.entry area.pid (page_at i area)))
-        (names_seen frame (view.entry area.pid (page_at i area))) (seen-names frame (view.entry area.pid (page_at i area))) e
-      where
-        key : Key
-        key = (area.pid, page_at i area)
-
-        by : (h b c : Bool) → (c ≡ true → b ≡ true) → cond (h && b) (key ∷ []) [] ++ walk_of view (names_frame frame) i xs ≡ []
-            → cond (h && c) (key ∷ []) [] ++ walk_of view (names_seen frame) i xs ≡ []
-        by false b c names e = later e
-        by true false false names e = later e
-        by true true c names e = absurd (some e)
-          where
-            some : key ∷ walk_of view (names_frame frame) i xs ≡ [] → ⊥
-            some e = cc
-        by true false true names e = absurd (two (names refl))
-          where
-            two : false ≡ true → ⊥
-            two h = cc
-
--- where the looks find nothing seen, nothing is
-pub none-seen : (view : View) (frame : ℕ) (home : ℕ × ℕ) → AreSpanned view → AreApart view → IsCovered view (names_frame frame) home →
-    walk_of view (names_seen frame) home.1 (view.spans home.0) ≡ [] → (process page : ℕ) → names_seen frame (view.entry process page) ≡ false
-none-seen view frame home spanned apart covered empty process page = is (names_seen frame (view.entry process page)) refl
-  where
-    is : (b : Bool) → names_seen frame (view.entry process page) ≡ b → b ≡ false
-    is false e = refl
-    is true e =
-        let all = walk-is view (names_seen frame) home spanned apart (λ p x h. covered p x (seen-names frame (view.entry p x) h)) (process, page) in
-        absurd (clash (sym (ap (how_many (same_key (process, page))) empty) ∙ all ∙ ap one_if e))
-      where
-        clash : ◌≡◌ {A = ℕ} 0 1 → ⊥
-        clash h = absurd (omega (arith, h))
+    → HasSoMany view f n → length (found_from view f home) ≡ n
+walk-many view f home n spanned apart covered many = many (found_from view f home) (walk-is view f home spanned apart covered)

@@ -1,16 +1,14 @@
-pub mod AheadLemmas
 pub mod Changes
 pub mod Counting
 pub mod Entries
 pub mod ItemLemmas
 pub mod LinkedAreas
 pub mod LockedLemmas
-pub mod Turns
+pub mod LookLemmas
 pub mod MergedLemmas
 pub mod NextAreas
 pub mod RootLemmas
 pub mod SeenLemmas
-pub mod SeenFrom
 pub mod SortedLemmas
 pub mod SpanLemmas
 pub mod UnmapLemmas

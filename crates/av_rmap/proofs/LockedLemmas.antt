@@ -1,83 +1,46 @@
 -- What the looks for a locked page find.
-use Rattle.std.proofs.Common.{◌≡◌, ℕ, ◌+◌, ◌<◌, Bool, true, false, cond, ◌&&◌, ◌||◌, ◌==◌, List, [], ◌∷◌, ◌++◌, Option, Some, None, length, refl, sym, ap, subst, ◌∙◌, arith}
+use Rattle.std.proofs.Common.{◌≡◌, ℕ, ◌<◌, Bool, true, false, ◌&&◌, ◌||◌, ◌==◌, List, [], ◌∷◌, Option, Some, None, refl, sym, ap, ◌∙◌, arith}
 use Rattle.std.proofs.lemmas.Bool.{false≢true}
 use Rattle.std.proofs.lemmas.Bool.Decides.{nat_tests}
 use Rattle.std.specs.List.{list_any}
-use Rattle.std.specs.Prelude.{MatchBool}
-use Rattle.av_base.specs.Words.{how_many, is_in}
-use Rattle.av_anon.specs.Spans.{is_of}
+use Rattle.av_base.specs.Words.{how_many}
 use Rattle.av_pagetable.specs.declared.pte.Pte.{Pte}
 use Rattle.av_vma.specs.declared.area.Area.{Area}
-use Rattle.av_vma.specs.Pages.{has_page}
-use Rattle.av_interval.specs.declared.span.Span.{Span}
 use Rattle.av_rmap.specs.Covered.{IsReached}
 use Rattle.av_rmap.specs.Items.{AreCovered, Item, is_item, same_item}
-use Rattle.av_rmap.specs.Locked.{IsLocked, finds_locked, is_locked}
+use Rattle.av_rmap.specs.Locked.{IsLocked, finds_locked}
 use Rattle.av_rmap.specs.View.{View, AreApart, AreSpanned}
-use Rattle.av_rmap.specs.Walk.{Key, found_in, holds, page_at, passes_in, walk_of}
-use Rattle.av_rmap.proofs.Entries.{has-holds, holds-has}
-use Rattle.av_rmap.proofs.SpanLemmas.{one-span}
-
--- an area that doesn't hold the index has no page that is looked for
-pub not-held : (view : View) (f : Pte → Bool) (i : ℕ) (area : Area) → holds i area ≡ false → finds_locked view f i (Some area) ≡ false
-not-held view f i area e =
-    ap (λ b. area.flags.locked && (b && f (view.entry area.pid (page_at i area)))) e ∙ by area.flags.locked
-  where
-    by : (b : Bool) → (b && false) ≡ false
-    by true = refl
-    by false = refl
-
--- where the looks find nothing, they find nothing locked
-pub none-locked : (view : View) (f : Pte → Bool) (i : ℕ) (xs : List Span) → walk_of view f i xs ≡ []
-    → list_any (λ x. finds_locked view f i (view.areas x.area)) xs ≡ false
-none-locked view f i [] e = refl
-none-locked view f i (x ∷ xs) e = here (none-locked view f i xs) (view.areas x.area) e
-  where
-    here : (walk_of view f i xs ≡ [] → list_any (λ y. finds_locked view f i (view.areas y.area)) xs ≡ false)
-        → (o : Option Area) → found_in view f i o ++ walk_of view f i xs ≡ []
-        → (finds_locked view f i o || list_any (λ y. finds_locked view f i (view.areas y.area)) xs) ≡ false
-    here later None h = later h
-    here later (Some area) h = by area.flags.locked (holds i area && f (view.entry area.pid (page_at i area))) h
-      where
-        one : Key
-        one = (area.pid, page_at i area)
-
-        some : one ∷ walk_of view f i xs ≡ [] → ⊥
-        some h = cc
-
-        by : (l b : Bool) → cond b (one ∷ []) [] ++ walk_of view f i xs ≡ []
-            → ((l && b) || list_any (λ y. finds_locked view f i (view.areas y.area)) xs) ≡ false
-        by l true h = absurd (some h)
-        by true false h = later h
-        by false false h = later h
+use Rattle.av_rmap.specs.Walk.{Key, areas_from, holds, page_at, passes_in}
+use Rattle.av_rmap.proofs.Entries.{has-holds, holds-has, one-area}
+use Rattle.av_rmap.proofs.NextAreas.{any-where}
 
 both : (b c : Bool) → (b && c) ≡ true → (b ≡ true) × (c ≡ true)
 both true c h = (refl, h)
 both false c h = absurd (false≢true h)
 
 -- what is found locked is an entry that passes, on a locked page
-pub some-locked : (view : View) (f : Pte → Bool) (i : ℕ) (xs : List Span) → list_any (λ x. finds_locked view f i (view.areas x.area)) xs ≡ true
+pub some-locked : (view : View) (f : Pte → Bool) (i : ℕ) (areas : List ℕ) → list_any (λ a. finds_locked view f i (view.areas a)) areas ≡ true
     → (k : Key) × (f (view.entry k.0 k.1) ≡ true) × IsLocked view k.0 k.1
 some-locked view f i [] h = absurd (false≢true h)
-some-locked view f i (x ∷ xs) h = here (some-locked view f i xs) (view.areas x.area) refl h
+some-locked view f i (a ∷ areas) h = here (some-locked view f i areas) (view.areas a) refl h
   where
     Some_one : Type 0
     Some_one = (k : Key) × (f (view.entry k.0 k.1) ≡ true) × IsLocked view k.0 k.1
 
-    here : (list_any (λ y. finds_locked view f i (view.areas y.area)) xs ≡ true → Some_one) → (o : Option Area) → view.areas x.area ≡ o
-        → (finds_locked view f i o || list_any (λ y. finds_locked view f i (view.areas y.area)) xs) ≡ true → Some_one
+    here : (list_any (λ b. finds_locked view f i (view.areas b)) areas ≡ true → Some_one) → (o : Option Area) → view.areas a ≡ o
+        → (finds_locked view f i o || list_any (λ b. finds_locked view f i (view.areas b)) areas) ≡ true → Some_one
     here later None e h = later h
     here later (Some area) e h = by (finds_locked view f i (Some area)) refl h
       where
         by : (b : Bool) → finds_locked view f i (Some area) ≡ b
-            → (b || list_any (λ y. finds_locked view f i (view.areas y.area)) xs) ≡ true → Some_one
+            → (b || list_any (λ b. finds_locked view f i (view.areas b)) areas) ≡ true → Some_one
         by true d h =
             let p = both area.flags.locked (passes_in view f i (Some area)) d in
             let q = both (holds i area) (f (view.entry area.pid (page_at i area))) p.1 in (
               (area.pid, page_at i area),
               q.1,
               record {
-                number = x.area;
+                number = a;
                 area = area;
                 stands = e;
                 of = refl;
@@ -91,26 +54,13 @@ either : (b : Bool) {c : Bool} → c ≡ true → (b || c) ≡ true
 either true h = refl
 either false h = h
 
--- a test that an area passes is passed where it has a span
-any-there : (view : View) (test : Option Area → Bool) (n : ℕ) → test (view.areas n) ≡ true → (xs : List Span) → 0 < how_many (is_of n) xs
-    → list_any (λ x. test (view.areas x.area)) xs ≡ true
-any-there view test n passes [] h = absurd (omega (arith, h))
-any-there view test n passes (x ∷ xs) h = by (any-there view test n passes xs) (x.area == n) refl h
-  where
-    by : (0 < how_many (is_of n) xs → list_any (λ y. test (view.areas y.area)) xs ≡ true) → (b : Bool) → (x.area == n) ≡ b
-        → 0 < cond b 1 0 + how_many (is_of n) xs → (test (view.areas x.area) || list_any (λ y. test (view.areas y.area)) xs) ≡ true
-    by later true e h =
-        let at : x.area ≡ n = grind (arith, nat_tests, e) in
-        ap (λ b. b || list_any (λ y. test (view.areas y.area)) xs) (ap (λ m. test (view.areas m)) at ∙ passes)
-    by later false e h = either (test (view.areas x.area)) (later (omega (arith, h)))
-
 -- an entry that is reached from a home is found there, where its page is locked
 found-locked : (view : View) (f : Pte → Bool) (home : ℕ × ℕ) (k : Key) → AreSpanned view → AreApart view → f (view.entry k.0 k.1) ≡ true
     → IsReached view home k.0 k.1 → IsLocked view k.0 k.1
-    → list_any (λ x. finds_locked view f home.1 (view.areas x.area)) (view.spans home.0) ≡ true
+    → list_any (λ a. finds_locked view f home.1 (view.areas a)) (areas_from view home) ≡ true
 found-locked view f home k spanned apart named r l =
-    any-there view (finds_locked view f home.1) r.number finds (view.spans home.0)
-    (listed (how_many (is_of r.number) (view.spans home.0)) (one-span view home.0 r.number r.area spanned r.stands r.linked))
+    any-where (λ a. finds_locked view f home.1 (view.areas a)) r.number finds (areas_from view home)
+    (listed (how_many (λ a. a == r.number) (areas_from view home)) (one-area view home k.0 k.1 spanned r))
   where
     same : {p q : Area} → Some p ≡ Some q → p ≡ q
     same e = cc
@@ -133,22 +83,22 @@ found-locked view f home k spanned apart named r l =
 abbrev pub any_from : View → (Pte → Bool) → List Item → Bool
 any_from view f [] = false
 any_from view f (x ∷ homes) =
-    list_any (λ y. finds_locked view f x.1 (view.areas y.area)) (view.spans x.0) || any_from view f homes
+    list_any (λ a. finds_locked view f x.1 (view.areas a)) (areas_from view x) || any_from view f homes
 
 -- it is so where they do from one that is there
-any-from : (view : View) (f : Pte → Bool) (x : Item) → list_any (λ y. finds_locked view f x.1 (view.areas y.area)) (view.spans x.0) ≡ true
+any-from : (view : View) (f : Pte → Bool) (x : Item) → list_any (λ a. finds_locked view f x.1 (view.areas a)) (areas_from view x) ≡ true
     → (homes : List Item) → is_item x homes ≡ true → any_from view f homes ≡ true
 any-from view f x found [] h = absurd (false≢true h)
 any-from view f x found (y ∷ ys) h = by (any-from view f x found ys) (same_item x y) refl h
   where
     by : (is_item x ys ≡ true → any_from view f ys ≡ true) → (b : Bool) → same_item x y ≡ b → (b || is_item x ys) ≡ true
-        → (list_any (λ z. finds_locked view f y.1 (view.areas z.area)) (view.spans y.0) || any_from view f ys) ≡ true
+        → (list_any (λ a. finds_locked view f y.1 (view.areas a)) (areas_from view y) || any_from view f ys) ≡ true
     by later true e h =
         let first : y.0 ≡ x.0 = grind (arith, nat_tests, e) in
         let second : y.1 ≡ x.1 = grind (arith, nat_tests, e) in
         ap (λ b. b || any_from view f ys)
-        ((λ i. list_any (λ z. finds_locked view f (second i) (view.areas z.area)) (view.spans (first i))) ∙ found)
-    by later false e h = either (list_any (λ z. finds_locked view f y.1 (view.areas z.area)) (view.spans y.0)) (later h)
+        ((λ i. list_any (λ a. finds_locked view f (second i) (view.areas a)) (areas_from view (first i, second i))) ∙ found)
+    by later false e h = either (list_any (λ a. finds_locked view f y.1 (view.areas a)) (areas_from view y)) (later h)
 
 pub none-from : (view : View) (f : Pte → Bool) (homes : List Item) → AreSpanned view → AreApart view → AreCovered view f homes
     → any_from view f homes ≡ false → (process page : ℕ) → f (view.entry process page) ≡ true → IsLocked view process page → ⊥

@@ -17,10 +17,11 @@ use Rattle.av_anon.specs.declared.infos.Info.{Info}
 use Rattle.av_rmap.specs.Covered.{IsReached}
 use Rattle.av_rmap.specs.Items.{AreCovered, AreOnce, AreRoots, AreRootsApart, Item, found_from_all, is_item, same_item}
 use Rattle.av_rmap.specs.View.{View, AreApart, AreSpanned, view_with}
-use Rattle.av_rmap.specs.Walk.{AreItsEntries, Key, found_from, found_in, same_key, walk_of}
-use Rattle.av_rmap.proofs.Entries.{look-found, look-index, look-none, look-of, many-append, not_more, walk-none, walk-of}
+use Rattle.av_rmap.specs.Walk.{AreItsEntries, Key, areas_from, found_from, found_in, same_key, walk_of}
+use Rattle.av_rmap.proofs.Entries.{has-holds, look-found, look-index, look-none, look-of, many-append, not_more, walk-none, walk-of}
 use Rattle.av_rmap.proofs.ItemLemmas.{some_item}
-use Rattle.av_rmap.proofs.SpanLemmas.{many-filter}
+use Rattle.av_rmap.proofs.NextAreas.{often}
+use Rattle.av_rmap.proofs.SpanLemmas.{are_spans, many-filter}
 
 item_is : (x y : Item) → same_item x y ≡ true → (x.0 ≡ y.0) × (x.1 ≡ y.1)
 item_is x y h = (grind (arith, nat_tests, h), grind (arith, nat_tests, h))
@@ -52,7 +53,7 @@ module _ (view : View) (f : Pte → Bool) (items : List Item) (spanned : AreSpan
     (k : Key) (named : f (view.entry k.0 k.1) ≡ true) (x : Item) (inside : is_item x items ≡ true) (r : IsReached view x k.0 k.1) where
   -- at another index it isn't found
   other_index : (y : Item) → (y.1 ≡ x.1 → ⊥) → how_many (same_key k) (found_from view f y) ≡ 0
-  other_index y ne = walk-none view f y.1 k none (view.spans y.0)
+  other_index y ne = walk-none view f y.1 k none (areas_from view y)
     where
       none : (a : ℕ) → how_many (same_key k) (found_in view f y.1 (view.areas a)) ≡ 0
       none a = by (view.areas a) refl
@@ -72,8 +73,9 @@ module _ (view : View) (f : Pte → Bool) (items : List Item) (spanned : AreSpan
   -- at its index it is found in its own area, once for the anon_vma that the area is linked to
   same_index : (y : Item) → y.1 ≡ x.1 → how_many (same_key k) (found_from view f y) ≡ one_if (is_in y.0 (view.chain r.number))
   same_index y e =
-      ap (λ i. how_many (same_key k) (walk_of view f i (view.spans y.0))) e
-      ∙ walk-of view f x.1 k r.number (look-of view f x k apart named r) (view.spans y.0)
+      ap (λ i. how_many (same_key k) (walk_of view f i (areas_from view (y.0, i)))) e
+      ∙ walk-of view f x.1 k r.number (look-of view f x k apart named r) (areas_from view (y.0, x.1))
+      ∙ often view x.1 r.number r.area r.stands (has-holds r.area k.1 x.1 r.here r.index).0 (view.spans y.0) (are_spans view y.0 spanned)
       ∙ spans-of view y.0 r.number r.area spanned r.stands
 
   -- so from one of the items, and from that one alone
@@ -110,7 +112,7 @@ found-none : (view : View) (f : Pte → Bool) (k : Key) → f (view.entry k.0 k.
     → how_many (same_key k) (found_from_all view f ys) ≡ 0
 found-none view f k e [] = refl
 found-none view f k e (y ∷ ys) =
-    let first = walk-none view f y.1 k (λ a. look-none view f y.1 k e (view.areas a)) (view.spans y.0) in
+    let first = walk-none view f y.1 k (λ a. look-none view f y.1 k e (view.areas a)) (areas_from view y) in
     let rest = found-none view f k e ys in
     many-append (same_key k) (found_from view f y) (found_from_all view f ys) ∙ omega (arith, first, rest)
 

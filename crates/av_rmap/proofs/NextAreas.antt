@@ -1,5 +1,5 @@
 -- The areas that a walk looks in, one batch after the other.
-use Rattle.std.proofs.Common.{◌≡◌, ℕ, zero, suc, ◌+◌, ◌-◌, ◌<◌, ◌≤◌, nat_lt, Bool, true, false, cond, ◌&&◌, ◌||◌, ◌==◌, ◌++◌, Option, Some, None, List, [], ◌∷◌, length, map, take, drop, refl, sym, ap, subst, ◌∙◌, arith, IsSomeAnd, IfNone, IfSome, append-nil}
+use Rattle.std.proofs.Common.{◌≡◌, ℕ, zero, suc, ◌+◌, ◌-◌, ◌<◌, ◌≤◌, nat_lt, Bool, true, false, cond, ◌||◌, ◌==◌, ◌++◌, Option, Some, None, List, [], ◌∷◌, length, take, drop, refl, sym, ap, subst, ◌∙◌, arith, IsSomeAnd, IfNone, IfSome}
 use Rattle.std.proofs.lemmas.Bool.{false≢true}
 use Rattle.std.proofs.lemmas.Bool.Decides.{nat_tests}
 use Rattle.std.proofs.lemmas.List.{take-append-drop}
@@ -16,7 +16,7 @@ use Rattle.av_rmap.specs.Looks.{ahead, behind}
 use Rattle.av_rmap.specs.View.{View, AreSpanned}
 use Rattle.av_rmap.specs.Walk.{areas_from, areas_of, holds}
 use Rattle.av_rmap.specs.declared.looks.Looks.{Looks}
-use Rattle.av_rmap.proofs.SpanLemmas.{AreSpans, IsSpanOf, are_spans, overlaps-holds}
+use Rattle.av_rmap.proofs.SpanLemmas.{AreSpans, are_spans, at-most-one, overlaps-holds}
 
 -- ---- batches
 
@@ -160,6 +160,20 @@ often view i n area stands there (x ∷ xs) all = by (overlaps i x) refl (x.area
     by true e c e' h = ap (λ d. cond d 1 0 + how_many (λ a. a == n) others) e' ∙ ap (λ m. cond c 1 0 + m) h
     by false e true e' h = absurd (false≢true (sym e ∙ reaches e'))
     by false e false e' h = omega (arith, h)
+
+-- none stands there more than once
+pub once-each : (view : View) (home : ℕ × ℕ) → AreSpanned view → (n : ℕ) → how_many (λ a. a == n) (areas_from view home) ≤ 1
+once-each view home spanned n = let some = no-more (view.spans home.0) in let one = at-most-one view home.0 n spanned in omega (arith, some, one)
+  where
+    no-more : (xs : List Span) → how_many (λ a. a == n) (areas_of (overlaps_past None home.1 xs)) ≤ how_many (is_of n) xs
+    no-more [] = omega arith
+    no-more (x ∷ xs) = by (overlaps home.1 x) (no-more xs)
+      where
+        by : (b : Bool) → how_many (λ a. a == n) (areas_of (overlaps_past None home.1 xs)) ≤ how_many (is_of n) xs
+            → how_many (λ a. a == n) (areas_of (cond b ((x.first, x.area) ∷ overlaps_past None home.1 xs) (overlaps_past None home.1 xs)))
+            ≤ cond (is_of n x) 1 0 + how_many (is_of n) xs
+        by true h = omega (arith, h)
+        by false h = omega (arith, h)
 
 -- a test that an area passes is passed where it stands
 pub any-where : (test : ℕ → Bool) (n : ℕ) → test n ≡ true → (areas : List ℕ) → 0 < how_many (λ a. a == n) areas → list_any test areas ≡ true

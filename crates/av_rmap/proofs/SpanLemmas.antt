@@ -1,5 +1,5 @@
 -- The spans of an anon_vma are those of areas, each area's once.
-use Rattle.std.proofs.Common.{◌≡◌, ℕ, ◌+◌, Bool, true, false, cond, List, [], ◌∷◌, filter, length, Option, Some, None, refl, sym, ap, subst, ◌∙◌, arith, eq-eqb}
+use Rattle.std.proofs.Common.{◌≡◌, ℕ, ◌+◌, ◌≤◌, Bool, true, false, cond, List, [], ◌∷◌, filter, length, Option, Some, None, refl, sym, ap, subst, ◌∙◌, arith, eq-eqb}
 use Rattle.std.proofs.lemmas.Bool.Decides.{nat_tests}
 use Rattle.std.specs.List.{AllByRecursion}
 use Rattle.av_base.specs.Words.{how_many, is_in}
@@ -62,6 +62,15 @@ many-filter n (x ∷ xs) = step (is_of n x) (many-filter n xs)
         → cond b 1 0 + how_many (is_of n) xs ≡ length (cond b (x ∷ filter (is_of n) xs) (filter (is_of n) xs))
     step true h = omega (arith, h)
     step false h = omega (arith, h)
+
+pub at-most-one : (view : View) (v n : ℕ) → AreSpanned view → how_many (is_of n) (view.spans v) ≤ 1
+at-most-one view v n s = let all = many-filter n (view.spans v) ∙ ap length (s.spanned.each v n) in
+    let few = by (is_in v (view.chain n)) (view.areas n) in omega (arith, all, few)
+  where
+    by : (b : Bool) (o : Option Area) → length (cond b (present n o) []) ≤ 1
+    by false o = omega arith
+    by true None = omega arith
+    by true (Some area) = omega arith
 
 pub one-span : (view : View) (v n : ℕ) (area : Area) → AreSpanned view → view.areas n ≡ Some area → is_in v (view.chain n) ≡ true →
     how_many (is_of n) (view.spans v) ≡ 1

@@ -1,14 +1,11 @@
--- What a slot in the place of a frame makes of an entry, and of all, one look after the other.
-use Rattle.std.proofs.Common.{◌≡◌, ℕ, Bool, true, false, cond, ◌==◌, List, Option, Some, refl, ap, ◌∙◌}
+-- What a slot in the place of a frame makes of an entry.
+use Rattle.std.proofs.Common.{◌≡◌, ℕ, Bool, true, false, cond, ◌==◌, refl, ap}
 use Rattle.av_base.specs.declared.slot.Slot.{Slot}
 use Rattle.av_pagetable.specs.declared.pte.Pte.{Pte}
 use Rattle.av_pagetable.specs.declared.pte.Pte.TheVariants.{Empty, Zero, Here, Away}
-use Rattle.av_interval.specs.declared.span.Span.{Span}
-use Rattle.av_rmap.specs.Unmap.{away, away_in}
-use Rattle.av_rmap.specs.View.{View}
-use Rattle.av_rmap.specs.Walk.{names_frame, walk_of}
-use Rattle.av_rmap.proofs.Changes.{IsChanged, IsOfFrame, area-now, one-changed}
-use Rattle.av_rmap.proofs.Turns.{Found, rest}
+use Rattle.av_rmap.specs.Unmap.{away}
+use Rattle.av_rmap.specs.Walk.{names_frame}
+use Rattle.av_rmap.proofs.Changes.{IsOfFrame}
 
 away-twice : (f : ℕ) (s : Slot) (e : Pte) → away f s (away f s e) ≡ away f s e
 away-twice f s Empty = refl
@@ -29,10 +26,3 @@ away-other f s (Away slot) h = refl
 
 pub sends : (f : ℕ) (s : Slot) → IsOfFrame f (away f s)
 sends f s = record { twice = away-twice f s; other = away-other f s }
-
--- one look
-pub one-unmapped : (f : ℕ) (s : Slot) (before now new : View) (i : ℕ) (after : Option (ℕ × ℕ)) (k : ℕ × ℕ) (xs : List Span) →
-    IsChanged (away f s) before now (walk_of before (names_frame f) i (rest after xs)) → Found before (names_frame f) i after k xs →
-    new ≡ away_in f s i (now.areas k.1) now → IsChanged (away f s) before new (walk_of before (names_frame f) i (rest (Some k) xs))
-one-unmapped f s before now new i after k xs h t is = one-changed (sends f s) before now i after k xs h t new
-    (is ∙ ap (λ o. away_in f s i o now) (area-now (sends f s) before now i after k xs h t))

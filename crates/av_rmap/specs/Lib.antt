@@ -1,4 +1,4 @@
-pub mod Ahead
+pub mod Changed
 pub mod Covered
 pub mod ItemLists
 pub mod Items

@@ -10,7 +10,6 @@ use Rattle.av_vma.specs.declared.area.Area.{Area}
 use Rattle.av_vma.specs.Index.{first_of, past_of}
 use Rattle.av_interval.specs.Batch.{overlaps_past}
 use Rattle.av_interval.specs.Search.{overlaps}
-use Rattle.av_interval.specs.declared.span.Span.{Span}
 use Rattle.av_rmap.specs.View.{View}
 use Rattle.av_rmap.specs.declared.target.Target.{Target}
 use Rattle.av_rmap.specs.declared.target.Target.TheVariants as target
@@ -98,25 +97,25 @@ found_in view passes index (Some area) =
     if holds index area && passes (view.entry area.pid (page_at index area))
     then (area.pid, page_at index area) ∷ [] else []
 
--- what a look in the area of each span finds
-abbrev pub walk_of : View → (Pte → Bool) → ℕ → List Span → List Key
+-- what a look in each of these areas finds
+abbrev pub walk_of : View → (Pte → Bool) → ℕ → List ℕ → List Key
 walk_of view passes index [] = []
-walk_of view passes index (x ∷ xs) =
-    found_in view passes index (view.areas x.area) ++ walk_of view passes index xs
+walk_of view passes index (a ∷ areas) =
+    found_in view passes index (view.areas a) ++ walk_of view passes index areas
 
 -- what all looks from a home find
 abbrev pub found_from : View → (Pte → Bool) → ℕ × ℕ → List Key
-found_from view passes home = walk_of view passes home.1 (view.spans home.0)
+found_from view passes home = walk_of view passes home.1 (areas_from view home)
 
 abbrev pub list_of : Option Key → List Key
 list_of None = []
 list_of (Some k) = k ∷ []
 
--- how many looks find all entries that pass: one for each span that overlaps the index, up to the
--- last one with such an entry
-abbrev pub looks_to_last : View → (Pte → Bool) → ℕ → List Span → ℕ
+-- how many looks in these areas find all entries that pass: all up to the last area with such an
+-- entry
+abbrev pub looks_to_last : View → (Pte → Bool) → ℕ → List ℕ → ℕ
 looks_to_last view passes index [] = 0
-looks_to_last view passes index (x ∷ xs) =
-    if looks_to_last view passes index xs == 0
-    then one_if (passes_in view passes index (view.areas x.area))
-    else one_if (overlaps index x) + looks_to_last view passes index xs
+looks_to_last view passes index (a ∷ areas) =
+    if looks_to_last view passes index areas == 0
+    then one_if (passes_in view passes index (view.areas a))
+    else 1 + looks_to_last view passes index areas

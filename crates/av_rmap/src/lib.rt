@@ -25,6 +25,12 @@
 //! last is so where each item is of a root, by chain order. `clear_seen_items` takes as many, and
 //! does what `clear_seen` does wherever each entry is reached from an item.
 //!
+//! `any_locked` answers whether a page whose entry names a frame is locked, by the frame's items or
+//! its home. Proved: with such an entry if it says yes, and that there is none if it says no; it
+//! takes no more steps than a walk has looks in areas that are locked.
+//!
+//! Each of these takes its areas from `Looks`, one after the other, in the order of the spans.
+//!
 //! `Stores` shows areas, anon_vmas and page tables as they are kept, and `StoresMut` lends the
 //! tables for writing. Overlaps are found a batch at a time (`Look::next`), by a call of
 //! `Spans::overlaps`; that this is how, in one way through the tree, is no clause of `next`. Not
@@ -32,7 +38,6 @@
 //! entry that was looked at is written (`change`).
 #![tactic(auto)]
 
-mod ahead;
 pub mod covered;
 pub mod items;
 pub mod locked;

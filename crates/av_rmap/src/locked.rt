@@ -2,20 +2,23 @@
 
 ghost use Rattle.std.specs.Prelude.{◌≡◌, ℕ, ◌+◌, ◌≤◌, true, MatchBool, IsSomeAnd, Some};
 ghost use Rattle.std.specs.List.{list_any};
-ghost use Rattle.av_rmap.specs.Items.{AreCovered, looks_from_all};
-ghost use Rattle.av_rmap.specs.Locked.{IsLocked, finds_locked};
+ghost use Rattle.av_chain.specs.Links.{one_if};
+ghost use Rattle.av_rmap.specs.Items.{AreCovered};
+ghost use Rattle.av_rmap.specs.Locked.{IsLocked, finds_locked, is_locked, locked_looks};
+ghost use Rattle.av_rmap.specs.Locked.{locked_looks_all};
 ghost use Rattle.av_rmap.specs.View.{AreApart, AreSpanned};
-ghost use Rattle.av_rmap.specs.Walk.{Key, holds, looks_from, names_frame, passes_in};
+ghost use Rattle.av_rmap.specs.Walk.{Key, areas_from, holds, looks_from, names_frame};
 
-use crate::ahead::Ahead;
 use crate::look::Look;
+use crate::looks::Looks;
 use crate::target::Target;
 use av_base::Steps;
 use std::sync::ledger::Ledger;
 
 /// Whether a page whose entry names the frame is locked. `homes` are the frame's items where it is
 /// merged, else its home alone. An entry is looked at only in areas that are locked, and none behind
-/// the first that answers it: so it takes no more steps than a walk, and no memory.
+/// the first that answers it: at most one step for each look of a walk in such an area. It takes no
+/// memory.
 pub fn any_locked<K: Look<L>, L: Ledger>(
     look: &K,
     frame: u32,
@@ -30,7 +33,7 @@ pub fn any_locked<K: Look<L>, L: Ledger>(
         × IsLocked (K.view look.now) k.0 k.1)
         ((process page : ℕ) → names_frame frame ((K.view look.now).entry process page) ≡ true
         → IsLocked (K.view look.now) process page → ⊥) }
-    ensures counted { steps.new ≤ steps.old + looks_from_all (K.view look.now) homes.now }
+    ensures counted { steps.new ≤ steps.old + locked_looks_all (K.view look.now) homes.now }
 {
     for home in homes {
         if is_locked_from(look, frame, *home, steps) {
@@ -49,19 +52,15 @@ fn is_locked_from<K: Look<L>, L: Ledger>(
 ) -> bool
     requires spanned { AreSpanned (K.view look.now) }
     ensures found { result ≡ list_any
-        (λ x. finds_locked (K.view look.now) (names_frame frame) home.1
-        ((K.view look.now).areas x.area))
-        ((K.view look.now).spans home.0) }
-    ensures counted { steps.new ≤ steps.old + looks_from (K.view look.now) (Some home) }
+        (λ a. finds_locked (K.view look.now) (names_frame frame) home.1 ((K.view look.now).areas a))
+        (areas_from (K.view look.now) home) }
+    ensures counted { steps.new ≤ steps.old + locked_looks (K.view look.now) home }
 {
-    let (anon, index) = home;
-    let mut ahead = Ahead::new(look, anon, index);
-    let mut after = None;
-    'looks: while let Some((first, area)) = ahead.next(look, anon, index, after) {
-        if is_locked_in(look, frame, index, area, steps) {
+    let mut looks = Looks::new(look, home);
+    while let Some(area) = looks.next(look) {
+        if is_locked_in(look, frame, home.1, area, steps) {
             return true;
         }
-        after = Some((first, area));
     }
     false
 }
@@ -78,7 +77,8 @@ fn is_locked_in<K: Look<L>, L: Ledger>(
     requires { IsSomeAnd ((K.view look.now).areas area) (λ a. holds index a ≡ true) }
     ensures found { result ≡ finds_locked (K.view look.now) (names_frame frame) index
         ((K.view look.now).areas area) }
-    ensures counted { steps.new ≤ steps.old + 1 }
+    ensures counted { steps.new
+        ≤ steps.old + one_if (is_locked ((K.view look.now).areas area)) }
 {
     if !look.is_locked(area) {
         return false;

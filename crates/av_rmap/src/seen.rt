@@ -5,12 +5,12 @@ ghost use Rattle.std.specs.Prelude.{◌≡◌, ℕ, ◌+◌, true, false, is_som
 ghost use Rattle.std.specs.Prelude.{MatchBool, Some};
 ghost use Rattle.av_rmap.specs.Covered.{IsCovered};
 ghost use Rattle.av_rmap.specs.Items.{AreCovered, looks_from_all};
-ghost use Rattle.av_rmap.specs.Seen.{unseen_in, unseen_over, with_unseen};
+ghost use Rattle.av_rmap.specs.Changed.{changed_in, changed_over};
+ghost use Rattle.av_rmap.specs.Seen.{unseen, with_unseen};
 ghost use Rattle.av_rmap.specs.View.{AreApart, AreSpanned};
 ghost use Rattle.av_rmap.specs.Walk.{HasSoMany, Key, areas_from, holds, looks_from};
 ghost use Rattle.av_rmap.specs.Walk.{looks_to_last, names_frame, names_seen, passes_in};
 
-use crate::ahead::Ahead;
 use crate::look::{Look, LookMut};
 use crate::looks::Looks;
 use av_base::Steps;
@@ -38,25 +38,22 @@ pub fn clear_seen<K: LookMut<L>, L: Ledger>(
     ensures cleared { K.view look.new ≡ with_unseen frame (K.view look.old) }
     ensures kept { K.kept look.new ≡ K.kept look.old }
     ensures counted { steps.new ≡ steps.old + looks_to_last (K.view look.old) (names_frame frame)
-        home.1 ((K.view look.old).spans home.0) }
+        home.1 (areas_from (K.view look.old) home) }
 {
     if maps == 0 {
         return false;
     }
-    let (anon, index) = home;
-    let mut ahead = Ahead::new(look, anon, index);
-    let mut after = None;
+    let mut looks = Looks::new(look, home);
     let mut left = maps;
     let mut any_seen = false;
-    'looks: while left > 0 {
-        let Some((first, area)) = ahead.next(look, anon, index, after) else {
+    'areas: while left > 0 {
+        let Some(area) = looks.next(look) else {
             unreachable!();
         };
-        if let Some(seen) = clear_in(look, frame, index, area, steps) {
+        if let Some(seen) = clear_in(look, frame, home.1, area, steps) {
             any_seen |= seen;
             left -= 1;
         }
-        after = Some((first, area));
     }
     any_seen
 }
@@ -97,7 +94,7 @@ fn clear_seen_from<K: LookMut<L>, L: Ledger>(
     ensures seen { MatchBool result
         ((k : Key) × (names_seen frame ((K.view look.old).entry k.0 k.1) ≡ true))
         (K.view look.new ≡ K.view look.old) }
-    ensures cleared { K.view look.new ≡ unseen_over frame home.1
+    ensures cleared { K.view look.new ≡ changed_over (unseen frame) home.1
         (areas_from (K.view look.old) home) (K.view look.old) }
     ensures kept { K.kept look.new ≡ K.kept look.old }
     ensures counted { steps.new ≡ steps.old + looks_from (K.view look.old) (Some home) }
@@ -125,7 +122,7 @@ fn clear_in<K: LookMut<L>, L: Ledger>(
     ensures seen { unwrap_or result false
         ≡ passes_in (K.view look.old) (names_seen frame) index ((K.view look.old).areas area) }
     ensures cleared { K.view look.new
-        ≡ unseen_in frame index ((K.view look.old).areas area) (K.view look.old) }
+        ≡ changed_in (unseen frame) index ((K.view look.old).areas area) (K.view look.old) }
     ensures kept { K.kept look.new ≡ K.kept look.old }
     ensures counted { steps.new ≡ steps.old + 1 }
 {

@@ -1,14 +1,15 @@
 //! The entries of a frame that goes to its slot: each names the slot in the place of the frame.
 
 ghost use Rattle.std.specs.Prelude.{◌≡◌, ◌+◌, true, IsSomeAnd};
+ghost use Rattle.av_rmap.specs.Changed.{changed_in};
 ghost use Rattle.av_rmap.specs.Covered.{IsCovered};
-ghost use Rattle.av_rmap.specs.Unmap.{away_in, with_away};
+ghost use Rattle.av_rmap.specs.Unmap.{away, with_away};
 ghost use Rattle.av_rmap.specs.View.{AreApart, AreSpanned};
-ghost use Rattle.av_rmap.specs.Walk.{HasSoMany, holds, looks_to_last, names_frame};
+ghost use Rattle.av_rmap.specs.Walk.{HasSoMany, areas_from, holds, looks_to_last, names_frame};
 ghost use Rattle.av_rmap.specs.Walk.{passes_in};
 
-use crate::ahead::Ahead;
 use crate::look::{Look, LookMut};
+use crate::looks::Looks;
 use av_base::{Slot, Steps};
 use av_pagetable::Pte;
 use std::sync::ledger::Ledger;
@@ -31,23 +32,20 @@ pub fn unmap<K: LookMut<L>, L: Ledger>(
     ensures unmapped { K.view look.new ≡ with_away frame slot (K.view look.old) }
     ensures kept { K.kept look.new ≡ K.kept look.old }
     ensures counted { steps.new ≡ steps.old + looks_to_last (K.view look.old) (names_frame frame)
-        home.1 ((K.view look.old).spans home.0) }
+        home.1 (areas_from (K.view look.old) home) }
 {
     if maps == 0 {
         return;
     }
-    let (anon, index) = home;
-    let mut ahead = Ahead::new(look, anon, index);
-    let mut after = None;
+    let mut looks = Looks::new(look, home);
     let mut left = maps;
-    'looks: while left > 0 {
-        let Some((first, area)) = ahead.next(look, anon, index, after) else {
+    'areas: while left > 0 {
+        let Some(area) = looks.next(look) else {
             unreachable!();
         };
-        if unmap_in(look, frame, slot, index, area, steps) {
+        if unmap_in(look, frame, slot, home.1, area, steps) {
             left -= 1;
         }
-        after = Some((first, area));
     }
 }
 
@@ -65,7 +63,7 @@ fn unmap_in<K: LookMut<L>, L: Ledger>(
     ensures named { result
         ≡ passes_in (K.view look.old) (names_frame frame) index ((K.view look.old).areas area) }
     ensures unmapped { K.view look.new
-        ≡ away_in frame slot index ((K.view look.old).areas area) (K.view look.old) }
+        ≡ changed_in (away frame slot) index ((K.view look.old).areas area) (K.view look.old) }
     ensures kept { K.kept look.new ≡ K.kept look.old }
     ensures counted { steps.new ≡ steps.old + 1 }
 {

@@ -10,8 +10,8 @@ ghost use Rattle.av_rmap.specs.Covered.{IsCovered};
 ghost use Rattle.av_rmap.specs.Walk.{AreItsEntries, Key, found_from, found_in, holds, list_of};
 ghost use Rattle.av_rmap.specs.Walk.{looks_from, names};
 
-use crate::ahead::Ahead;
 use crate::look::Look;
+use crate::looks::Looks;
 use crate::target::Target;
 use av_base::Steps;
 use std::sync::ledger::Ledger;
@@ -57,14 +57,11 @@ pub(crate) fn find_from<K: Look<L>, L: Ledger>(
     ensures capacity { vec_capacity into.new ≡ vec_capacity into.old }
     ensures counted { steps.new ≡ steps.old + looks_from (K.view look.now) (Some home) }
 {
-    let (anon, index) = home;
-    let mut ahead = Ahead::new(look, anon, index);
-    let mut after = None;
-    'looks: while let Some((first, area)) = ahead.next(look, anon, index, after) {
-        if let Some(key) = look_at(look, target, index, area, steps) {
+    let mut looks = Looks::new(look, home);
+    while let Some(area) = looks.next(look) {
+        if let Some(key) = look_at(look, target, home.1, area, steps) {
             into.push_reserved(key);
         }
-        after = Some((first, area));
     }
 }
 

@@ -5,7 +5,7 @@ use Rattle.av_base.specs.declared.slot.Slot.{Slot}
 use Rattle.av_trace.specs.declared.note.Note.TheVariants.{Dropped}
 use Rattle.av_plain.specs.Device.{Device}
 use Rattle.av_plain.specs.Event.{after_all, after_move, after_note, after_zap, note_events, off_cache, when}
-use Rattle.av_plain.specs.Ledger.{InSlot, Key, Ledger, Setting, entry, frame_at, in_flight, is_orphan, is_stale, is_unmapped, same_slot, slot_entries}
+use Rattle.av_plain.specs.Ledger.{Key, Ledger, Setting, entry, frame_at, in_flight, is_orphan, is_stale, is_unmapped, same_slot, slot_entries}
 use Rattle.av_plain.specs.Mremap.{remap_events}
 use Rattle.av_plain.specs.Sound.{IsSound}
 use Rattle.av_plain.specs.Stands.{BytesStand, IsClean, IsKept, View}

@@ -1,12 +1,12 @@
 -- The memories after events of which none is a load: they stay as they were.
-use Rattle.std.proofs.Common.{◌≡◌, ℕ, ◌-◌, true, List, refl, sym, ap}
+use Rattle.std.proofs.Common.{◌≡◌, ℕ, true, List, refl, sym, ap}
 use Rattle.std.specs.List.{list_all}
 use Rattle.av_base.specs.Page.{page_of}
 use Rattle.av_trace.specs.declared.command.Command.{Command}
 use Rattle.av_trace.specs.declared.place.Place.{Place}
 use Rattle.av_trace.specs.declared.place.Place.TheVariants.{Auto, At, Fixed, NoReplace}
 use Rattle.av_trace.specs.declared.reply.Answer.{Answer}
-use Rattle.av_plain.specs.Event.{Event, after}
+use Rattle.av_plain.specs.Event.{Event}
 use Rattle.av_plain.specs.Ledger.{Ledger, Setting}
 use Rattle.av_plain.specs.Map.{zaps_for_place}
 use Rattle.av_plain.specs.Step.{next, next_world}

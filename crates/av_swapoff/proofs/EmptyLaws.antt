@@ -8,7 +8,6 @@ use Rattle.std.proofs.lemmas.Option.{slice_get_past}
 use Rattle.av_base.specs.Page.{address_of}
 use Rattle.av_base.specs.Words.{how_many}
 use Rattle.av_base.specs.declared.slot.Slot.{Slot}
-use Rattle.av_io.specs.Count.{RoseBy}
 use Rattle.av_trace.specs.declared.note.Note.{Note}
 use Rattle.av_trace.specs.declared.note.Note.TheVariants.{Aged, Copied, Dropped, Failed, Joined, Kept, Loaded, Mapped, Moved, New, Put, Shared, Started, Unmapped, Written, Zeroed}
 use Rattle.av_plain.specs.Areas.{Rmap}
@@ -18,7 +17,7 @@ use Rattle.av_plain.specs.Ledger.{InSlot, Key, Ledger, Setting, frame_at, has_fr
 use Rattle.av_plain.specs.Pass.{Completes, Spared, TakesFor, fails, is_fail, out_of}
 use Rattle.av_plain.specs.Sound.{IsSound, count, is_there, slots}
 use Rattle.av_plain.specs.Swapoff as plain
-use Rattle.av_plain.specs.Swapoff.{EndsAt, IsEmptied, IsFetched, NoRoom, end_at, map_notes, sparing_area}
+use Rattle.av_plain.specs.Swapoff.{EndsAt, IsEmptied, IsFetched, NoRoom, map_notes, sparing_area}
 use Rattle.av_plain.specs.Load.{with_loads}
 use Rattle.av_plain.specs.World.{World}
 use Rattle.av_plain.proofs.Access.{after_notes-append}
@@ -32,7 +31,7 @@ use Rattle.av_plain.proofs.Sound.There.{AreLawful, IsLawful, NoNew, counted-slot
 use Rattle.av_evict.specs.System.{Gives, Goes, SystemView, spares}
 use Rattle.av_evict.proofs.SeekLaws.{completed-landed}
 use Rattle.av_evict.proofs.SystemLaws.{goes-then}
-use Rattle.av_swapoff.specs.Empty.{EmptiesAllBy, EmptiesEach, EmptiesEachBy, EmptiesPage, EmptiesPageBy, EmptiesSlotBy, IsStuck, MayEmpty, MayEmptyEach, close_of, failed_by, lost_by}
+use Rattle.av_swapoff.specs.Empty.{EmptiesAllBy, EmptiesEachBy, EmptiesPage, EmptiesPageBy, EmptiesSlotBy, IsStuck, MayEmpty, MayEmptyEach, close_of, failed_by, lost_by}
 use Rattle.av_swapoff.specs.Slot.{IsIn, MayFetch, mapped_notes}
 use Rattle.av_swapoff.specs.System.{AreUsers, IsUser, MayLoad, slot_at}
 use Rattle.av_swapoff.specs.declared.empty.EmptyEnd.{EmptyEnd}
@@ -127,8 +126,8 @@ lawful-maps m closing l f [] s = (tt, tt)
 lawful-maps m closing l f (k ∷ ks) s = (tt, lawful-maps m closing (after_note (Mapped k.0 (address_of k.1) f) l) f ks s)
 
 -- what a pass leaves alone while the area is closing, by the frames of locked pages
-abbrev pub leaving : (ℕ → Bool) → ℕ → Spared
-leaving locked k = record { pinned = None; locked = locked; closing = Some k }
+abbrev pub spares_area : (ℕ → Bool) → ℕ → Spared
+spares_area locked k = record { pinned = None; locked = locked; closing = Some k }
 
 -- the page was fetched: what that keeps
 pub record FetchKept (m : Setting) (k : ℕ) (s : Slot) (f : ℕ) (l : Ledger) (ns : List Note) : Type 0 where
@@ -138,14 +137,14 @@ pub record FetchKept (m : Setting) (k : ℕ) (s : Slot) (f : ℕ) (l : Ledger) (
   pub steady : Steady l (after_notes l ns)
 
 pub fetch-kept : (m : Setting) (locked : ℕ → Bool) (k : ℕ) (l : Ledger) (s : Slot) (u : Key) (f : ℕ) (ns : List Note) → IsSound m l → MayFetch s u l →
-    IsFetched m (leaving locked k) l s f ns → FetchKept m k s f l ns
+    IsFetched m (spares_area locked k) l s f ns → FetchKept m k s f l ns
 fetch-kept m locked k l s u f ns sound may fetches = by (frame_at l s) refl fetches
   where
     at : IsIn s f (after_notes l ns)
-    at = fetched-in m (leaving locked k) l s u f ns sound may fetches
+    at = fetched-in m (spares_area locked k) l s u f ns sound may fetches
 
     by : (o : Option ℕ) → frame_at l s ≡ o →
-        MatchOption o (TakesFor m (leaving locked k) l ns (Loaded s) × (frame_at (after_notes l ns) s ≡ Some f)) (λ g. (ns ≡ []) × (f ≡ g)) →
+        MatchOption o (TakesFor m (spares_area locked k) l ns (Loaded s) × (frame_at (after_notes l ns) s ≡ Some f)) (λ g. (ns ≡ []) × (f ≡ g)) →
         FetchKept m k s f l ns
     by (Some g) is h = record {
       sound = subst (λ x. IsSound m (after_notes l x)) (sym h.0) sound;
@@ -156,14 +155,14 @@ fetch-kept m locked k l s u f ns sound may fetches = by (frame_at l s) refl fetc
     by None is h = record {
       sound = subst (IsSound m) (sym whole) (load-sound m l1 s u t.frame p named t.in_range t.free);
       lawful = lawful-is m (Some k) l ns (t.sought ++ Loaded s t.frame ∷ []) t.whole
-          (lawful-append m (Some k) l t.sought (Loaded s t.frame ∷ []) (lawful-seeks m (leaving locked k) l t.sought t.seeks)
+          (lawful-append m (Some k) l t.sought (Loaded s t.frame ∷ []) (lawful-seeks m (spares_area locked k) l t.sought t.seeks)
           (how_many-found (names_slot s) u l1.entries (InSlot s) named.named (slot-itself s), tt));
       at = at;
       steady = subst (Steady l) (sym whole)
-          (λ r q i. steady-loaded l1 s t.frame r q (steady-seeks m (leaving locked k) l t.sought sound may.landed t.seeks r q i));
+          (λ r q i. steady-loaded l1 s t.frame r q (steady-seeks m (spares_area locked k) l t.sought sound may.landed t.seeks r q i));
     }
       where
-        t : TakesFor m (leaving locked k) l ns (Loaded s)
+        t : TakesFor m (spares_area locked k) l ns (Loaded s)
         t = h.0
 
         l1 : Ledger
@@ -173,10 +172,10 @@ fetch-kept m locked k l s u f ns sound may fetches = by (frame_at l s) refl fetc
         whole = ap (after_notes l) h.0.whole ∙ after_notes-append l h.0.sought (Loaded s h.0.frame ∷ [])
 
         p : IsSound m (after_notes l h.0.sought)
-        p = (seeks-kept m (leaving locked k) l h.0.sought sound h.0.seeks).sound
+        p = (seeks-kept m (spares_area locked k) l h.0.sought sound h.0.seeks).sound
 
         named : MayLoad m s u (after_notes l h.0.sought)
-        named = sought-may_load m (leaving locked k) l s u h.0.sought sound may (record { absent = is; seeks = h.0.seeks })
+        named = sought-may_load m (spares_area locked k) l s u h.0.sought sound may (record { absent = is; seeks = h.0.seeks })
             (has_free-some m (after_notes l h.0.sought) h.0.frame h.0.in_range h.0.free)
 
 pub record BringKept (m : Setting) (k : ℕ) (s : Slot) (l : Ledger) (ns : List Note) : Type 0 where
@@ -186,7 +185,7 @@ pub record BringKept (m : Setting) (k : ℕ) (s : Slot) (l : Ledger) (ns : List 
   pub steady : SteadyBut s l (after_notes l ns)
 
 module _ (m : Setting) (locked : ℕ → Bool) (k : ℕ) (l : Ledger) (s : Slot) (u : Key) (ns : List Note) (sound : IsSound m l) (may : MayFetch s u l)
-    (b : IsEmptied m (leaving locked k) l s ns) where
+    (b : IsEmptied m (spares_area locked k) l s ns) where
   kept : FetchKept m k s b.frame l b.fetched
   kept = fetch-kept m locked k l s u b.frame b.fetched sound may b.fetches
 
@@ -338,7 +337,7 @@ pub record SlotEmptied (m : Setting) (locked : ℕ → Bool) (area page : ℕ) (
 
 pub emptied-slot : (m : Setting) (locked : ℕ → Bool) (area page : ℕ) (users : List (Option Key)) (user : Option Key) (l : Ledger) (ns : List Note) →
     IsSound m l → MayEmptyEach m area users l → MayEmpty (slot_at area page) user l → NoneBelow area page l →
-    EmptiesPage m (leaving locked area) (slot_at area page) None l ns →
+    EmptiesPage m (spares_area locked area) (slot_at area page) None l ns →
     SlotEmptied m locked area page users l ns
 emptied-slot m locked area page users user l ns sound may at none (inl h) = subst (SlotEmptied m locked area page users l) (sym h.1) (record {
   none = none-more area page l l (λ s at z. z) none h.0;
@@ -360,7 +359,7 @@ emptied-slot m locked area page users user l ns sound may at none (inr h) = by u
           may = still-may m area page users l (after_notes l ns) sound (bring-sound m locked area l s u ns sound fetch h.1) gone k.idle
               k.landed k.steady may;
           more = λ w are end pages rest e.
-              (page ∷ pages, (first.0, ns, rest, first.1, refl, subst (λ x. IsEmptied m (leaving x area) l s ns) are h.1, e));
+              (page ∷ pages, (first.0, ns, rest, first.1, refl, subst (λ x. IsEmptied m (spares_area x area) l s ns) are h.1, e));
         }
 
 -- ---- in the midst of the area
@@ -387,7 +386,7 @@ page-may m area page users user l is may = record {
 
 -- the same where the system has the setting and is closing this area
 while-closing : (b : SystemView) (m : Setting) (area : ℕ) → b.setting ≡ m → b.closing ≡ Some area → (s : Slot) (end : Option EmptyEnd)
-    (l : Ledger) (ns : List Note) → EmptiesPage b.setting (spares b None) s end l ns → EmptiesPage m (leaving b.locked area) s end l ns
+    (l : Ledger) (ns : List Note) → EmptiesPage b.setting (spares b None) s end l ns → EmptiesPage m (spares_area b.locked area) s end l ns
 while-closing b m area setting closing s end l ns did =
     subst (λ k. EmptiesPage m (record { pinned = None; locked = b.locked; closing = k }) s end l ns) closing
     (subst (λ m. EmptiesPage m (spares b None) s end l ns) setting did)
@@ -472,12 +471,12 @@ emptying-stop a b c n0 n1 n2 area page users user end is closing tells t gives l
       x.1 ∙ ap (λ z. z ++ x.0) i.added ∙ append_assoc n0 i.gained x.0,
       (
         λ w r claimed.
-            let stuck = subst (λ z. IsStuck a.setting (leaving z area) (slot_at area page) end l1 x.0)
+            let stuck = subst (λ z. IsStuck a.setting (spares_area z area) (slot_at area page) end l1 x.0)
             (locked-then a b l i.gained tells i.goes w r claimed) did.1 in
             let whole = i.more w r claimed (close_of end) [] x.0 (stuck-ends a.setting w area page end l1 x.0 first.0 stuck first.1) in
             record { pages = whole.0; empties = whole.1 },
         record {
-          failed = more-fails i.gained x.0 (failed_by end) (stuck-failed a.setting (slot_at area page) (leaving b.locked area) end l1 x.0 did.1);
+          failed = more-fails i.gained x.0 (failed_by end) (stuck-failed a.setting (slot_at area page) (spares_area b.locked area) end l1 x.0 did.1);
           rose = rose-both i.gained x.0 (lost_by end) a.failures b.failures c.failures i.goes.does.failures x.2.1;
         },
       ),
@@ -559,14 +558,14 @@ pub record IsCompleted (a b : SystemView) (area : ℕ) (users : List (Option Key
 -- over other memories, where the same frames are those of locked pages
 empties-over : (m : Setting) (v w : World) → ((l : Ledger) → is_locked v l ≡ is_locked w l) → (k : ℕ) (l : Ledger) (pages : List ℕ)
     (notes : List Note) (end : plain.Close) → plain.Empties m v k l pages notes end → plain.Empties m w k l pages notes end
-empties-over m v w same k l [] notes end h = subst (λ x. EndsAt m (leaving x k) k l (slots_in_use m l k) notes end) (same l) h
+empties-over m v w same k l [] notes end h = subst (λ x. EndsAt m (spares_area x k) k l (slots_in_use m l k) notes end) (same l) h
 empties-over m v w same k l (page ∷ pages) notes end h = (
   h.0,
   h.1,
   h.2,
   h.3,
   h.4,
-  subst (λ x. IsEmptied m (leaving x k) l (slot_at k page) h.1) (same l) h.5,
+  subst (λ x. IsEmptied m (spares_area x k) l (slot_at k page) h.1) (same l) h.5,
   empties-over m v w same k (after_notes l h.1) pages h.2 end h.6,
 )
 

@@ -1,5 +1,5 @@
 -- Which frames are those of locked pages, while pages come back. A load makes bytes unclaimed, and leaves flags as they are.
-use Rattle.std.proofs.Common.{◌≡◌, ℕ, Bool, false, List, Option, Some, None, option_map, refl, sym, ap, subst, ◌∙◌}
+use Rattle.std.proofs.Common.{◌≡◌, false, List, Option, Some, None, option_map, refl, sym, ap, subst, ◌∙◌}
 use Rattle.std.specs.List.{list_any}
 use Rattle.std.specs.Option.{option_map_or}
 use Rattle.av_base.specs.declared.flags.Flags.{Flags}

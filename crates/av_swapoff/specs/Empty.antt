@@ -56,8 +56,8 @@ abbrev pub lost_of : Option EmptyEnd → ℕ
 lost_of None = 0
 lost_of (Some end) = lost_by end
 
--- the same by a system, where a pass leaves alone what it leaves alone then, and the device failed
--- at least so often
+-- the same, by what a pass over the system leaves alone at first; and the device failed at least so
+-- often
 abbrev pub EmptiesSlotBy : SystemView → SystemView → Slot → Option EmptyEnd → Ledger → List Note
     → Type 0
 EmptiesSlotBy old new s end l notes =
@@ -79,7 +79,8 @@ EmptiesPage m spared s None l notes =
 EmptiesPage m spared s (Some end) l notes =
     (0 < slot_count l s) × IsStuck m spared s end l notes
 
--- the same by a system, and the device failed at least so often
+-- the same, by what a pass over the system leaves alone at first; and the device failed at least so
+-- often
 abbrev pub EmptiesPageBy : SystemView → SystemView → Slot → Option EmptyEnd → Ledger → List Note
     → Type 0
 EmptiesPageBy old new s end l notes =

@@ -58,8 +58,8 @@ unread_of (In f) = 0
 unread_of (NoFrame out) = 0
 unread_of Unread = 1
 
--- the same by a system, where a pass leaves alone what it leaves alone then, and the device failed
--- at least so often
+-- the same, by what a pass over the system leaves alone at first; and the device failed at least so
+-- often
 abbrev pub FetchesBy : SystemView → SystemView → Slot → FetchEnd → Ledger → List Note → Type 0
 FetchesBy old new s fetched l notes =
     Fetches old.setting (spares old None) s fetched l notes

@@ -6,6 +6,9 @@
 //! visit of the page tables before the first one (`users`), and the entries that name a slot
 //! through the home of the frame that caches it.
 //!
+//! What a pass leaves alone is asked anew at each slot: the page that came back for the one before
+//! may be locked, and from then on its frame is.
+//!
 //! Proved for whatever the memory system stands for, and whether the device's pages are told or
 //! not: the notes that `swapoff` adds are those of the definitions' `TurnsOff`, the area is off
 //! exactly where none of its slots is in use any more, and after an error it stays on and gives

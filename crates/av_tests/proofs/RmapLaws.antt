@@ -10,6 +10,7 @@ use Rattle.av_pagetable.specs.declared.pte.Pte.{Pte}
 use Rattle.av_pagetable.specs.declared.pte.Pte.TheVariants.{Away, Empty, Here, Zero}
 use Rattle.av_merge.proofs.PlacingLaws.{within_parts}
 use Rattle.av_rmap.specs.Covered.{IsCovered, IsReached}
+use Rattle.av_rmap.specs.Items.{AreCovered, AreOnce, AreRootsApart, is_item, looks_from_all}
 use Rattle.av_rmap.specs.Seen.{unseen, with_unseen}
 use Rattle.av_rmap.specs.View.{AreApart, View, view_with}
 use Rattle.av_rmap.specs.Walk.{AreItsEntries, HasSoMany, Key, is_held, names_frame}
@@ -25,7 +26,7 @@ use Rattle.av_anon.specs.Order.{IsArea, IsInOrder}
 use Rattle.av_anon.specs.Prepare.{after_prepare, loan_to}
 use Rattle.av_anon.specs.Spans.{GoWithLinks}
 use Rattle.av_anon.proofs.OrderLaws.{order-bare}
-use Rattle.av_tests.specs.Rmap.{AreThree, child, frame_7, other, parent, shared_entries}
+use Rattle.av_tests.specs.Rmap.{AreThree, child, frame_7, other, parent, shared_entries, two_items}
 
 -- an area was put under a number, and then got an own anon_vma
 pub given : (id own : ℕ) (A : Area) (old mid new : ℕ → Option Area) → ((n : ℕ) → mid n ≡ with_at id (Some A) old n) →
@@ -221,6 +222,47 @@ module _ (areas : ℕ → Option Area) (f : Family) (spans : ℕ → List Span) 
       ∙ ap (λ o. cond (is_held 11 o) 1 0 + (cond (is_held 11 (areas b)) 1 0 + (cond (is_held 11 (areas c)) 1 0 + 0))) three.first
       ∙ ap (λ o. 1 + (cond (is_held 11 o) 1 0 + (cond (is_held 11 (areas c)) 1 0 + 0))) three.second
       ∙ ap (λ o. 1 + (1 + (cond (is_held 11 o) 1 0 + 0))) three.third
+
+  -- ---- of two items one is the home, and one has an index that the third area holds
+
+  pub items_covered : AreCovered (view_with areas f spans entry) (names_frame 7) two_items
+  items_covered p page named = ((0, 11), refl, three_covered p page named)
+
+  pub items_apart : AreRootsApart (view_with areas f spans entry) two_items
+  items_apart n x y p q u v = at_first x (x.0 == 0 && x.1 == 11) refl p ∙ sym (at_first y (y.0 == 0 && y.1 == 11) refl q)
+    where
+      at_first : (x : ℕ × ℕ) (b : Bool) → (x.0 == 0 && x.1 == 11) ≡ b → is_item x two_items ≡ true → x.0 ≡ 0
+      at_first x true e h = grind (arith, nat_tests, e)
+      at_first x false e h =
+          let other : (x.0 == 0 && x.1 == 20) ≡ true = second (x.0 == 0 && x.1 == 20)
+          (sym (ap (λ b. b || ((x.0 == 0 && x.1 == 20) || false)) e) ∙ h) in
+          grind (arith, nat_tests, other)
+        where
+          second : (b : Bool) → (b || false) ≡ true → b ≡ true
+          second true e = refl
+          second false e = e
+
+  pub three_looks : f.users 0 ≡ a ∷ b ∷ c ∷ [] → looks_from_all (view_with areas f spans entry) two_items ≡ 3
+  three_looks users = ap (λ n. n + (how_many (overlaps 20) (spans 0) + 0)) (two_looks users) ∙ ap (λ n. 2 + (n + 0)) one_look
+    where
+      one_look : how_many (overlaps 20) (spans 0) ≡ 1
+      one_look = spans-are-areas areas f spans 0 20 order ∙ ap (how_many (λ n. is_held 20 (areas n))) users
+          ∙ ap (λ o. cond (is_held 20 o) 1 0 + (cond (is_held 20 (areas b)) 1 0 + (cond (is_held 20 (areas c)) 1 0 + 0))) three.first
+          ∙ ap (λ o. 0 + (cond (is_held 20 o) 1 0 + (cond (is_held 20 (areas c)) 1 0 + 0))) three.second
+          ∙ ap (λ o. 0 + (0 + (cond (is_held 20 o) 1 0 + 0))) three.third
+
+pub items_once : AreOnce two_items
+items_once x = by (x.0 == 0 && x.1 == 11) (x.0 == 0 && x.1 == 20) refl refl
+  where
+    both : (x.0 == 0 && x.1 == 11) ≡ true → (x.0 == 0 && x.1 == 20) ≡ true → ⊥
+    both e d = let one : x.1 ≡ 11 = grind (arith, nat_tests, e) in let two : x.1 ≡ 20 = grind (arith, nat_tests, d) in
+        absurd (omega (arith, one, two))
+
+    by : (b d : Bool) → (x.0 == 0 && x.1 == 11) ≡ b → (x.0 == 0 && x.1 == 20) ≡ d → cond b 1 0 + (cond d 1 0 + 0) ≤ 1
+    by true true e h = absurd (both e h)
+    by true false e h = omega arith
+    by false true e h = omega arith
+    by false false e h = omega arith
 
 pub on_ok : {X E : Type 0} (r : Result X E) {P Q : Type 0} → (P → Q) → OnOk r P → OnOk r Q
 on_ok (Ok x) h p = h p

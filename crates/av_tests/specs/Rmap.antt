@@ -1,5 +1,6 @@
 -- What the test of the walk builds: three areas of one anon_vma, and a frame of two processes.
-use Rattle.std.specs.Prelude.{◌≡◌, ℕ, ◌⊎◌, ◌&&◌, ◌==◌, true, false, if◌then◌else◌, Option, Some}
+use Rattle.std.specs.Prelude.{◌≡◌, ℕ, ◌⊎◌, ◌&&◌, ◌==◌, true, false, if◌then◌else◌, List, []}
+use Rattle.std.specs.Prelude.{◌∷◌, Option, Some}
 use Rattle.av_base.specs.Flags.{no_flags}
 use Rattle.av_pagetable.specs.declared.pte.Pte.{Pte}
 use Rattle.av_pagetable.specs.declared.pte.Pte.TheVariants.{Empty, Here}
@@ -38,6 +39,10 @@ pub record AreThree (areas : ℕ → Option Area) (a b c : ℕ) : Type 0 where
 
 abbrev pub frame_7 : Pte
 frame_7 = Here 7 false true
+
+-- the home of frame 7, and an index of the third area
+abbrev pub two_items : List (ℕ × ℕ)
+two_items = (0, 11) ∷ (0, 20) ∷ []
 
 -- frame 7 is on page 11 of both
 abbrev pub shared_entries : ℕ → ℕ → Pte

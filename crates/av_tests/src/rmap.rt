@@ -1,4 +1,5 @@
-//! A walk finds the entries of two processes that share a frame, and their seen bits are cleared.
+//! A walk finds the entries of two processes that share a frame, and their seen bits are cleared;
+//! items of merged frames.
 
 ghost use Rattle.std.specs.Prelude.{◌≡◌, ℕ, ◌+◌, ◌<◌, ◌++◌, [], ◌∷◌, false, None, Some, IfOk};
 ghost use Rattle.std.specs.Prelude.{OnOk};
@@ -9,6 +10,7 @@ ghost use Rattle.av_base.specs.Words.{with_at};
 ghost use Rattle.av_merge.specs.Kin.{AreInOrder};
 ghost use Rattle.av_pagetable.specs.Entries.{entry_at, has};
 ghost use Rattle.av_rmap.specs.Covered.{IsCovered};
+ghost use Rattle.av_rmap.specs.Items.{none_merged, shown};
 ghost use Rattle.av_rmap.specs.Stores.{view_of_mut};
 ghost use Rattle.av_rmap.specs.View.{AreApart, AreSpanned};
 ghost use Rattle.av_rmap.specs.Walk.{HasSoMany, names_frame};
@@ -19,7 +21,9 @@ use av_anon::Anons;
 use av_anon::order::nobody_is_in_order;
 use av_base::{Flags, PAGE_SIZE, Prot, Steps};
 use av_pagetable::{PageTable, Pte, Tables};
+use av_rmap::items::Items;
 use av_rmap::look::LookMut;
+use av_rmap::merged::walk_merged;
 use av_rmap::seen::clear_seen;
 use av_rmap::sorted::walk_frame;
 use av_rmap::stores::StoresMut;
@@ -104,9 +108,9 @@ fn add_like(
     Ok(id)
 }
 
-/// What is found of a frame: its entries, and whether one of them is seen, before and after the
-/// seen bits are cleared.
-type Found = (Vec<(u16, u64)>, (bool, bool));
+/// What is found of a frame: its entries, as found through its home and through its items, and
+/// whether one of them is seen, before and after the seen bits are cleared.
+type Found = (Vec<(u16, u64)>, Vec<(u16, u64)>, (bool, bool));
 
 /// Whether a frame with this map count was accessed, and whether it still says so once its seen
 /// bits were cleared.
@@ -179,7 +183,8 @@ fn share_frame(alloc: Global, tables: &mut Tables<PageTable>) -> Result<(), Allo
 }
 
 /// What is found of a frame that two processes have on their page 11. Three areas are linked to
-/// the anon_vma of its home, and two of them hold its index.
+/// the anon_vma of its home, and two of them hold its index. Of two items one is that home, and one
+/// has an index that one area holds.
 fn walk_shared<L: Ledger>(
     alloc: Global,
     areas: &mut Areas,
@@ -192,7 +197,7 @@ fn walk_shared<L: Ledger>(
     requires spans { (anon : ℕ) → spans_of anons.old anon ≡ [] }
     requires processes { (process : ℕ) → has tables.old process ≡ false }
     requires entries { (process page : ℕ) → entry_at tables.old process page ≡ Pte.Empty }
-    ensures { OnOk result (steps.new ≡ steps.old + 2) }
+    ensures { OnOk result (steps.new ≡ steps.old + 5) }
 {
     let _ids = link_three(areas, anons)?;
     share_frame(alloc, tables)?;
@@ -202,8 +207,9 @@ fn walk_shared<L: Ledger>(
         tables,
     };
     let keys = walk_frame(alloc, &stores, 7, Some((0, 11)), 2, steps)?;
+    let merged = walk_merged(alloc, &stores, 7, &[(0, 11), (0, 20)], 2, steps)?;
     let seen = seen_in_stores::<Brand>(&mut stores, 7, (0, 11), 2, Blank::new(1));
-    Ok((keys, seen))
+    Ok((keys, merged, seen))
 }
 
 /// The same, by stores and a counter of its own.
@@ -221,8 +227,34 @@ fn walk_shared_alone<L: Ledger>(alloc: Global, blank: Blank) -> Result<Found, Al
 
 #[test]
 fn a_walk_finds_the_entries_of_both_processes(rt: HostRuntime) -> Result<(), Fail> {
-    let (keys, seen) = walk_shared_alone::<Brand>(rt.alloc(), Blank::new(1))?;
+    let (keys, merged, seen) = walk_shared_alone::<Brand>(rt.alloc(), Blank::new(1))?;
     assert!(rt; keys.as_slice() == [(1, 11), (2, 11)].as_slice());
+    assert!(rt; merged.as_slice() == [(1, 11), (2, 11)].as_slice());
     assert!(rt; seen.0 && !seen.1);
+    Ok(())
+}
+
+/// Whether a frame gets items, each once, gives them away, and they are cleared.
+fn go_as_told(items: &mut Items) -> Result<bool, AllocError>
+    requires { shown items.old ≡ none_merged 3 }
+{
+    items.add(1, 4, 9)?;
+    items.add(1, 5, 9)?;
+    items.add(1, 4, 9)?;
+    if items.of(1) != [(4, 9), (5, 9)].as_slice() {
+        return Ok(false);
+    }
+    items.rename(1, 2);
+    if items.is_merged(1) || !items.is_merged(2) {
+        return Ok(false);
+    }
+    items.clear(2);
+    Ok(!items.is_merged(2))
+}
+
+#[test]
+fn items_stand_once_and_go_over(rt: HostRuntime) -> Result<(), AllocError> {
+    let mut items = Items::new(rt.alloc(), 3)?;
+    assert!(rt; go_as_told(&mut items)?);
     Ok(())
 }

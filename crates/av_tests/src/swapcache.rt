@@ -103,6 +103,21 @@ fn comes_back<D: SwapDev>(swap: &mut Swap, frames: &mut Frames, slot: Slot, dev:
     !swap.is_in_use(slot) && swap.all_free_slots() == swap.all_slots()
 }
 
+/// Whether a slot that is put at frame 0, and is in flight, goes over to frame 1.
+fn goes_over<D: SwapDev>(swap: &mut Swap, frames: &mut Frames, dev: &mut D) -> bool
+    requires { IsIdle (D.sizes dev.old) (shown swap.old) }
+{
+    if swap.frames() != frames.count() || swap.frames() < 2 {
+        return false;
+    }
+    let Some(slot) = swap.put(frames, 0) else {
+        return false;
+    };
+    swap.start(frames, slot);
+    swap.rename(frames, 0, 1);
+    swap.find(slot) == Some(1) && swap.in_flight(slot)
+}
+
 /// Turns area 0 on, of eight pages.
 fn turn_on<D: SwapDev>(alloc: Global, swap: &mut Swap, dev: &mut D) -> Result<bool, AllocError>
     requires { shown swap.old ≡ fresh 2 }
@@ -173,6 +188,27 @@ fn a_frame_goes_out_and_comes_back(rt: HostRuntime) -> Result<(), AllocError> {
     let mut swap = Swap::new(rt.alloc(), 2)?;
     let mut frames = Frames::new(rt.alloc(), 2)?;
     assert!(rt; goes(rt.alloc(), &mut swap, &mut frames, &mut dev)?);
+    Ok(())
+}
+
+/// Whether a slot in flight goes over to another frame.
+fn goes_on_and_over<D: SwapDev>(
+    alloc: Global,
+    swap: &mut Swap,
+    frames: &mut Frames,
+    dev: &mut D,
+) -> Result<bool, AllocError>
+    requires { shown swap.old ≡ fresh 2 }
+{
+    Ok(turn_on(alloc, swap, dev)? && goes_over(swap, frames, dev))
+}
+
+#[test]
+fn a_slot_in_flight_goes_over_to_another_frame(rt: HostRuntime) -> Result<(), AllocError> {
+    let mut dev = eight_pages(rt.alloc(), 9)?;
+    let mut swap = Swap::new(rt.alloc(), 2)?;
+    let mut frames = Frames::new(rt.alloc(), 2)?;
+    assert!(rt; goes_on_and_over(rt.alloc(), &mut swap, &mut frames, &mut dev)?);
     Ok(())
 }
 

@@ -51,6 +51,11 @@ take_frame_for_copy-frame-requires-clause-free g c =
     (c.in_ok-out.ensures.sought false b.0 b.1 b.2 b.3) in
     free-sought d d' old c.seek.new.mem b.0 b.1 b.2 (Some f) c.args.notes.now c.seek.new.notes Frame b.3 s s.finds
 
+pub take_frame_for_copy-frame-requires-clause-itemed : goal.take_frame_for_copy-frame-requires-clause-itemed
+take_frame_for_copy-frame-requires-clause-itemed g c =
+    let b = between-some (g.D.SwapDev.sizes c.args.dev.now) c.args.mem.now (g.D.SwapDev.failures c.args.dev.now) c.requires.between in
+    (c.in_ok-out.ensures.sought false b.0 b.1 b.2 b.3).done.between.serves.items
+
 pub take_frame_for_copy-frame-requires-clause-in_range : goal.take_frame_for_copy-frame-requires-clause-in_range
 take_frame_for_copy-frame-requires-clause-in_range g c =
     let sizes = g.D.SwapDev.sizes c.args.dev.now in

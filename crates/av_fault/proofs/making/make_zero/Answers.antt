@@ -12,4 +12,4 @@ returns-clause-made c = λ d w r l h.
     let key = c.args.key in
     zero-made d old new w r l key c.args.notes.now c.push.new.self h (rest-tables old c.set.new.self c.in_ok-set.ensures.processes).parts
     c.requires.mapped c.requires.bare
-    (entry_put_in old new key.0 key.1 Zero c.in_ok-set.ensures.sets refl refl refl refl refl) c.in_ok-push.ensures.ok
+    (entry_put_in old new key.0 key.1 Zero c.in_ok-set.ensures.sets refl refl refl refl refl refl) c.in_ok-push.ensures.ok

@@ -15,7 +15,7 @@ returns-then-not-seen-clause-read c = λ d w r l h.
     (entry_put_in old new c.args.key.0 c.args.key.1 (Here c.args.frame c.args.write true)
     (subst (λ e. entry_at c.change.new.self ≡ with_entry c.args.key.0 c.args.key.1 e (entry_at old.tables)) c.accessed_entry.ensures
     c.change.ensures.sets)
-    refl refl refl refl refl)
+    refl refl refl refl refl refl)
     (rest-tables old c.change.new.self c.change.ensures.processes).parts
 
 pub returns-then-not-seen-clause-here : goal.returns-then-not-seen-clause-here

@@ -15,8 +15,13 @@ use Rattle.av_fault.proofs.UsingLaws.{entry-here, here-below, here-maps, own-her
 use Rattle.av_fault.proofs.using.write_frame.Goals as goal
 use Rattle.av_fault.proofs.using.write_frame.Goals.{else-not-settled-via-then-not-settled+else-asks_copy, else-not-settled-via-else-not-settled}
 
-pub asks_copy-requires : goal.asks_copy-requires
-asks_copy-requires g c =
+pub asks_copy-requires-clause-itemed : goal.asks_copy-requires-clause-itemed
+asks_copy-requires-clause-itemed g c =
+    let b = between-some (g.D.SwapDev.sizes c.args.dev.now) c.args.mem.now (g.D.SwapDev.failures c.args.dev.now) c.requires.between in
+    b.3.serves.items
+
+pub asks_copy-requires-clause-in_range : goal.asks_copy-requires-clause-in_range
+asks_copy-requires-clause-in_range g c =
     let sizes = g.D.SwapDev.sizes c.args.dev.now in
     let failures = g.D.SwapDev.failures c.args.dev.now in
     let old = c.args.mem.now in

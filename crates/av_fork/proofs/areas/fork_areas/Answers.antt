@@ -9,4 +9,4 @@ returns-clause-forks c = λ d s keeps.
     let new = record c.args.mem.now { spaces = c.fork.new.self; anons = c.fork.new.anons } in
     let areas = areas_of c.args.mem.now.spaces.processes c.args.parent in
     ok_both c.fork.result c.fork.ensures.forked c.fork.ensures.in_turn (λ forked turn.
-    has_fork_by d c.args.mem.now new s keeps c.args.parent c.args.child areas refl c.requires.dead forked turn refl)
+    has_fork_by d c.args.mem.now new s keeps c.args.parent c.args.child areas refl c.requires.dead forked turn refl refl)

@@ -73,7 +73,7 @@ returns-clause-forks c = λ d pages l stands flags.
     let v = c.loop-page.invariant in
     let h = all-seen a.mem.now a.parent a.child d l stands c.loop-page.mem (c.loop-page.number * 64) v.view pages flags c.requires.empty v.rest.parts
     v.tables c.in_default.ensures in
-    record { stands = h.stands; free = h.free }
+    record { stands = h.stands; free = h.free; items = h.items }
 
 pub returns-in_err-count_each_for_child-clause-rest : goal.returns-in_err-count_each_for_child-clause-rest
 returns-in_err-count_each_for_child-clause-rest c = rest-then c.loop-page.invariant.rest c.in_err-count_each_for_child.ensures.rest

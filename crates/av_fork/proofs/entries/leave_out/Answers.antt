@@ -1,8 +1,8 @@
-use Rattle.std.proofs.Common.{◌≡◌, ℕ, ◌∙◌, ap, refl, sym}
+use Rattle.std.proofs.Common.{◌∙◌, ap, refl, sym}
 use Rattle.av_pagetable.specs.Entries.{entry_at}
 use Rattle.av_spaces.specs.Spaces.{pages_of}
 use Rattle.av_mem.specs.declared.mem.Mem.{Mem}
-use Rattle.av_fork.specs.Entries.{goes_with_entry}
+use Rattle.av_fork.specs.Entries.{entry_goes_over}
 use Rattle.av_fork.proofs.EntriesLeft.{left-all, left-none, left-out, left-over}
 use Rattle.av_fork.proofs.entries.leave_out.Goals as goal
 
@@ -22,7 +22,7 @@ loop-page-preserved-then-goes c =
     record {
       left = left-over (pages_of a.mem.now.spaces.processes a.parent) a.child c.loop-page.next (entry_at a.mem.now.tables) (entry_at c.loop-page.mem.tables)
           i.left c.in-Some.page c.run_from-goes.result.1 first.from_there run.further first.least
-          (λ o low high. ap (λ (m : Mem). goes_with_entry (pages_of m.spaces.processes a.parent o)) (sym i.rest) ∙ run.alike o low high ∙ c.if-goes.true);
+          (λ o low high. ap (λ (m : Mem). entry_goes_over (pages_of m.spaces.processes a.parent o)) (sym i.rest) ∙ run.alike o low high ∙ c.if-goes.true);
       processes = i.processes;
       rest = i.rest;
     }
@@ -37,7 +37,7 @@ loop-page-preserved c =
     record {
       left = taken.taken ∙ left-out (pages_of a.mem.now.spaces.processes a.parent) a.child c.loop-page.next (entry_at a.mem.now.tables)
           (entry_at c.loop-page.mem.tables) i.left c.in-Some.page c.run_from-goes.result.1 first.from_there run.further first.least
-          (λ o low high. ap (λ (m : Mem). goes_with_entry (pages_of m.spaces.processes a.parent o)) (sym i.rest) ∙ run.alike o low high ∙ c.if-goes.false);
+          (λ o low high. ap (λ (m : Mem). entry_goes_over (pages_of m.spaces.processes a.parent o)) (sym i.rest) ∙ run.alike o low high ∙ c.if-goes.false);
       processes = taken.processes ∙ i.processes;
       rest = taken.rest ∙ ap (λ (m : Mem). record m { tables = c.take_out.new.mem.tables }) i.rest;
     }

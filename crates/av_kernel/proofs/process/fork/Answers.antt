@@ -1,15 +1,16 @@
-use Rattle.std.proofs.Common.{◌≤◌, sym, ◌∙◌, ap, subst}
-use Rattle.av_base.specs.Limits.{most_processes}
+use Rattle.std.proofs.Common.{◌*◌, ◌≤◌, sym, ◌∙◌, ap, subst}
+use Rattle.av_base.specs.Limits.{most_processes, top_page}
 use Rattle.av_frames.specs.Store.{shown}
 use Rattle.av_trace.specs.declared.command.Command.TheVariants.{Fork}
 use Rattle.av_trace.specs.declared.reply.Errno.TheVariants.{Esrch}
 use Rattle.av_pagetable.specs.Entries.{has}
 use Rattle.av_pagetable.proofs.Entries.{none_there}
 use Rattle.av_mem.specs.declared.mem.Mem.{Mem}
+use Rattle.av_plain.specs.World.{pages}
 use Rattle.av_swapcache.specs.Swap.{shown as shown_swap}
 use Rattle.av_step.proofs.StepLaws.{answers, orderly, refuses, refuses-as, refuses-by, dead_first, wants-by}
 use Rattle.av_kernel.proofs.ProcessLaws.{absent, no_table}
-use Rattle.av_kernel.proofs.ForkLaws.{entries_few, fork-steps, fork_is, has_table, slots_few, still_orderly}
+use Rattle.av_kernel.proofs.ForkLaws.{entries_few, flags_left, fork-steps, fork_is, has_table, slots_few, still_orderly}
 use Rattle.av_kernel.proofs.process.fork.Goals as goal
 
 pub returns-in_err-check_lives : goal.returns-in_err-check_lives
@@ -55,8 +56,12 @@ fork_entries-requires-clause-orderly c =
     )
 
 pub fork_entries-requires-clause-few : goal.fork_entries-requires-clause-few
-fork_entries-requires-clause-few c f = subst (λ (k : Mem). (shown k.frames).maps f ≤ most_processes) (sym c.fork_areas.ensures.rest)
-    (entries_few c.args.mem.now c.requires.steady.1 c.requires.steady.2 f)
+fork_entries-requires-clause-few c f =
+    let k = c.args.mem.now in
+    let steady = c.requires.steady in
+    subst (λ (k : Mem). (shown k.frames).maps f ≤ most_processes * top_page) (sym c.fork_areas.ensures.rest)
+    (entries_few k c.fork_areas.new.mem steady.1 c.args.parent c.args.child steady.2
+    (absent k.spaces.processes c.args.child c.in_ok-check_new.ensures) (c.in_ok-fork_areas.ensures.forks steady.0 steady.1 steady.2) f)
 
 pub fork_entries-requires-clause-few_slots : goal.fork_entries-requires-clause-few_slots
 fork_entries-requires-clause-few_slots c s = subst (λ (k : Mem). (shown_swap k.swap).entries s ≤ most_processes) (sym c.fork_areas.ensures.rest)
@@ -86,11 +91,14 @@ returns c = record {
       let k = c.args.mem.now in
       let gone = c.fork_areas.new.mem in
       let areas = c.fork_areas.ensures in
+      let shown = c.in_ok-fork_areas.ensures.forks d s keeps in
       answers c.args.reply.now c.answer_with.new.reply c.requires.cleared c.answer_with.ensures
       (fork-steps k gone c.fork_entries.new.mem c.spawn.new.self s c.args.parent c.args.child keeps c.in_ok-check_lives.ensures
       c.in_ok-check_new.ensures
-      areas.rest (c.in_ok-fork_areas.ensures.forks d s keeps)
-      c.in_ok-spawn.ensures.processes (c.in_ok-fork_entries.ensures.forks d s.ledger
-      (still_orderly d k gone c.spawn.new.self s.ledger areas.rest c.in_ok-spawn.ensures.entries (orderly k s keeps)))
+      areas.rest shown
+      c.in_ok-spawn.ensures.processes (c.in_ok-fork_entries.ensures.forks d (pages s.world c.args.parent) s.ledger
+      (still_orderly d k gone c.spawn.new.self s.ledger areas.rest c.in_ok-spawn.ensures.entries (orderly k s keeps))
+      (flags_left k gone c.spawn.new.self s c.args.parent c.args.child keeps c.in_ok-check_lives.ensures
+      (absent k.spaces.processes c.args.child c.in_ok-check_new.ensures) shown))
       c.fork_entries.ensures.rest);
 }

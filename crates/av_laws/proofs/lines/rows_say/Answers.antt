@@ -9,3 +9,7 @@ returns-clause-in_digits c = refl
 pub returns-clause-flagged : goal.returns-clause-flagged
 unfolding digits
 returns-clause-flagged c = refl
+
+pub returns-clause-all_flags : goal.returns-clause-all_flags
+unfolding digits
+returns-clause-all_flags c = refl

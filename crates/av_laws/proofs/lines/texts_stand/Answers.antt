@@ -19,3 +19,7 @@ returns-clause-merges c = refl
 
 pub returns-clause-compacts : goal.returns-clause-compacts
 returns-clause-compacts c = refl
+
+pub returns-clause-other_advice : goal.returns-clause-other_advice
+unfolding digits
+returns-clause-other_advice c = refl

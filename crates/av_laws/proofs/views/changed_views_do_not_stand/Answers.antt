@@ -1,5 +1,6 @@
-use Rattle.std.specs.Prelude.{◌≡◌, ℕ, true, List, [], ◌∷◌, Option, Some, None, is_some, length, refl}
+use Rattle.std.specs.Prelude.{◌≡◌, ℕ, Bool, true, false, List, [], ◌∷◌, Option, Some, None, is_some, length, refl}
 use Rattle.std.proofs.Common.{arith, sym, ap, ◌≤◌}
+use Rattle.av_base.specs.declared.flags.Flags.{Flags}
 use Rattle.av_vma.specs.declared.area.Area.{Area}
 use Rattle.av_plain.specs.Choice.{Free, ListsFree}
 use Rattle.av_plain.specs.Ledger.{InFrame}
@@ -61,3 +62,12 @@ returns-clause-other_offset c h = let e : ◌≡◌ {A = ℕ} 0 0x7fffffffe = ap
 
 pub returns-clause-areas_of_nobody : goal.returns-clause-areas_of_nobody
 returns-clause-areas_of_nobody c h = never (sym (h.parts.areas.alive 3))
+
+-- whether a page is locked
+is_set : Option Flags → Bool
+is_set None = false
+is_set (Some all) = all.locked
+
+pub returns-clause-other_flags : goal.returns-clause-other_flags
+unfolding is_set
+returns-clause-other_flags c h = never (sym (ap is_set (h.parts.areas.flags 1 0x7fffffffe)))

@@ -33,23 +33,23 @@ map_like-requires-clause-mapped c =
     let a = c.args in
     let s = c.requires.steady in
     target_taken s.0 a.mem.now s.1 s.2 a.process c.requires.lives c.move_range.new.self c.move_range.new.anons c.in_ok-move_range.ensures.anons
-    a.from a.pages a.to a.new_pages (c.requires.moves c.if-to-from.false) c.in_ok-move_range.ensures.areas (c.requires.whole c.if-stays.true)
+    a.from a.pages a.to a.new_pages (c.requires.moves c.if-to-from.false) c.in_ok-move_range.ensures.areas (c.requires.whole c.if-not-stays.false)
 
 pub returns-clause-remaps : goal.returns-clause-remaps
 returns-clause-remaps c = λ d s keeps.
     let a = c.args in
     ok_both c.map_like.result c.map_like.ensures.areas c.map_like.ensures.anons (λ areas stay.
     subst (λ (stays : Bool). HasRemap a.mem.now (record a.mem.now { spaces = c.map_like.new.self; anons = c.map_like.new.anons }) a.process
-    (after_mremap (chain_length s.anons) a.process a.from a.pages a.to a.new_pages stays (s.areas a.process))) (sym c.if-stays.true)
+    (after_mremap (chain_length s.anons) a.process a.from a.pages a.to a.new_pages stays (s.areas a.process))) (sym c.if-not-stays.false)
     (has_left_areas d a.mem.now s keeps a.process c.requires.lives c.move_range.new.self c.move_range.new.anons c.in_ok-move_range.ensures.anons
     a.from a.pages a.to a.new_pages (c.requires.moves c.if-to-from.false) c.in_ok-move_range.ensures.areas
-    c.map_like.new.self c.map_like.new.anons stay (c.requires.whole c.if-stays.true) areas (differs a.to a.from c.if-to-from.false)))
+    c.map_like.new.self c.map_like.new.anons stay (c.requires.whole c.if-not-stays.false) areas (differs a.to a.from c.if-to-from.false)))
 
-pub returns-then-stays-clause-remaps : goal.returns-then-stays-clause-remaps
-returns-then-stays-clause-remaps c = λ d s keeps.
+pub returns-then-not-stays-clause-remaps : goal.returns-then-not-stays-clause-remaps
+returns-then-not-stays-clause-remaps c = λ d s keeps.
     let a = c.args in
     subst (λ (stays : Bool). HasRemap a.mem.now (record a.mem.now { spaces = c.move_range.new.self; anons = c.move_range.new.anons }) a.process
-    (after_mremap (chain_length s.anons) a.process a.from a.pages a.to a.new_pages stays (s.areas a.process))) (sym c.if-stays.false)
+    (after_mremap (chain_length s.anons) a.process a.from a.pages a.to a.new_pages stays (s.areas a.process))) (sym c.if-not-stays.true)
     (has_moved_areas d a.mem.now s keeps a.process c.requires.lives c.move_range.new.self c.move_range.new.anons c.in_ok-move_range.ensures.anons
     a.from a.pages a.to a.new_pages (c.requires.moves c.if-to-from.false) c.in_ok-move_range.ensures.areas (differs a.to a.from c.if-to-from.false))
 

@@ -1,4 +1,4 @@
-use Rattle.std.proofs.Common.{◌≡◌, sym, ap, ◌∙◌}
+use Rattle.std.proofs.Common.{sym, ap, ◌∙◌}
 use Rattle.std.proofs.lemmas.List.{drop_all}
 use Rattle.av_rmap.specs.Walk.{names_frame}
 use Rattle.av_rmap.proofs.LockedLemmas.{any_from, none-from, some-locked}

@@ -1,5 +1,5 @@
 use Rattle.std.proofs.Common.{◌≡◌, ◌+◌, ◌≤◌, drop}
-use Rattle.av_rmap.specs.Items.{looks_from_all}
+use Rattle.av_rmap.specs.Locked.{locked_looks_all}
 use Rattle.av_rmap.specs.Walk.{names_frame}
 use Rattle.av_rmap.proofs.LockedLemmas.{any_from}
 use Rattle.av_rmap.proofs.locked.any_locked.Given as goal
@@ -10,5 +10,5 @@ invariant-loop-home g l =
     let view = g.K.Look.view l.look in
     record {
       found : any_from view (names_frame l.frame) (drop l.home-index l.homes) ≡ any_from view (names_frame l.frame) l.homes;
-      counted : l.steps + looks_from_all view (drop l.home-index l.homes) ≤ l.fn.steps + looks_from_all view l.homes;
+      counted : l.steps + locked_looks_all view (drop l.home-index l.homes) ≤ l.fn.steps + locked_looks_all view l.homes;
     }

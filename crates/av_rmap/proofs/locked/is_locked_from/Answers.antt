@@ -1,60 +1,39 @@
-use Rattle.std.proofs.Common.{◌≡◌, ℕ, ◌+◌, ◌||◌, Some, true, false, sym, ap, ◌∙◌, arith}
-use Rattle.std.specs.List.{list_any}
+use Rattle.std.proofs.Common.{◌||◌, sym, ap, subst, ◌∙◌, arith}
+use Rattle.std.specs.List.{AllByRecursion, list_any}
 use Rattle.av_base.specs.Words.{how_many}
-use Rattle.av_interval.specs.Search.{overlaps}
-use Rattle.av_rmap.specs.Locked.{finds_locked}
+use Rattle.av_rmap.specs.Locked.{finds_locked, is_locked}
+use Rattle.av_rmap.specs.Looks.{ahead}
 use Rattle.av_rmap.specs.Walk.{names_frame}
-use Rattle.av_rmap.proofs.LockedLemmas.{none-locked, not-held}
-use Rattle.av_rmap.proofs.Turns.{last, rest, rest-none, turn, turn-holds}
+use Rattle.av_rmap.proofs.NextAreas.{IsHeld, all-held}
 use Rattle.av_rmap.proofs.locked.is_locked_from.Goals as goal
 
-pub looks-init : goal.looks-init
-looks-init g c =
+pub loop-area-init : goal.loop-area-init
+loop-area-init g c =
     let view = g.K.Look.view c.args.look.now in
     let f = names_frame c.args.frame in
-    let home = c.args.home in
-    let all = rest-none (view.spans home.0) in
-    let same = ap (how_many (overlaps home.1)) all in
+    let i = c.args.home.1 in
+    let all = c.new-looks.ensures in
+    let same = ap (how_many (λ a. is_locked (view.areas a))) all in
     record {
-      ahead = c.new-ahead.ensures;
-      found = ap (list_any (λ x. finds_locked view f home.1 (view.areas x.area))) all;
+      held = subst (AllByRecursion (IsHeld view i)) (sym all) (all-held view c.args.home c.requires.spanned);
+      found = ap (list_any (λ a. finds_locked view f i (view.areas a))) all;
       counted = omega (arith, same);
     }
 
-pub next-requires : goal.next-requires
-next-requires g c = c.looks.invariant.ahead
-
-pub is_locked_in-requires : goal.is_locked_in-requires
-is_locked_in-requires g c =
+pub loop-area-preserved : goal.loop-area-preserved
+loop-area-preserved g c =
     let view = g.K.Look.view c.args.look.now in
     let f = names_frame c.args.frame in
-    let t = turn view f c.args.home c.looks.after (c.in-Some.first, c.in-Some.area) c.requires.spanned c.next.ensures.ordered
-    (sym c.next.ensures.first ∙ c.in-Some.is) in
-    turn-holds view f c.args.home.1 c.looks.after (c.in-Some.first, c.in-Some.area) (view.spans c.args.home.0) t
-
-pub looks-smaller : goal.looks-smaller
-looks-smaller g c =
-    let view = g.K.Look.view c.args.look.now in
-    let f = names_frame c.args.frame in
-    let k : ℕ × ℕ = (c.in-Some.first, c.in-Some.area) in
-    let t = turn view f c.args.home c.looks.after k c.requires.spanned c.next.ensures.ordered
-    (sym c.next.ensures.first ∙ c.in-Some.is) in
-    let count = t.count in omega (arith, count)
-
-pub looks-preserved : goal.looks-preserved
-looks-preserved g c =
-    let view = g.K.Look.view c.args.look.now in
-    let f = names_frame c.args.frame in
-    let k : ℕ × ℕ = (c.in-Some.first, c.in-Some.area) in
-    let t = turn view f c.args.home c.looks.after k c.requires.spanned c.next.ensures.ordered
-    (sym c.next.ensures.first ∙ c.in-Some.is) in
-    let any = t.any (finds_locked view f c.args.home.1) (not-held view f c.args.home.1) in
-    let count = t.count in let kept = c.looks.invariant.counted in let step = c.is_locked_in.ensures.counted in
+    let i = c.args.home.1 in
+    let h = c.loop-area.invariant in
+    let left = rw c.in-Some.is at c.next.ensures.some in
+    let fewer = ap (how_many (λ a. is_locked (view.areas a))) left in let counted = h.counted in let step = c.is_locked_in.ensures.counted in
+    let later = list_any (λ a. finds_locked view f i (view.areas a)) (ahead c.next.new.self view) in
     record {
-      ahead = rw c.in-Some.is at c.next.ensures.ahead;
-      found = sym (any ∙ ap (λ b. b || list_any (λ x. finds_locked view f c.args.home.1 (view.areas x.area)) (rest (Some k) (view.spans c.args.home.0)))
-          (sym c.is_locked_in.ensures.found ∙ c.if-is_locked_in.false)) ∙ c.looks.invariant.found;
-      counted = omega (arith, count, kept, step);
+      held = (subst (AllByRecursion (IsHeld view i)) left h.held).1;
+      found = ap (λ b. b || later) (sym (sym c.is_locked_in.ensures.found ∙ c.if-is_locked_in.false))
+          ∙ ap (list_any (λ a. finds_locked view f i (view.areas a))) (sym left) ∙ h.found;
+      counted = omega (arith, fewer, counted, step);
     }
 
 -- one is found
@@ -62,30 +41,23 @@ pub returns-then-is_locked_in-clause-found : goal.returns-then-is_locked_in-clau
 returns-then-is_locked_in-clause-found g c =
     let view = g.K.Look.view c.args.look.now in
     let f = names_frame c.args.frame in
-    let k : ℕ × ℕ = (c.in-Some.first, c.in-Some.area) in
-    let t = turn view f c.args.home c.looks.after k c.requires.spanned c.next.ensures.ordered
-    (sym c.next.ensures.first ∙ c.in-Some.is) in
-    let any = t.any (finds_locked view f c.args.home.1) (not-held view f c.args.home.1) in
-    sym (sym c.looks.invariant.found ∙ any ∙ ap (λ b. b || list_any (λ x. finds_locked view f c.args.home.1 (view.areas x.area)) (rest (Some k) (view.spans c.args.home.0)))
-    (sym c.is_locked_in.ensures.found ∙ c.if-is_locked_in.true))
+    let i = c.args.home.1 in
+    let later = list_any (λ a. finds_locked view f i (view.areas a)) (ahead c.next.new.self view) in
+    ap (λ b. b || later) (sym (sym c.is_locked_in.ensures.found ∙ c.if-is_locked_in.true))
+    ∙ ap (list_any (λ a. finds_locked view f i (view.areas a))) (sym (rw c.in-Some.is at c.next.ensures.some))
+    ∙ c.loop-area.invariant.found
 
 pub returns-then-is_locked_in-clause-counted : goal.returns-then-is_locked_in-clause-counted
 returns-then-is_locked_in-clause-counted g c =
     let view = g.K.Look.view c.args.look.now in
-    let f = names_frame c.args.frame in
-    let k : ℕ × ℕ = (c.in-Some.first, c.in-Some.area) in
-    let t = turn view f c.args.home c.looks.after k c.requires.spanned c.next.ensures.ordered
-    (sym c.next.ensures.first ∙ c.in-Some.is) in
-    let count = t.count in let kept = c.looks.invariant.counted in let step = c.is_locked_in.ensures.counted in
-    omega (arith, count, kept, step)
+    let fewer = ap (how_many (λ a. is_locked (view.areas a))) (rw c.in-Some.is at c.next.ensures.some) in
+    let counted = c.loop-area.invariant.counted in let step = c.is_locked_in.ensures.counted in
+    omega (arith, fewer, counted, step)
 
 -- nothing is left
 pub returns-clause-found : goal.returns-clause-found
 returns-clause-found g c =
     let view = g.K.Look.view c.args.look.now in
-    let f = names_frame c.args.frame in
-    let none = (last view f c.args.home c.looks.after c.requires.spanned (sym c.next.ensures.first ∙ c.in_default.is)).0 in
-    sym (sym c.looks.invariant.found ∙ none-locked view f c.args.home.1 (rest c.looks.after (view.spans c.args.home.0)) none)
-
-pub returns-clause-counted : goal.returns-clause-counted
-returns-clause-counted g c = let kept = c.looks.invariant.counted in omega (arith, kept)
+    ap (list_any (λ a. finds_locked view (names_frame c.args.frame) c.args.home.1 (view.areas a)))
+    (sym (rw c.in_default.is at c.next.ensures.none))
+    ∙ c.loop-area.invariant.found

@@ -2,11 +2,13 @@ use Rattle.std.proofs.Common.{◌≡◌, ◌+◌, ◌∷◌, refl, length, sym, 
 use Rattle.std.specs.List.{AllByRecursion}
 use Rattle.av_vma.specs.declared.area.Area.{Area}
 use Rattle.av_rmap.specs.Looks.{ahead}
-use Rattle.av_rmap.specs.Seen.{unseen_over}
+use Rattle.av_rmap.specs.Changed.{changed_over}
+use Rattle.av_rmap.specs.Seen.{unseen}
 use Rattle.av_rmap.specs.View.{View}
 use Rattle.av_rmap.specs.Walk.{holds}
 use Rattle.av_rmap.proofs.NextAreas.{IsHeld, all-held, as-many}
-use Rattle.av_rmap.proofs.SeenFrom.{rest-then, seen-so-far}
+use Rattle.av_rmap.proofs.Changes.{rest-then}
+use Rattle.av_rmap.proofs.SeenLemmas.{seen-so-far}
 use Rattle.av_rmap.proofs.seen.clear_seen_from.Goals as goal
 
 pub loop-area-init : goal.loop-area-init
@@ -16,7 +18,7 @@ loop-area-init g c =
     record {
       held = subst (AllByRecursion (IsHeld view i)) (sym c.new-looks.ensures) (all-held view c.args.home c.requires.spanned);
       rest = refl;
-      cleared = ap (λ areas. unseen_over c.args.frame i areas view) c.new-looks.ensures;
+      cleared = ap (λ areas. changed_over (unseen c.args.frame) i areas view) c.new-looks.ensures;
       seen = refl;
       kept = refl;
       counted = ap (λ areas. c.args.steps.now + length areas) c.new-looks.ensures;
@@ -37,9 +39,9 @@ loop-area-preserved g c =
     let one = ap length left in let counted = h.counted in let step = c.clear_in.ensures.counted in
     record {
       held = held.1;
-      rest = rest-then f i before now (g.K.Look.view c.clear_in.new.look) (now.areas a) h.rest c.clear_in.ensures.cleared;
-      cleared = ap (unseen_over f i (ahead c.next.new.self before)) c.clear_in.ensures.cleared
-          ∙ ap (λ areas. unseen_over f i areas now) (sym left) ∙ h.cleared;
+      rest = rest-then (unseen f) i before now (g.K.Look.view c.clear_in.new.look) (now.areas a) h.rest c.clear_in.ensures.cleared;
+      cleared = ap (changed_over (unseen f) i (ahead c.next.new.self before)) c.clear_in.ensures.cleared
+          ∙ ap (λ areas. changed_over (unseen f) i areas now) (sym left) ∙ h.cleared;
       seen = seen-so-far f i before now (g.K.Look.view c.clear_in.new.look) (now.areas a) c.loop-area.any_seen c.unwrap_or-any_seen.result there
           (c.unwrap_or-any_seen.ensures ∙ c.clear_in.ensures.seen) c.clear_in.ensures.cleared h.seen;
       kept = c.clear_in.ensures.kept ∙ h.kept;

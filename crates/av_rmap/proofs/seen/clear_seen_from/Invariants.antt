@@ -1,7 +1,8 @@
 use Rattle.std.proofs.Common.{◌≡◌, ◌+◌, length, MatchBool}
 use Rattle.std.specs.List.{AllByRecursion}
 use Rattle.av_rmap.specs.Looks.{ahead}
-use Rattle.av_rmap.specs.Seen.{unseen_over}
+use Rattle.av_rmap.specs.Changed.{changed_over}
+use Rattle.av_rmap.specs.Seen.{unseen}
 use Rattle.av_rmap.specs.Walk.{areas_from}
 use Rattle.av_rmap.proofs.NextAreas.{IsHeld}
 use Rattle.av_rmap.proofs.SeenLemmas.{IsSeen}
@@ -17,7 +18,7 @@ invariant-loop-area g l =
     record {
       held : AllByRecursion (IsHeld before l.home.1) left;
       rest : now ≡ record before { entry = now.entry };
-      cleared : unseen_over l.frame l.home.1 left now ≡ unseen_over l.frame l.home.1 all before;
+      cleared : changed_over (unseen l.frame) l.home.1 left now ≡ changed_over (unseen l.frame) l.home.1 all before;
       seen : MatchBool l.any_seen (IsSeen before l.frame) (now ≡ before);
       kept : g.K.LookMut.kept l.look ≡ g.K.LookMut.kept l.fn.look;
       counted : l.steps + length left ≡ l.fn.steps + length all;

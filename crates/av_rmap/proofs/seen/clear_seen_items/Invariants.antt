@@ -1,6 +1,7 @@
 use Rattle.std.proofs.Common.{◌≡◌, ◌+◌, drop, MatchBool}
 use Rattle.av_rmap.specs.Items.{looks_from_all}
-use Rattle.av_rmap.proofs.SeenFrom.{unseen_from_all}
+use Rattle.av_rmap.specs.Seen.{unseen}
+use Rattle.av_rmap.proofs.Changes.{changed_from_all}
 use Rattle.av_rmap.proofs.SeenLemmas.{IsSeen}
 use Rattle.av_rmap.proofs.seen.clear_seen_items.Given as goal
 
@@ -12,7 +13,7 @@ invariant-loop-item g l =
     let left = drop l.item-index l.items in
     record {
       rest : now ≡ record before { entry = now.entry };
-      cleared : unseen_from_all l.frame left now ≡ unseen_from_all l.frame l.items before;
+      cleared : changed_from_all (unseen l.frame) left now ≡ changed_from_all (unseen l.frame) l.items before;
       seen : MatchBool l.any_seen (IsSeen before l.frame) (now ≡ before);
       kept : g.K.LookMut.kept l.look ≡ g.K.LookMut.kept l.fn.look;
       counted : l.steps + looks_from_all before left ≡ l.fn.steps + looks_from_all before l.items;

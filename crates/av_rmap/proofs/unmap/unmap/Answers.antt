@@ -1,113 +1,122 @@
-use Rattle.std.proofs.Common.{◌≡◌, ℕ, ◌+◌, ◌<◌, Some, refl, length, sym, ap, subst, ◌∙◌, arith, true, false, IsSomeAnd}
+use Rattle.std.proofs.Common.{◌≡◌, ◌+◌, ◌∷◌, refl, length, sym, ap, subst, ◌∙◌, arith}
 use Rattle.std.proofs.lemmas.List.{nil_from_length}
-use Rattle.av_rmap.specs.Ahead.{IsAhead}
+use Rattle.av_chain.specs.Links.{one_if}
+use Rattle.av_rmap.specs.Looks.{ahead}
 use Rattle.av_rmap.specs.Unmap.{away}
 use Rattle.av_rmap.specs.View.{View}
-use Rattle.av_rmap.specs.Walk.{holds, looks_to_last, names_frame, walk_of}
-use Rattle.av_rmap.proofs.Changes.{IsChanged, all-changed, changed-last, changed-turn, left-then, none-changed}
+use Rattle.av_rmap.specs.Walk.{areas_from, looks_to_last, names_frame, walk_of}
+use Rattle.av_rmap.proofs.Changes.{IsUnderWay, begin, done, home-changed, left-are, one-more, passes-before, there-now}
 use Rattle.av_rmap.proofs.Entries.{walk-many}
-use Rattle.av_rmap.proofs.Turns.{looks-none, rest, rest-none, turn-holds}
-use Rattle.av_rmap.proofs.UnmapLemmas.{one-unmapped, sends}
+use Rattle.av_rmap.proofs.LookLemmas.{a-look, looks-none, walk-length}
+use Rattle.av_rmap.proofs.UnmapLemmas.{sends}
 use Rattle.av_rmap.proofs.unmap.unmap.Goals as goal
 
-pub looks-init : goal.looks-init
-looks-init g c =
+pub areas-init : goal.areas-init
+areas-init g c =
     let view = g.K.Look.view c.args.look.now in
     let f = names_frame c.args.frame in
     let home = c.args.home in
-    let all = rest-none (view.spans home.0) in
+    let all = c.new-looks.ensures in
     record {
-      ahead = c.new-ahead.ensures;
-      left = ap (λ xs. length (walk_of view f home.1 xs)) all
+      unmapped = subst (λ areas. IsUnderWay (away c.args.frame c.args.slot) home.1 view view areas (areas_from view home)) (sym all)
+          (begin (away c.args.frame c.args.slot) view home c.requires.spanned);
+      left = ap (λ areas. length (walk_of view f home.1 areas)) all
           ∙ walk-many view f home c.args.maps c.requires.spanned c.requires.apart c.requires.covered c.requires.maps;
-      unmapped = subst (λ xs. IsChanged (away c.args.frame c.args.slot) view view (walk_of view f home.1 xs)) (sym all)
-          (none-changed (sends c.args.frame c.args.slot) view home c.requires.spanned c.requires.apart c.requires.covered);
       kept = refl;
-      counted = ap (λ xs. c.args.steps.now + looks_to_last view f home.1 xs) all;
+      counted = ap (λ areas. c.args.steps.now + looks_to_last view f home.1 areas) all;
     }
-
-pub next-requires : goal.next-requires
-next-requires g c =
-    let h = c.looks.invariant.unmapped in
-    subst (IsAhead c.looks.ahead c.looks.after c.args.home.1) (sym (ap (λ (v : View). v.spans c.args.home.0) h.rest)) c.looks.invariant.ahead
 
 -- an entry is left, so `next` finds an area
 pub unreachable-requires : goal.unreachable-requires
 unreachable-requires g c =
-    let none = changed-last (sends c.args.frame c.args.slot) c.args.home c.looks.after c.next.result c.requires.spanned c.looks.invariant.unmapped
-    c.next.ensures.first c.in_default.is in
-    let some = c.looks-test.true in let left = c.looks.invariant.left in let empty = ap length none in
-    absurd (omega (arith, some, left, empty))
+    let before = g.K.Look.view c.args.look.now in
+    let h = c.areas.invariant in
+    let none = sym (ap (λ (v : View). ahead c.areas.looks v) h.unmapped.rest) ∙ rw c.in_default.is at c.next.ensures.none in
+    let empty = ap (λ areas. length (walk_of before (names_frame c.args.frame) c.args.home.1 areas)) none in
+    let left = h.left in let some = c.areas-test.true in
+    absurd (omega (arith, empty, left, some))
 
 pub unmap_in-requires : goal.unmap_in-requires
 unmap_in-requires g c =
     let before = g.K.Look.view c.args.look.now in
-    let now = g.K.Look.view c.looks.look in
-    let h = c.looks.invariant.unmapped in
-    let k : ℕ × ℕ = (c.in-Some.first, c.in-Some.area) in
-    let t = changed-turn (sends c.args.frame c.args.slot) (names_frame c.args.frame) c.args.home c.looks.after k c.next.result c.requires.spanned h
-    c.next.ensures.ordered c.next.ensures.first c.in-Some.is in
-    subst (λ (v : View). IsSomeAnd (v.areas c.in-Some.area) (λ a. holds c.args.home.1 a ≡ true)) (sym h.rest)
-    (turn-holds before (names_frame c.args.frame) c.args.home.1 c.looks.after k (before.spans c.args.home.0) t)
+    let now = g.K.Look.view c.areas.look in
+    let h = c.areas.invariant in
+    let a = c.in-Some.area in
+    let left : ahead c.areas.looks before ≡ a ∷ ahead c.next.new.self before =
+    sym (ap (λ (v : View). ahead c.areas.looks v) h.unmapped.rest) ∙ rw c.in-Some.is at c.next.ensures.some
+    ∙ ap (λ (v : View). a ∷ ahead c.next.new.self v) h.unmapped.rest in
+    there-now (away c.args.frame c.args.slot) c.args.home.1 before now a _ _ (left-are _ _ _ _ _ _ _ left h.unmapped)
 
-pub looks-smaller-then-unmap_in : goal.looks-smaller-then-unmap_in
-looks-smaller-then-unmap_in g c =
-    let t = changed-turn (sends c.args.frame c.args.slot) (names_frame c.args.frame) c.args.home c.looks.after (c.in-Some.first, c.in-Some.area)
-    c.next.result c.requires.spanned c.looks.invariant.unmapped c.next.ensures.ordered c.next.ensures.first c.in-Some.is in
-    let count = t.count in omega (arith, count)
+pub areas-smaller-then-unmap_in : goal.areas-smaller-then-unmap_in
+areas-smaller-then-unmap_in g c =
+    let h = c.areas.invariant in
+    let fewer = ap length (sym (ap (λ (v : View). ahead c.areas.looks v) h.unmapped.rest) ∙ rw c.in-Some.is at c.next.ensures.some
+    ∙ ap (λ (v : View). c.in-Some.area ∷ ahead c.next.new.self v) h.unmapped.rest) in
+    omega (arith, fewer)
 
-pub looks-preserved-then-unmap_in : goal.looks-preserved-then-unmap_in
-looks-preserved-then-unmap_in g c =
+pub areas-smaller : goal.areas-smaller
+areas-smaller g c =
+    let h = c.areas.invariant in
+    let fewer = ap length (sym (ap (λ (v : View). ahead c.areas.looks v) h.unmapped.rest) ∙ rw c.in-Some.is at c.next.ensures.some
+    ∙ ap (λ (v : View). c.in-Some.area ∷ ahead c.next.new.self v) h.unmapped.rest) in
+    omega (arith, fewer)
+
+pub areas-preserved-then-unmap_in : goal.areas-preserved-then-unmap_in
+areas-preserved-then-unmap_in g c =
     let before = g.K.Look.view c.args.look.now in
-    let now = g.K.Look.view c.looks.look in
-    let h = c.looks.invariant.unmapped in
+    let now = g.K.Look.view c.areas.look in
+    let new = g.K.Look.view c.unmap_in.new.look in
+    let f = c.args.frame in
     let i = c.args.home.1 in
-    let k : ℕ × ℕ = (c.in-Some.first, c.in-Some.area) in
-    let xs = before.spans c.args.home.0 in
-    let t = changed-turn (sends c.args.frame c.args.slot) (names_frame c.args.frame) c.args.home c.looks.after k c.next.result c.requires.spanned h
-    c.next.ensures.ordered c.next.ensures.first c.in-Some.is in
-    let many = left-then (sends c.args.frame c.args.slot) before now i c.looks.after k xs h t c.unmap_in.result true
-    c.unmap_in.ensures.named c.if-unmap_in.true in
-    let counted = c.looks.invariant.counted in let left = c.looks.invariant.left in let step = c.unmap_in.ensures.counted in
-    let some : 0 < length (walk_of before (names_frame c.args.frame) i (rest c.looks.after xs)) = omega (arith, left) in
-    let looks = t.looks some in
+    let h = c.areas.invariant in
+    let a = c.in-Some.area in
+    let later = ahead c.next.new.self before in
+    let left : ahead c.areas.looks before ≡ a ∷ later =
+    sym (ap (λ (v : View). ahead c.areas.looks v) h.unmapped.rest) ∙ rw c.in-Some.is at c.next.ensures.some
+    ∙ ap (λ (v : View). a ∷ ahead c.next.new.self v) h.unmapped.rest in
+    let way = left-are (away f c.args.slot) i before now _ (a ∷ later) (areas_from before c.args.home) left h.unmapped in
+    let named = sym c.if-unmap_in.true ∙ c.unmap_in.ensures.named
+    ∙ passes-before (away f c.args.slot) i before now a later (areas_from before c.args.home) way (names_frame f) in
+    let found = ap (λ areas. length (walk_of before (names_frame f) i areas)) (sym left) ∙ h.left in
+    let parts = walk-length before (names_frame f) i a later ∙ ap (λ b. one_if b + length (walk_of before (names_frame f) i later)) (sym named) in
+    let test = c.areas-test.true in
+    let look = a-look before (names_frame f) i a later (omega (arith, found, test)) in
+    let looks = ap (looks_to_last before (names_frame f) i) left in
+    let counted = h.counted in let step = c.unmap_in.ensures.counted in
     record {
-      ahead = subst (IsAhead c.next.new.self (Some k) i) (ap (λ (v : View). v.spans c.args.home.0) h.rest) (rw c.in-Some.is at c.next.ensures.ahead);
-      left = omega (arith, many, left);
-      unmapped = one-unmapped c.args.frame c.args.slot before now (g.K.Look.view c.unmap_in.new.look) i c.looks.after k xs h t
-          c.unmap_in.ensures.unmapped;
-      kept = c.unmap_in.ensures.kept ∙ c.looks.invariant.kept;
-      counted = omega (arith, looks, counted, step);
+      unmapped = one-more (away f c.args.slot) i before now a later (areas_from before c.args.home) way c.requires.apart new c.unmap_in.ensures.unmapped;
+      left = omega (arith, found, parts);
+      kept = c.unmap_in.ensures.kept ∙ h.kept;
+      counted = omega (arith, look, looks, counted, step);
     }
 
-pub looks-smaller : goal.looks-smaller
-looks-smaller g c =
-    let t = changed-turn (sends c.args.frame c.args.slot) (names_frame c.args.frame) c.args.home c.looks.after (c.in-Some.first, c.in-Some.area)
-    c.next.result c.requires.spanned c.looks.invariant.unmapped c.next.ensures.ordered c.next.ensures.first c.in-Some.is in
-    let count = t.count in omega (arith, count)
-
-pub looks-preserved : goal.looks-preserved
-looks-preserved g c =
+pub areas-preserved : goal.areas-preserved
+areas-preserved g c =
     let before = g.K.Look.view c.args.look.now in
-    let now = g.K.Look.view c.looks.look in
-    let h = c.looks.invariant.unmapped in
+    let now = g.K.Look.view c.areas.look in
+    let new = g.K.Look.view c.unmap_in.new.look in
+    let f = c.args.frame in
     let i = c.args.home.1 in
-    let k : ℕ × ℕ = (c.in-Some.first, c.in-Some.area) in
-    let xs = before.spans c.args.home.0 in
-    let t = changed-turn (sends c.args.frame c.args.slot) (names_frame c.args.frame) c.args.home c.looks.after k c.next.result c.requires.spanned h
-    c.next.ensures.ordered c.next.ensures.first c.in-Some.is in
-    let many = left-then (sends c.args.frame c.args.slot) before now i c.looks.after k xs h t c.unmap_in.result false
-    c.unmap_in.ensures.named c.if-unmap_in.false in
-    let counted = c.looks.invariant.counted in let left = c.looks.invariant.left in let step = c.unmap_in.ensures.counted in
-    let some : 0 < length (walk_of before (names_frame c.args.frame) i (rest c.looks.after xs)) = omega (arith, left) in
-    let looks = t.looks some in
+    let h = c.areas.invariant in
+    let a = c.in-Some.area in
+    let later = ahead c.next.new.self before in
+    let left : ahead c.areas.looks before ≡ a ∷ later =
+    sym (ap (λ (v : View). ahead c.areas.looks v) h.unmapped.rest) ∙ rw c.in-Some.is at c.next.ensures.some
+    ∙ ap (λ (v : View). a ∷ ahead c.next.new.self v) h.unmapped.rest in
+    let way = left-are (away f c.args.slot) i before now _ (a ∷ later) (areas_from before c.args.home) left h.unmapped in
+    let named = sym c.if-unmap_in.false ∙ c.unmap_in.ensures.named
+    ∙ passes-before (away f c.args.slot) i before now a later (areas_from before c.args.home) way (names_frame f) in
+    let found = ap (λ areas. length (walk_of before (names_frame f) i areas)) (sym left) ∙ h.left in
+    let parts = walk-length before (names_frame f) i a later ∙ ap (λ b. one_if b + length (walk_of before (names_frame f) i later)) (sym named) in
+    let test = c.areas-test.true in
+    let look = a-look before (names_frame f) i a later (omega (arith, found, test)) in
+    let looks = ap (looks_to_last before (names_frame f) i) left in
+    let counted = h.counted in let step = c.unmap_in.ensures.counted in
     record {
-      ahead = subst (IsAhead c.next.new.self (Some k) i) (ap (λ (v : View). v.spans c.args.home.0) h.rest) (rw c.in-Some.is at c.next.ensures.ahead);
-      left = omega (arith, many, left);
-      unmapped = one-unmapped c.args.frame c.args.slot before now (g.K.Look.view c.unmap_in.new.look) i c.looks.after k xs h t
-          c.unmap_in.ensures.unmapped;
-      kept = c.unmap_in.ensures.kept ∙ c.looks.invariant.kept;
-      counted = omega (arith, looks, counted, step);
+      unmapped = one-more (away f c.args.slot) i before now a later (areas_from before c.args.home) way c.requires.apart new c.unmap_in.ensures.unmapped;
+      left = omega (arith, found, parts);
+      kept = c.unmap_in.ensures.kept ∙ h.kept;
+      counted = omega (arith, look, looks, counted, step);
     }
 
 -- no entry names the frame
@@ -115,36 +124,38 @@ pub returns-then-maps-eq0-clause-unmapped : goal.returns-then-maps-eq0-clause-un
 returns-then-maps-eq0-clause-unmapped g c =
     let view = g.K.Look.view c.args.look.now in
     let f = names_frame c.args.frame in
-    let many = walk-many view f c.args.home c.args.maps c.requires.spanned c.requires.apart c.requires.covered c.requires.maps in
-    all-changed (sends c.args.frame c.args.slot) view view _
-    (none-changed (sends c.args.frame c.args.slot) view c.args.home c.requires.spanned c.requires.apart c.requires.covered)
-    (nil_from_length _ (many ∙ c.if-maps-eq0.true))
+    let home = c.args.home in
+    let none = nil_from_length _ (walk-many view f home c.args.maps c.requires.spanned c.requires.apart c.requires.covered c.requires.maps
+    ∙ c.if-maps-eq0.true) in
+    done (sends c.args.frame c.args.slot) home.1 view view _ _ (begin (away c.args.frame c.args.slot) view home c.requires.spanned) none
+    ∙ home-changed (sends c.args.frame c.args.slot) home view c.requires.spanned c.requires.covered
 
--- none is left
-pub returns-clause-unmapped : goal.returns-clause-unmapped
-returns-clause-unmapped g c =
-    let before = g.K.Look.view c.args.look.now in
-    let xs = rest c.looks.after (before.spans c.args.home.0) in
-    let left = c.looks.invariant.left in
-    let none : length (walk_of before (names_frame c.args.frame) c.args.home.1 xs) ≡ 0 = omega (arith, left) in
-    all-changed (sends c.args.frame c.args.slot) before (g.K.Look.view c.looks.look) _ c.looks.invariant.unmapped
-    (nil_from_length _ none)
-
--- no look is left then
 pub returns-then-maps-eq0-clause-counted : goal.returns-then-maps-eq0-clause-counted
 returns-then-maps-eq0-clause-counted g c =
     let view = g.K.Look.view c.args.look.now in
     let f = names_frame c.args.frame in
     let many = walk-many view f c.args.home c.args.maps c.requires.spanned c.requires.apart c.requires.covered c.requires.maps in
-    let none = looks-none view f c.args.home.1 (view.spans c.args.home.0) (nil_from_length _ (many ∙ c.if-maps-eq0.true)) in
+    let none = looks-none view f c.args.home.1 (areas_from view c.args.home) (nil_from_length _ (many ∙ c.if-maps-eq0.true)) in
     omega (arith, none)
+
+-- none is left
+pub returns-clause-unmapped : goal.returns-clause-unmapped
+returns-clause-unmapped g c =
+    let before = g.K.Look.view c.args.look.now in
+    let now = g.K.Look.view c.areas.look in
+    let h = c.areas.invariant in
+    let left = h.left in let test = c.areas-test.false in
+    let none = nil_from_length (walk_of before (names_frame c.args.frame) c.args.home.1 (ahead c.areas.looks before)) (omega (arith, left, test)) in
+    done (sends c.args.frame c.args.slot) c.args.home.1 before now _ _ h.unmapped none
+    ∙ home-changed (sends c.args.frame c.args.slot) c.args.home before c.requires.spanned c.requires.covered
 
 pub returns-clause-counted : goal.returns-clause-counted
 returns-clause-counted g c =
     let before = g.K.Look.view c.args.look.now in
-    let f = names_frame c.args.frame in
-    let xs = rest c.looks.after (before.spans c.args.home.0) in
-    let left = c.looks.invariant.left in let counted = c.looks.invariant.counted in
-    let empty : length (walk_of before f c.args.home.1 xs) ≡ 0 = omega (arith, left) in
-    let none = looks-none before f c.args.home.1 xs (nil_from_length _ empty) in
+    let h = c.areas.invariant in
+    let left = h.left in let test = c.areas-test.false in
+    let found = walk_of before (names_frame c.args.frame) c.args.home.1 (ahead c.areas.looks before) in
+    let none = looks-none before (names_frame c.args.frame) c.args.home.1 (ahead c.areas.looks before)
+    (nil_from_length found (omega (arith, left, test))) in
+    let counted = h.counted in
     omega (arith, none, counted)

@@ -6,5 +6,5 @@ pub is_locked-requires-clause-found : goal.is_locked-requires-clause-found
 is_locked-requires-clause-found g c = are-found _ _ _ (reaches-served _ _ _ _ _ _ c.requires.stands.2.2) c.args.frame
 
 pub returns : goal.returns
-returns g c = λ told. locked-told _ _ _ _ _ _ c.requires.stands.1.in_order c.requires.stands.2.2 c.is_locked-2.ensures.numbered c.args.frame
-    c.is_locked-2.result c.is_locked-2.ensures.locked
+returns g c = λ told. locked-told _ _ _ _ _ _ c.requires.stands.1.in_order c.requires.stands.2.2 c.is_locked.ensures.numbered c.args.frame
+    c.is_locked.result c.is_locked.ensures.locked

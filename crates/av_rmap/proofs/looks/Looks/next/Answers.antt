@@ -1,4 +1,4 @@
-use Rattle.std.proofs.Common.{rules, ◌≤◌, [], length, sym, ap, ◌∙◌}
+use Rattle.std.proofs.Common.{sym, ap, ◌∙◌}
 use Rattle.av_rmap.specs.Looks.{ahead}
 use Rattle.av_rmap.proofs.NextAreas.{gives-none, gives-some}
 use Rattle.av_rmap.proofs.looks.Looks.next.Goals as goal
