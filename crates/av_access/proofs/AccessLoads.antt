@@ -167,7 +167,7 @@ module _ (p page a : ℕ) (bytes : List ℕ) (apart : IsApart a (length bytes) p
       (cond b (option_map without_bytes x) x)
   one-stored l s o x own false is = refl
   one-stored l s o None own true is = refl
-  one-stored l s o (Some q) own true is = ap Some (λ k. record { prot = q.prot; bytes = λ i. sym (none i) k })
+  one-stored l s o (Some q) own true is = ap Some (λ k. record { prot = q.prot; flags = q.flags; bytes = λ i. sym (none i) k })
     where
       none : (i : ℕ) → cond (within a (length bytes) (address_of o + i)) (Some (slice_index bytes (address_of o + i - a))) None ≡ None
       none i = ap (λ b. cond b (Some (slice_index bytes (address_of o + i - a))) None)

@@ -166,9 +166,9 @@ module _ {d d' : Device} (s : State) (mid new : Mem) (write : Bool) (p a k page 
       ∙ ap (λ ns. before ++ ns) (ap (λ ns. notes_of h.events ++ ns) (sym (notes-happening write (p, page) added end))
       ∙ sym (notes_of-append h.events (page_events write (p, page) added end)))
 
-  accesses-both : (pages : List (Bool × ℕ)) (more : List Event) (end : End) → Accesses (setting_by d new) h.next.world h.next.ledger p pages more end
-      → Accesses (setting_by d new) s.world s.ledger p (pages_of_access write a k ++ pages) (h.events ++ more) end
-  accesses-both pages more end g = accesses-append (setting_by d new) s.world h.next.world s.ledger p (pages_of_access write a k) pages h.events
+  accesses-both : (later : List (Bool × ℕ)) (more : List Event) (end : End) → Accesses (setting_by d new) h.next.world h.next.ledger p later more end
+      → Accesses (setting_by d new) s.world s.ledger p (pages_of_access write a k ++ later) (h.events ++ more) end
+  accesses-both later more end g = accesses-append (setting_by d new) s.world h.next.world s.ledger p (pages_of_access write a k) later h.events
       more end
       (alike-by-allowed s.world h.next.world p (λ wants page. allowed-loaded (setting_by d mid) s.world s.ledger h.events wants p page
       ∙ allowed-served (with_loads (setting_by d mid) s.world s.ledger h.events) write wants p a xs page
@@ -178,7 +178,7 @@ module _ {d d' : Device} (s : State) (mid new : Mem) (write : Bool) (p a k page 
       ∙ ap (λ w. is_locked_page (pages w q page)) (sym h.world)))
       (subst (λ n. Accesses (setting_of n d) s.world s.ledger p (pages_of_access write a k) h.events Whole) (sym same)
       (subst (λ end. Accesses (setting_by d mid) s.world s.ledger p (pages_of_access write a k) h.events end) h.is_end.0 h.accesses))
-      (subst (λ l. Accesses (setting_by d new) h.next.world l p pages more end) h.ledger g)
+      (subst (λ l. Accesses (setting_by d new) h.next.world l p later more end) h.ledger g)
 
   free-both : (more : List Event) (free : Free) → ChoosesAll (setting_by d new) None h.next.ledger more h.next.free free →
       ChoosesAll (setting_by d new) None s.ledger (h.events ++ more) s.free free

@@ -70,6 +70,7 @@ module _ {d : Device} (s : State) (old new : Mem) (p a : ℕ) (before notes : Li
         areas = sym (stay (chain_length now.anons) now.areas);
         anons = left_alone new now kept;
         homes = refl;
+        items = refl;
       }))
 
   -- the notes are those of the access alone

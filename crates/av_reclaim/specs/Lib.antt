@@ -1,3 +1,2 @@
 pub mod Driver
-pub mod Locks
 pub mod Commands

@@ -2,8 +2,8 @@
 
 ghost use Rattle.std.specs.Prelude.{◌≡◌, ◌∷◌, []};
 ghost use Rattle.av_plain.specs.Device.{as_told, device_by};
-ghost use Rattle.av_reclaim.specs.Driver.{end_of, view_of};
-ghost use Rattle.av_reclaim.specs.Locks.{view_locks};
+ghost use Rattle.av_mem.proofs.Locks.{locks as locked_so};
+ghost use Rattle.av_reclaim.specs.Driver.{closing_of, end_of, view_of};
 
 use av_base::Slot;
 use av_evict::{System, WriteEnd};
@@ -26,8 +26,9 @@ impl<'a, D: SwapDev> System for Driver<'a, D> {
     ghost view = { λ s told. view_of (s.mem.ghost_name ∷ s.dev.ghost_name ∷ []) (as_told told
         (device_by (D.sizes s.dev.now) (D.pages s.dev.now) (D.failures s.dev.now))) s.mem.now };
 
-    ghost locks = { λ s told. view_locks (s.mem.ghost_name ∷ s.dev.ghost_name ∷ []) (as_told told
-        (device_by (D.sizes s.dev.now) (D.pages s.dev.now) (D.failures s.dev.now))) s.mem.now };
+    ghost locks = { λ s told l sound stood w r claims. locked_so (as_told told
+        (device_by (D.sizes s.dev.now) (D.pages s.dev.now) (D.failures s.dev.now)))
+        (closing_of s.mem.now) s.mem.now w r l sound.in_order claims };
 
     fn frames(&self) -> u32 {
         self.mem.frames.count()

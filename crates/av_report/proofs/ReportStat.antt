@@ -1,5 +1,5 @@
 -- The numbers of `stat`.
-use Rattle.std.proofs.Common.{◌≡◌, ℕ, ◌<◌, ◌≤◌, ◌==◌, true, [], length, refl, sym, ap, subst, ◌∙◌}
+use Rattle.std.proofs.Common.{◌≡◌, ℕ, ◌<◌, ◌≤◌, ◌==◌, true, [], length, refl, sym, subst, ◌∙◌}
 use Rattle.av_base.specs.Words.{how_many, is_in}
 use Rattle.av_trace.specs.declared.command.Command.TheVariants.{Stat}
 use Rattle.av_trace.specs.declared.reply.Answer.TheVariants.{Counted, Done}

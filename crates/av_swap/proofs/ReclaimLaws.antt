@@ -88,6 +88,7 @@ module _ (command : Command) (by : IsByNotes command) where
             areas = sym (by.areas _ r.areas s.world);
             anons = left_alone new after kept;
             homes = refl;
+            items = refl;
           });
           shows = by.shows s.areas s.anons;
         };

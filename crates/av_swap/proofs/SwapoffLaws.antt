@@ -125,6 +125,7 @@ module _ (area : ℕ) where
             areas = sym (areas-kept area (chain_length r.anons) r.areas s.world end);
             anons = left_alone new after kept;
             homes = refl;
+            items = refl;
           });
           shows = shows-none area s.areas s.anons end;
         };

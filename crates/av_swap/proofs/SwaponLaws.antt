@@ -128,6 +128,7 @@ alike-keeps d k swap s same keeps = record {
     slots = h.slots;
   }) d s) (sym same) keeps.stands;
   lists = keeps.lists;
+  items = keeps.items;
   tables = keeps.tables;
   anons = keeps.anons;
   swap = record {
@@ -343,10 +344,13 @@ module _ (d : Device) (k : Mem) (swap : SwapStore) (s : State) (area pages : ℕ
         areas = keeps.stands.areas;
         anons = record { next = keeps.stands.anons.next; kin = keeps.stands.anons.kin; chains = keeps.stands.anons.chains };
         homes = on-step.held.homes;
+        items = on-step.held.items;
         reach = on-step.held.covered.frames;
         slots = on-step.held.covered.slots;
+        merged = on-step.held.covered.merged;
       };
       lists = keeps.lists;
+      items = keeps.items;
       tables = keeps.tables;
       anons = keeps.anons;
       swap = on-fits;

@@ -1,20 +1,19 @@
 -- What the memory system serves when a swap area begins to close, and when it gives its slots again or goes off.
-use Rattle.std.proofs.Common.{◌≡◌, ℕ, ◌+◌, ◌<◌, ◌≤◌, Bool, true, false, cond, not, ◌==◌, nat_lt, T, List, [], ◌∷◌, ◌++◌, map, Option, Some, None, is_some, option_map, IfSome, IsSomeAnd, refl, sym, ap, subst, ◌∙◌, arith}
+use Rattle.std.proofs.Common.{◌≡◌, ℕ, ◌≤◌, Bool, true, false, cond, not, ◌==◌, T, List, [], ◌∷◌, map, Option, Some, None, is_some, IfSome, IsSomeAnd, refl, sym, ap, subst, ◌∙◌, arith}
 use Rattle.std.proofs.lemmas.Bool.Decides.{nat_tests}
-use Rattle.std.specs.FinMap.Entries.{find, find-where_key, is_sorted, where_key}
+use Rattle.std.specs.FinMap.Entries.{find, find-where_key, is_sorted}
 use Rattle.std.specs.Ordering.{is_eq, nat_cmp}
 use Rattle.std.specs.Prelude.{ℤ, pos}
 use Rattle.std.specs.declared.cmp.Ordering.TheVariants.{Equal}
-use Rattle.av_base.specs.declared.slot.Slot.{Slot}
 use Rattle.av_swapcache.specs.Swap.{HasAreas, Shown as ShownSwap, Store as SwapStore, after_off, header_at, is_on as is_shown_on, shown as shown_swap, with_closing}
 use Rattle.av_swapcache.proofs.Views.{areas_off}
 use Rattle.av_swapdev.specs.Header.{Layout}
 use Rattle.av_swapdev.specs.declared.header.Header.{Header}
 use Rattle.av_plain.specs.Areas.{Rmap}
-use Rattle.av_plain.specs.Choice.{Free, ListsAll}
+use Rattle.av_plain.specs.Choice.{ListsAll}
 use Rattle.av_plain.specs.Device.{Device, headers_of}
 use Rattle.av_plain.specs.Event.{TurnedOff, after}
-use Rattle.av_plain.specs.Ledger.{Ledger, Setting, SwapArea, is_on, key_cmp, slots_in_use}
+use Rattle.av_plain.specs.Ledger.{Ledger, is_on, key_cmp, slots_in_use}
 use Rattle.av_plain.specs.Stands.{AnonsStand, AreasAre, AreasStand, SwapStands, View, free_of}
 use Rattle.av_plain.specs.World.{World}
 use Rattle.av_plain.proofs.FreeLists.{lists-stay}
@@ -22,7 +21,7 @@ use Rattle.av_plain.proofs.Sound.Swap.Area.{fit-off, there-off}
 use Rattle.av_swap_laws.specs.Held.{IsHeld, Steps}
 use Rattle.av_swap_laws.specs.Steps.{view_off}
 use Rattle.av_swap_laws.proofs.Whole.{off-steps}
-use Rattle.av_mem.specs.Mem.{AgreesWith, AreByHeaders, Serves, SwapFits, area_of, held_by, setting_by, view}
+use Rattle.av_mem.specs.Mem.{AgreesWith, AreByHeaders, Serves, area_of, held_by, setting_by, view}
 use Rattle.av_mem.specs.declared.mem.Mem.{Mem}
 use Rattle.av_mem.proofs.SwapAreas.{areas-off}
 

@@ -11,7 +11,7 @@ use Rattle.av_plain.specs.Sound.{IsSound}
 use Rattle.av_plain.specs.Stands.{free_of}
 use Rattle.av_plain.specs.World.{World}
 use Rattle.av_evict.specs.System.{Always, Gives, IsAt}
-use Rattle.av_mem.specs.Mem.{Serves, frame_count, setting_by, view}
+use Rattle.av_mem.specs.Mem.{Serves, setting_by, view}
 use Rattle.av_mem.specs.declared.mem.Mem.{Mem}
 use Rattle.av_reclaim.specs.Driver.{closing_of, view_of}
 use Rattle.av_reclaim.proofs.CommandLaws.{IsLent, closing-so, one-device}

@@ -1,25 +1,24 @@
 -- What a swapoff did, by how its area was emptied.
-use Rattle.std.proofs.Common.{◌≡◌, ℕ, ◌+◌, ◌<◌, ◌≤◌, ◌⊎◌, inl, inr, Bool, true, false, cond, not, ◌==◌, nat_lt, List, [], ◌∷◌, ◌++◌, map, Option, Some, None, is_some, option_map, ◌||◌, refl, sym, ap, subst, ◌∙◌, arith}
+use Rattle.std.proofs.Common.{◌≡◌, ℕ, ◌+◌, ◌<◌, Bool, true, false, cond, ◌==◌, nat_lt, List, [], ◌∷◌, ◌++◌, Option, Some, None, is_some, refl, sym, ap, subst, ◌∙◌, arith}
 use Rattle.std.proofs.lemmas.Bool.Decides.{nat_tests}
 use Rattle.std.proofs.lemmas.Bool.{false≢true}
 use Rattle.std.proofs.lemmas.List.{append-nil}
 use Rattle.std.specs.FinMap.Entries.{find}
-use Rattle.std.specs.List.{list_any}
 use Rattle.std.specs.Ordering.{nat_cmp}
 use Rattle.av_base.specs.declared.slot.Slot.{Slot}
-use Rattle.av_swapcache.specs.Swap.{Shown as ShownSwap, Store as SwapStore, after_off, count_of, is_on as is_shown_on, shown as shown_swap, with_closing}
+use Rattle.av_swapcache.specs.Swap.{Store as SwapStore, after_off, count_of, is_on as is_shown_on, shown as shown_swap, with_closing}
 use Rattle.av_trace.specs.declared.note.Cause.TheVariants.{Ksm, Locked, NoSlot, Referenced, WriteStarted, Writeback}
 use Rattle.av_trace.specs.declared.note.Note.{Note}
 use Rattle.av_trace.specs.declared.note.Note.TheVariants.{Aged, Copied, Dropped, Failed, Joined, Kept, Loaded, Mapped, Moved, New, Put, Shared, Started, Unmapped, Written, Zeroed}
 use Rattle.av_plain.specs.Areas.{Rmap, rmap_after_all}
-use Rattle.av_plain.specs.Choice.{Chooses, ChoosesAll, Free}
-use Rattle.av_plain.specs.Device.{Device, IsSameDevice, as_told, setting_of}
-use Rattle.av_plain.specs.Event.{Event, TurnedOff, after, after_all, after_note, after_notes, change_entries, if_some, key_at, note_events, off_cache, off_flight, settle, to_inactive_tail}
-use Rattle.av_plain.specs.Ledger.{Cached, Entry, InSlot, Ledger, Setting, SwapArea, cached_by, frame_at, is_cached, same_slot, is_on, slot_count, slot_entries, slot_of, slots_in_use}
+use Rattle.av_plain.specs.Choice.{Chooses, ChoosesAll}
+use Rattle.av_plain.specs.Device.{Device, as_told, setting_of}
+use Rattle.av_plain.specs.Event.{Event, TurnedOff, after, after_all, after_note, after_notes, change_entries, if_some, key_at, note_events, off_cache, off_flight, to_inactive_tail}
+use Rattle.av_plain.specs.Ledger.{InSlot, Ledger, Setting, SwapArea, frame_at, slot_count, slot_entries, slot_of, slots_in_use}
 use Rattle.av_plain.specs.Load.{after_load, after_loads, with_loads}
-use Rattle.av_plain.specs.Sound.{AllSound, AreThere, IsSound, count}
+use Rattle.av_plain.specs.Sound.{AllSound, IsSound, count}
 use Rattle.av_plain.specs.Stands.{View, free_of}
-use Rattle.av_plain.specs.Swapoff.{Close, Closed, TurnsOff, close_answer, turn_off_events}
+use Rattle.av_plain.specs.Swapoff.{Closed, TurnsOff, close_answer, turn_off_events}
 use Rattle.av_plain.specs.World.{World}
 use Rattle.av_plain.proofs.Access.{after_all-append, after_notes-append, chooses-append, note_events-all}
 use Rattle.av_plain.proofs.AreasLeft.{rmap_after_all-append}
@@ -27,7 +26,7 @@ use Rattle.av_plain.proofs.Event.{changed-by}
 use Rattle.av_plain.proofs.Sound.Swap.Area.{used-elsewhere}
 use Rattle.av_plain.proofs.Sound.Swap.Empty.{done-empty, empties-hold, turn-off-sound}
 use Rattle.av_plain.proofs.Sound.There.{counted-slot, settle-on}
-use Rattle.av_mem.specs.Between.{HasDoneWhile, IsBetween, KeepsBetween}
+use Rattle.av_mem.specs.Between.{IsBetween, KeepsBetween}
 use Rattle.av_mem.specs.Mem.{Serves, frame_count, setting_by, view}
 use Rattle.av_mem.specs.declared.mem.Mem.{Mem}
 use Rattle.av_mem.proofs.ServesLaws.{same-setting}

@@ -1,5 +1,5 @@
 -- Which slots of an area are in use: none past its pages, and none where it is off.
-use Rattle.std.proofs.Common.{◌≡◌, ℕ, ◌+◌, ◌<◌, ◌≤◌, Bool, true, false, cond, not, ◌&&◌, ◌||◌, nat_lt, List, [], Option, Some, None, is_some, refl, sym, ap, subst, ◌∙◌, arith}
+use Rattle.std.proofs.Common.{◌≡◌, ℕ, ◌≤◌, Bool, true, false, cond, not, ◌&&◌, ◌||◌, nat_lt, Option, Some, None, is_some, refl, sym, ap, ◌∙◌, arith}
 use Rattle.std.proofs.lemmas.Bool.{false≢true}
 use Rattle.std.proofs.lemmas.Bool.Decides.{nat_tests}
 use Rattle.std.specs.Prelude.{IfSome, IsSomeAnd}
@@ -7,8 +7,8 @@ use Rattle.av_base.specs.declared.slot.Slot.{Slot}
 use Rattle.av_clusters.specs.declared.clusters.Page.{Page}
 use Rattle.av_clusters.specs.Clusters.{Slots, is_free, is_taken, page_at}
 use Rattle.av_swapdev.specs.declared.header.Header.{Header}
-use Rattle.av_swapcache.specs.Area.{counted, is_slot}
-use Rattle.av_swapcache.specs.Swap.{IsFit, Shown, count_of, header_at, is_on, no_slots, shown as shown_swap}
+use Rattle.av_swapcache.specs.Area.{is_slot}
+use Rattle.av_swapcache.specs.Swap.{IsFit, Shown, count_of, header_at, is_on, shown as shown_swap}
 use Rattle.av_mem.specs.Mem.{view}
 use Rattle.av_mem.specs.declared.mem.Mem.{Mem}
 use Rattle.av_swapoff.specs.System.{slot_at}

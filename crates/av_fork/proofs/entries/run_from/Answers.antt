@@ -1,5 +1,4 @@
 use Rattle.std.proofs.Common.{◌≡◌, Bool, true, false, not, ◌&&◌, ◌∙◌, sym}
-use Rattle.av_fork.specs.Entries.{entry_goes_over}
 use Rattle.av_spaces.specs.Spaces.{pages_of}
 use Rattle.av_fork.proofs.EntriesLeft.{run-alike, run-further}
 use Rattle.av_fork.proofs.entries.run_from.Goals as goal

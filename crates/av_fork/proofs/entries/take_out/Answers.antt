@@ -1,4 +1,4 @@
-use Rattle.std.proofs.Common.{◌≡◌, ◌+◌, ◌-◌, ◌≤◌, ◌∙◌, ap, arith, refl, sym}
+use Rattle.std.proofs.Common.{◌∙◌, ap, arith, refl}
 use Rattle.av_pagetable.specs.Entries.{entry_at}
 use Rattle.av_mem.specs.declared.mem.Mem.{Mem}
 use Rattle.av_fork.proofs.EntriesLeft.{ranged-all, ranged-more, ranged-none}

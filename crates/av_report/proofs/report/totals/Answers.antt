@@ -1,4 +1,4 @@
-use Rattle.std.proofs.Common.{ap, ◌∙◌}
+use Rattle.std.proofs.Common.{◌∙◌}
 use Rattle.av_report.proofs.ReportStat.{counts-are}
 use Rattle.av_report.proofs.report.totals.Goals as goal
 

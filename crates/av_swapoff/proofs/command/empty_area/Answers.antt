@@ -1,5 +1,4 @@
-use Rattle.std.proofs.Common.{[], rules, true, false}
-use Rattle.av_plain.specs.Device.{as_told, device_by}
+use Rattle.std.proofs.Common.{[], rules, true}
 use Rattle.av_reclaim.proofs.CommandLaws.{count-lent, same-lent}
 use Rattle.av_swapoff.proofs.CommandLaws.{has-emptied, is-at}
 use Rattle.av_swapoff.proofs.command.empty_area.Goals as goal

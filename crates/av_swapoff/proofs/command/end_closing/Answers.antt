@@ -1,6 +1,3 @@
-use Rattle.av_swapoff.proofs.CommandLaws.{has-emptied}
-use Rattle.av_swapoff.proofs.TurnsOffLaws.{has-turned-off, may-end}
-use Rattle.av_swapoff.proofs.UsersTold.{all-told}
 use Rattle.av_swapoff.proofs.command.end_closing.Goals as goal
 
 pub remove-requires-clause-unused : goal.remove-requires-clause-unused

@@ -1,4 +1,4 @@
-use Rattle.std.proofs.Common.{◌≡◌, ◌∙◌, true, false, ap}
+use Rattle.std.proofs.Common.{◌∙◌, false, ap}
 use Rattle.av_plain.specs.Device.{Device, as_told, device_by}
 use Rattle.av_swapcache.specs.Swap.{Shown as ShownSwap, is_on}
 use Rattle.av_swapoff.proofs.CloseLaws.{with_swap}

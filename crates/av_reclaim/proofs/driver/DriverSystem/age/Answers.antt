@@ -1,11 +1,8 @@
-use Rattle.std.proofs.Common.{◌∙◌, ap}
-use Rattle.av_swap_laws.specs.Steps.{view_to_head}
-use Rattle.av_plain.specs.Stands.{View}
 use Rattle.av_mem.proofs.ReachLaws.{are-found, reaches-served}
 use Rattle.av_mem.proofs.StayLaws.{parts-then}
 use Rattle.av_mem.proofs.WalkLaws.{are-counted}
 use Rattle.av_reclaim.proofs.LeavesMakes.{age-left, mem-leaves}
-use Rattle.av_reclaim.proofs.StepMakes.{age-makes}
+use Rattle.av_reclaim.proofs.SeenMakes.{aged-makes}
 use Rattle.av_reclaim.proofs.driver.DriverSystem.age.Goals as goal
 
 pub unsee-requires-clause-found : goal.unsee-requires-clause-found
@@ -15,11 +12,10 @@ pub unsee-requires-clause-counted : goal.unsee-requires-clause-counted
 unsee-requires-clause-counted g c = are-counted _ _ _ _ _ _ c.requires.1.in_order c.requires.2.2 c.args.frame
 
 pub returns-clause-makes : goal.returns-clause-makes
-returns-clause-makes g c = λ told. age-makes _ _ _ _ c.args.frame
-    (c.to_head.ensures.moved ∙ ap (λ (v : View). view_to_head c.args.frame v) c.unsee.ensures.unseen)
-    (parts-then c.unsee.ensures.parts c.to_head.ensures.parts)
+returns-clause-makes g c = λ told. aged-makes _ _ _ _ _ c.args.frame c.unsee.ensures.unseen c.unsee.ensures.parts
+    c.to_head.ensures.moved c.to_head.ensures.parts
 
 pub returns-clause-stays : goal.returns-clause-stays
-returns-clause-stays g c = let parts = parts-then c.unsee.ensures.parts c.to_head.ensures.parts in
-    λ told. mem-leaves _ _ _ _ _ _ parts c.requires (age-makes _ _ _ _ c.args.frame
-    (c.to_head.ensures.moved ∙ ap (λ (v : View). view_to_head c.args.frame v) c.unsee.ensures.unseen) parts) (age-left _ _ c.args.frame) _
+returns-clause-stays g c = λ told. mem-leaves _ _ _ _ _ _ (parts-then c.unsee.ensures.parts c.to_head.ensures.parts) c.requires
+    (aged-makes _ _ _ _ _ c.args.frame c.unsee.ensures.unseen c.unsee.ensures.parts c.to_head.ensures.moved c.to_head.ensures.parts)
+    (age-left _ _ c.args.frame) _
