@@ -1,17 +1,13 @@
 -- What stands between two events, of the memory system.
-use Rattle.std.proofs.Common.{◌≡◌, ℕ, ◌≤◌, Bool, true, false, not, nat_lt, ◌&&◌, ◌==◌, ◌<◌, List, Option, Some, None, is_some, IfSome, IsSomeAnd, refl, sym, ap, subst, ◌∙◌, arith}
+use Rattle.std.proofs.Common.{◌≡◌, ℕ, Bool, true, false, nat_lt, ◌&&◌, ◌==◌, ◌<◌, List, Option, Some, None, IfSome, refl, sym, ap, subst, ◌∙◌, arith}
 use Rattle.std.specs.FinMap.Entries.{find}
 use Rattle.std.specs.Ordering.{nat_cmp}
 use Rattle.std.specs.Prelude.{slice_index}
 use Rattle.av_base.specs.Page.{page_size}
 use Rattle.av_base.specs.declared.slot.Slot.{Slot}
 use Rattle.av_spaces.specs.Kin.{AnonsFit}
-use Rattle.av_spaces.specs.Spaces.{AllSpaces}
-use Rattle.av_swapcache.specs.Swap.{Shown as ShownSwap, header_at, shown as shown_swap}
-use Rattle.av_swapdev.specs.declared.header.Header.{Header}
 use Rattle.av_swapdev.specs.Header.{Layout}
 use Rattle.av_plain.specs.Areas.{Rmap}
-use Rattle.av_plain.specs.Choice.{ListsAll}
 use Rattle.av_plain.specs.Device.{Device, IsSameDevice, as_told, device_by, headers_of, setting_of}
 use Rattle.av_plain.specs.Ledger.{Entry, InFrame, InSlot, Ledger, Setting, Zero, entry, frame_at, SwapArea, is_on, may_be_slot, size_of, slot_count}
 use Rattle.av_plain.specs.Sound.{count}
@@ -21,7 +17,7 @@ use Rattle.av_plain.specs.Transcript.{State, rmap_of}
 use Rattle.av_plain.specs.World.{Page, World, pages}
 use Rattle.av_plain.proofs.Device.{setting_same}
 use Rattle.av_mem.specs.declared.mem.Mem.{Mem}
-use Rattle.av_mem.specs.Mem.{AgreesWith, AreByHeaders, HasItems, HasLists, HasTables, Keeps, SwapFits, frame_count, held_by, ranges_of, setting_by, view}
+use Rattle.av_mem.specs.Mem.{HasItems, HasLists, HasTables, Keeps, SwapFits, frame_count, held_by, setting_by, view}
 use Rattle.av_mem.specs.Steps.{KeepsParts}
 use Rattle.av_mem.proofs.KeepsLaws.{keeps-serves}
 use Rattle.av_mem.proofs.ServesLaws.{anons-fit, lists-fit, swap-fits, tables-fit}

@@ -21,14 +21,14 @@ use Rattle.av_vma.specs.declared.area.Area.{Area}
 use Rattle.av_plain.specs.Areas.{AnonVma, Anons, Rmap, chain_by, chain_length, prepare_page, with_root}
 use Rattle.av_plain.specs.Device.{Device}
 use Rattle.av_plain.specs.Ledger.{Ledger}
-use Rattle.av_plain.specs.Stands.{AnonsStand, kin_of, prot_of}
+use Rattle.av_plain.specs.Stands.{AnonsStand, kin_of}
 use Rattle.av_plain.specs.Transcript.{State, rmap_of}
 use Rattle.av_plain.specs.World.{World}
 use Rattle.av_plain.proofs.Covered.{owns-prepared}
 use Rattle.av_swap_laws.specs.Held.{IsHeld}
 use Rattle.av_swap_laws.proofs.Between.{prepared-held}
 use Rattle.av_mem.specs.declared.mem.Mem.{Mem}
-use Rattle.av_mem.specs.Mem.{Keeps, anon_vma, anons_of, held_by, ranges_of, setting_by, view}
+use Rattle.av_mem.specs.Mem.{Keeps, anon_vma, anons_of, held_by, setting_by, view}
 use Rattle.av_mem.proofs.AnonLaws.{area_chain, lengths_alike, shown_chain}
 use Rattle.av_mem.proofs.KeepsLaws.{serves-keeps, state_by}
 use Rattle.av_mem.proofs.MemLaws.{alive_is, all_apart, prot_on, prots_are}
