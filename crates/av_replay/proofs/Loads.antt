@@ -16,7 +16,7 @@ use Rattle.av_replay.specs.Over.{RunsOverAreas, ReplaysOver, WorksOver}
 use Rattle.av_ports.specs.Line.{IsLine}
 use Rattle.av_ports.specs.Ports.{IsAtEnd, PortsView}
 use Rattle.av_replay.specs.Replay.{Ends, Headline, IsHandedBack, Run, all_lines, can_go_on, kernel_at}
-use Rattle.av_replay.specs.Summary.{EndsWork, SumsUp, Works, summary_of, summary_text}
+use Rattle.av_replay.specs.Summary.{EndsText, EndsWork, SumsUp, Works, summary_of, summary_text}
 use Rattle.av_replay.specs.Trace.{IsDoneOrMemory}
 use Rattle.av_words.specs.Words.{most_load, most_names}
 use Rattle.av_replay.specs.Work.{load_lines}
@@ -124,6 +124,12 @@ ends-work : (last : Status) (old new : SinkView) (others : List (List ℕ)) (tex
     EndsWork last old new others text
 ends-work last old new others text none (inl memory) = inl memory
 ends-work last old new others text none (inr ends) = inr (none, ends)
+
+-- a summary ends in no failure to attach
+pub never-attaches : (status : Status) (old new : SinkView) (text : List ℕ) → SumsUp status old new text → status ≢ statuses.AttachFault
+never-attaches status old new text (inl memory) fault =
+    let e : statuses.Memory ≡ statuses.AttachFault = sym memory.0 ∙ fault in absurd cc
+never-attaches status old new text (inr ends) fault = absurd (subst (λ (s : Status). EndsText s old new text) fault ends)
 
 -- every line was done, and then this summary was written
 pub summed : (n count seed lines total : ℕ) (status last : Status) (old new : SinkView) (device device' device'' : Device) (kernel : Machine) →

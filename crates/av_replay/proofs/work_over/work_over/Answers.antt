@@ -2,7 +2,7 @@ use Rattle.std.proofs.Common.{◌≡◌, Some, None, true, false, is_some, lengt
 use Rattle.av_io.specs.Source.{SourceView}
 use Rattle.av_step.specs.Step.{seen_by}
 use Rattle.av_replay.specs.Replay.{can_go_on}
-use Rattle.av_replay.proofs.Loads.{goes-on-attached, goes-on-done, loaded-over, stopped, summed, wanting}
+use Rattle.av_replay.proofs.Loads.{goes-on-attached, goes-on-done, loaded-over, never-attaches, stopped, summed, wanting}
 use Rattle.av_replay.proofs.work_over.work_over.Goals as goal
 
 pub returns-in_default-clause-worked : goal.returns-in_default-clause-worked
@@ -31,3 +31,15 @@ returns-clause-worked g c = λ other.
     rw (c.hand_back.ensures.status, c.hand_back.ensures.kernel) (summed a.frames (length a.names.now) a.seed a.lines _ o.result.status sum.result
     (g.K.Sink.view a.sink.now) _ (d a.dev.now) (d o.new.dev) _ k (goes-on-done o.result.status goes over.does.ends) (omega (arith, c.from.ensures))
     sum.ensures.same over sum.ensures.sums)
+
+pub returns-clause-fault : goal.returns-clause-fault
+returns-clause-fault g c = λ fault.
+    let a = c.args in
+    let o = c.run_over-status in
+    let sum = c.sum_up_over-status in
+    let goes : true ≡ can_go_on o.result.status = sym (ap is_some c.in-Some.is) ∙ o.ensures.kernel in
+    let replays = rw c.in-Some.is at o.ensures.replayed (goes-on-attached o.result.status goes) in
+    let over = loaded-over a.frames (length a.names.now) a.seed a.lines o.result.status _ _ (Some c.in-Some.kernel) c.requires.few c.requires.lines
+    (ap (λ (s : SourceView). s.left) c.new-source.ensures) refl refl refl refl replays in
+    absurd (never-attaches sum.result _ _ _ (sum.ensures.sums over.does.run.state over.does.handed_back.stands)
+    (sym c.hand_back.ensures.status ∙ fault))
