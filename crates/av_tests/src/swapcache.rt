@@ -1,6 +1,8 @@
-//! A frame goes out to a slot and comes back; an area goes on, is closed, and goes off.
+//! A frame goes out to a slot and comes back; a slot in flight goes over to another frame; an area
+//! goes on, is closed, and goes off.
 
-ghost use Rattle.std.specs.Prelude.{◌≡◌, ℕ, Some, true, IfSome, IfOk};
+ghost use Rattle.std.specs.Prelude.{◌≡◌, ℕ, None, Some, true, IfSome, IfOk};
+ghost use Rattle.av_base.specs.declared.slot.Slot.{Slot as AnySlot};
 ghost use Rattle.av_swapcache.specs.Swap.{HasAreas, IsUncached, fresh, shown};
 ghost use Rattle.av_tests.specs.Swapcache.{AreKept, IsIdle, Serves};
 
@@ -103,19 +105,38 @@ fn comes_back<D: SwapDev>(swap: &mut Swap, frames: &mut Frames, slot: Slot, dev:
     !swap.is_in_use(slot) && swap.all_free_slots() == swap.all_slots()
 }
 
-/// Whether a slot that is put at frame 0, and is in flight, goes over to frame 1.
-fn goes_over<D: SwapDev>(swap: &mut Swap, frames: &mut Frames, dev: &mut D) -> bool
-    requires { IsIdle (D.sizes dev.old) (shown swap.old) }
+/// Whether the slot that is cached at frame 0 goes over to frame 1, where none is.
+fn goes_over(swap: &mut Swap, frames: &Frames) -> bool
+    requires { IsUncached (shown swap.old) 1 }
 {
     if swap.frames() != frames.count() || swap.frames() < 2 {
+        return false;
+    }
+    let Some(slot) = frames.slot(0) else {
+        return false;
+    };
+    if swap.find(slot) != Some(0) {
+        return false;
+    }
+    swap.rename(frames, 0, 1);
+    swap.find(slot) == Some(1)
+}
+
+/// Whether a slot that is put at frame 0 goes over to frame 1 in flight.
+fn flies_over(swap: &mut Swap, frames: &mut Frames) -> bool
+    requires { (slot : AnySlot) → (shown swap.old).find slot ≡ None }
+{
+    if swap.frames() != frames.count() || swap.frames() == 0 {
         return false;
     }
     let Some(slot) = swap.put(frames, 0) else {
         return false;
     };
+    if swap.find(slot).is_none() || swap.in_flight(slot) {
+        return false;
+    }
     swap.start(frames, slot);
-    swap.rename(frames, 0, 1);
-    swap.find(slot) == Some(1) && swap.in_flight(slot)
+    goes_over(swap, frames) && swap.in_flight(slot)
 }
 
 /// Turns area 0 on, of eight pages.
@@ -200,7 +221,10 @@ fn goes_on_and_over<D: SwapDev>(
 ) -> Result<bool, AllocError>
     requires { shown swap.old ≡ fresh 2 }
 {
-    Ok(turn_on(alloc, swap, dev)? && goes_over(swap, frames, dev))
+    if !turn_on(alloc, swap, dev)? {
+        return Ok(false);
+    }
+    Ok(flies_over(swap, frames))
 }
 
 #[test]
