@@ -15,10 +15,10 @@ from reference import Reference  # pylint: disable=wrong-import-position
 
 # the items of a crate whose contracts carry what its head says; a crate without an entry has none
 CARRIERS = {
-    "av_base": "Prot Steps",
+    "av_base": "Prot Flags Steps",
     "av_vma": "Areas index joinable can_lend",
     "av_text": "Bytes",
-    "av_trace": "parse_line one_meaning reply_text one_reply",
+    "av_trace": "parse_line one_meaning no_line_yet reply_text note_text answer_line one_reply",
     "av_frames": "Frames",
     "av_pagetable": "Table RadixTable Tables",
     "av_lru": "Lru",
@@ -28,9 +28,10 @@ CARRIERS = {
     "av_interval": "Spans search",
     "av_chain": "Links unlink_from each_link_stands_once",
     "av_anon": "Anons order kin",
-    "av_rmap": "walk walk_sorted walk_frame walk_slot clear_seen unmap",
+    "av_rmap": "walk walk_sorted walk_frame walk_slot walk_merged Items any_locked clear_seen "
+    "clear_seen_items unmap",
     "av_vmatree": "Tree",
-    "av_merge": "map unmap modify move_range grow prepare fork unmap_all "
+    "av_merge": "map unmap modify modify_all map_like move_range grow prepare fork unmap_all "
     "parts_are_changed_page_by_page",
     "av_io": "Source Sink MemSource MemSink ReadSource WriteSink",
     "av_swapdev": "SwapDev MemDev FileDev SwapFile SwapFiles read_header is_bad bad_pages",
@@ -38,7 +39,8 @@ CARRIERS = {
     "av_plain": "soundness_stays transcripts_are_sound runs_are_legal what_sound_says "
     "the_greatest_priority_gives no_device_has_no_failures "
     "no_area_on_has_no_failures",
-    "av_laws": "refusals_change_nothing numbers_add_up replies_are_determined "
+    "av_laws": "refusals_change_nothing locked_frames_stay merges_share_frames "
+    "compactions_take_the_lowest_frames numbers_add_up replies_are_determined "
     "replies_of_runs_are_read_back texts_of_runs_say_replies runs_lay_areas runs_cover_entries",
     "av_swap_laws": "frames_are_put slots_are_loaded slots_are_dropped soundness_goes_on",
     "av_evict": "System reclaim age complete seek",
