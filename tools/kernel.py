@@ -6,6 +6,7 @@ have a method of `Kernel`, in `DOES`.
 """
 import contextlib
 import errno
+import os
 import signal
 from typing import Callable, Iterator
 
@@ -224,7 +225,8 @@ class Kernel:
         return maps_of(self.areas(self.process(number)))
 
     def areas_shown(self, number: str) -> list[str]:
-        rows = list(map(row_of, self.areas(self.process(number), "smaps")))
+        file = "smaps" if os.path.exists("/proc/self/smaps") else "maps"
+        rows = list(map(row_of, self.areas(self.process(number), file)))
         return [f"areas {len(rows)}", *rows]
 
     def code(self, number: str, at: str) -> int | None:

@@ -148,7 +148,7 @@ def says_lowest(line: Line, reply: str) -> bool:
 
 
 def says_low(_, reply: str) -> bool:
-    return reply == f"map {LOW:x}"
+    return reply.startswith("map ") and PAGE <= int(reply[4:], 16) <= LOW
 
 
 def says_huge(line: Line, reply: str) -> bool:

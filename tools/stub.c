@@ -83,7 +83,10 @@ static int wait_for_ask(void)
         char room[CMSG_SPACE(sizeof(int))];
     } control;
     struct iovec whole = {&asked, sizeof asked};
-    struct msghdr message = {0, 0, &whole, 1, &control, sizeof control, 0};
+    struct msghdr message = {.msg_iov = &whole,
+                             .msg_iovlen = 1,
+                             .msg_control = &control,
+                             .msg_controllen = sizeof control};
 
     if ((long)call(__NR_recvmsg, 0, (word)&message, 0, 0, 0, 0) <= 0)
         end();

@@ -31,7 +31,7 @@ PLACE = 0x7FFFFC000000
 # the range that is kept from traces is some of these
 STEP = 1 << 28
 FLAGS = (
-    "-std=gnu11 -O1 -static -nostdlib -ffreestanding -fpie -mgeneral-regs-only"
+    "-std=gnu11 -O1 -static -no-pie -nostdlib -ffreestanding -fpie -mgeneral-regs-only"
     " -fno-stack-protector -fcf-protection=none -fno-asynchronous-unwind-tables"
     " -Wl,-z,noexecstack,--build-id=none"
 ).split()
