@@ -4,6 +4,7 @@ of docs/LINUX.md explains it.
 import os
 import re
 import sys
+from typing import Iterator
 
 ROOT = os.path.dirname(os.path.dirname(os.path.realpath(__file__)))
 sys.path.insert(0, f"{ROOT}/view")
@@ -34,17 +35,30 @@ def run(program: str, frames: int, commands: list[Command]) -> list[list[str]]:
     return found.replies
 
 
+def rows_of(text: str) -> Iterator[tuple[list[str], list[str]]]:
+    """The rows of the tables of a text: the heads of the columns, and the cells."""
+    heads: list[str] = []
+    for line in text.split("\n"):
+        cells = [it.strip() for it in line.strip()[1:-1].split("|")]
+        if not line.startswith("|"):
+            heads = []
+        elif not heads:
+            heads = cells
+        elif set(line) - set("|-"):
+            yield heads, cells
+
+
 def text_of(rule: tuple[str, str]) -> str:
     """A row of docs/LINUX.md, without the signs of Markdown."""
     section, begin = rule
     with open(f"{ROOT}/docs/LINUX.md", encoding="utf-8") as it:
         found = re.search(rf"^## {section}$(.*?)(?=^## |\Z)", it.read(), re.M | re.S)
-    rows = found[1].split("\n") if found else []
-    row = next((it for it in rows if it.startswith(f"| {begin}")), "")
-    if not row:
-        raise Refused(f"docs/LINUX.md has no row {begin!r} under {section!r}")
-    cells = [it for it in row.strip("| ").split(" | ") if it.strip()]
-    return f'docs/LINUX.md, "{section}": {"; Linux: ".join(cells[:2])}'.replace("`", "")
+    for heads, cells in rows_of(found[1] if found else ""):
+        if cells[0].startswith(begin):
+            sides = [it for it in zip(heads[1:], cells[1:]) if re.match("avsim|Linux", it[0])]
+            named = [f"{head}: {cell}" for head, cell in sides if cell]
+            return f'docs/LINUX.md, "{section}": {"; ".join([cells[0], *named])}'.replace("`", "")
+    raise Refused(f"docs/LINUX.md has no row {begin!r} under {section!r}")
 
 
 def rule_of(command: Command, reply: str) -> tuple[str, str] | None:

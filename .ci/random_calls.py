@@ -1,0 +1,160 @@
+"""Random traces for a real kernel: calls of a few processes that share pages, most of them good,
+over a few pages at three places, with what `maps`, `areas`, `entry` and `rmap` show behind them.
+
+Called as `.ci/random_calls.py SEED` it prints the trace of a seed, whose comment says with which
+machine it is run. The same seed makes the same trace.
+"""
+import random
+import sys
+
+PAGE, TOP = 4096, 0x7FFFFFFFF000
+# where the pages are: low, in the middle, and where automatic places are; each with how many
+PLACES = ((0x20000, 14), (0x555555554000, 6), (TOP - 20 * PAGE, 20))
+PROTS = ["rw-"] * 12 + ["r--"] * 3 + ["rwx", "r-x", "-w-", "---", "--x"]
+# what a range may be that is refused, or at a border
+ODD_PLACES = (0, 1, 0xF000, 0x10000, 0x20001, TOP - PAGE, TOP, 2**47, 2**63, 2**64 - PAGE)
+ODD_LENGTHS = (0, 1, PAGE + 1, TOP - 0x10000, TOP, 2**47, 2**63, 2**64 - PAGE, 2**64 - 1)
+# kinds of lines, each with how often it is drawn
+KINDS = {
+    "mmap": 10,
+    "munmap": 5,
+    "mprotect": 7,
+    "mremap": 14,
+    "read": 10,
+    "write": 18,
+    "fork": 5,
+    "exit": 2,
+    "spawn": 1,
+    "entry": 3,
+    "rmap": 4,
+    "swap": 4,
+}
+MACHINES = (
+    "16384 frames",
+    "64 frames",
+    "12 frames and a swap file of 40 pages",
+    "6 frames and a swap file of 12 pages and one of 9 pages",
+)
+
+
+class Trace:
+    """The lines of a trace, as they are drawn."""
+
+    def __init__(self, seed):
+        self.pick, self.machine = random.Random(seed), MACHINES[seed % len(MACHINES)]
+        self.live, self.areas = {1}, self.machine.count(" pages")
+        # (areas behind a dontunmap are otherwise on Linux, so two traces of three have none)
+        self.modes = ["", " maymove", " fixed", " fixed", " dontunmap", " dontunmap to"]
+        self.modes = self.modes[: 6 if seed % 3 == 0 else 4]
+
+    def page(self):
+        """A page of one of the places, low ones most often."""
+        first, count = self.pick.choices(PLACES, (3, 1, 1))[0]
+        return first + PAGE * self.pick.randrange(count)
+
+    def range(self):
+        """A range, as two words."""
+        if self.pick.random() < 0.04:
+            at = self.pick.choice([self.page(), self.pick.choice(ODD_PLACES)])
+            return f"{at:x} {self.pick.choice(ODD_LENGTHS)}"
+        return f"{self.page():x} {self.length()}"
+
+    def length(self):
+        pages = self.pick.choice([1, 1, 1, 2, 2, 3, 4, 6])
+        return pages * PAGE - self.pick.choice([0] * 9 + [1, 4095])
+
+    def process(self):
+        """A process, most often one that lives."""
+        return self.pick.choice(sorted(self.live)) if self.pick.random() < 0.98 else 6
+
+    def mmap(self):
+        begin = f"mmap {self.process()} {self.length()} {self.pick.choice(PROTS)}"
+        place = self.page() if self.pick.random() < 0.95 else self.pick.choice(ODD_PLACES)
+        how = self.pick.choice(["", " fixed", " fixed", " fixed", " noreplace", " at"])
+        if how == " at":
+            place += self.pick.choice([0, 5])
+        return f"{begin}{how} {place:x}" if how else begin
+
+    def munmap(self):
+        return f"munmap {self.process()} {self.range()}"
+
+    def mprotect(self):
+        return f"mprotect {self.process()} {self.range()} {self.pick.choice(PROTS)}"
+
+    def mremap(self):
+        at, old = self.range().split(" ")
+        new = self.pick.choice([old, self.length(), self.length()])
+        how = self.pick.choice(self.modes)
+        if "dontunmap" in how:
+            new = old if self.pick.random() < 0.95 else self.length()
+        to = f"{self.page() if self.pick.random() < 0.97 else self.pick.choice(ODD_PLACES):x}"
+        how = f"{how.removesuffix(' to')} {to}" if how in (" fixed", " dontunmap to") else how
+        return f"mremap {self.process()} {at} {old} {new}{how}"
+
+    def access(self):
+        """An address, often just before a border of pages, and a number of bytes."""
+        at = self.page() + self.pick.choice([0, 0, 5, PAGE - 1, PAGE - 2])
+        return f"{self.process()} {at:x}", self.pick.choice([1, 2, 3, 8, 8, 60])
+
+    def read(self):
+        return " ".join(map(str, ["read", *self.access()]))
+
+    def write(self):
+        at, count = self.access()
+        return f"write {at} {self.pick.randbytes(count).hex()}"
+
+    def fork(self):
+        parent, child = self.process(), self.pick.randint(1, 5)
+        if parent in self.live:
+            self.live.add(child)
+        return f"fork {parent} {child}"
+
+    def exit(self):
+        process = self.process()
+        if self.live == {process}:
+            return self.spawn()
+        self.live.discard(process)
+        return f"exit {process}"
+
+    def spawn(self):
+        process = self.pick.randint(1, 5)
+        self.live.add(process)
+        return f"spawn {process}"
+
+    def entry(self):
+        return f"entry {self.process()} {self.page():x}"
+
+    def rmap(self):
+        return f"rmap {self.process()} {self.page():x}"
+
+    def swap(self):
+        """What the model alone does."""
+        words = ["reclaim 4", "reclaim 2", "age 4", "complete 3", "stat"]
+        words += [f"swapoff {it}" for it in range(self.areas)]
+        words += [f"swapon {it}" for it in range(self.areas)]
+        return self.pick.choice(words)
+
+    def lines(self, count):
+        yield f"# Random calls. Run it with {self.machine}."
+        yield from (f"swapon {it}" for it in range(self.areas))
+        yield from ("spawn 1", "mmap 1 57344 rw- fixed 20000", "mmap 1 8192 rw-")
+        kinds, weights = zip(*KINDS.items())
+        for _ in range(count):
+            kind = self.pick.choices(kinds, weights)[0]
+            line = getattr(self, kind)()
+            yield line
+            process = line.split(" ")[1] if kind not in ("swap", "entry", "rmap") else ""
+            if process and self.pick.random() < 0.4:
+                yield f"{self.pick.choice(['maps', 'areas', 'areas'])} {process}"
+        for process in sorted(self.live):
+            yield from (f"maps {process}", f"areas {process}")
+            yield from (f"{it} {process} 20000" for it in ("rmap", "entry"))
+
+
+def trace_of(seed, count=150):
+    """The trace of a seed, with so many drawn lines and reports between."""
+    return "".join(f"{it}\n" for it in Trace(seed).lines(count))
+
+
+if __name__ == "__main__":
+    print(trace_of(int(sys.argv[1])), end="")
