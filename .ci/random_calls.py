@@ -7,7 +7,7 @@ machine it is run. The same seed makes the same trace.
 import random
 import sys
 
-PAGE, TOP = 4096, 0x7FFFFFFFF000
+PAGE, HUGE, TOP = 4096, 1 << 21, 0x7FFFFFFFF000
 # where the pages are: low, in the middle, and where automatic places are; each with how many
 PLACES = ((0x20000, 14), (0x555555554000, 6), (TOP - 20 * PAGE, 20))
 PROTS = ["rw-"] * 12 + ["r--"] * 3 + ["rwx", "r-x", "-w-", "---", "--x"]
@@ -68,9 +68,10 @@ class Trace:
         return self.pick.choice(sorted(self.live)) if self.pick.random() < 0.98 else 6
 
     def mmap(self):
-        begin = f"mmap {self.process()} {self.length()} {self.pick.choice(PROTS)}"
-        place = self.page() if self.pick.random() < 0.95 else self.pick.choice(ODD_PLACES)
         how = self.pick.choice(["", " fixed", " fixed", " fixed", " noreplace", " at"])
+        length = self.length() if how or self.pick.random() < 0.9 else HUGE
+        begin = f"mmap {self.process()} {length} {self.pick.choice(PROTS)}"
+        place = self.page() if self.pick.random() < 0.95 else self.pick.choice(ODD_PLACES)
         if how == " at":
             place += self.pick.choice([0, 5])
         return f"{begin}{how} {place:x}" if how else begin

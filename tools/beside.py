@@ -4,6 +4,7 @@ docs/LINUX.md others aren't.
 import collections
 import enum
 import os
+import re
 import sys
 from typing import Iterator, NamedTuple
 
@@ -12,6 +13,7 @@ sys.path.insert(0, f"{ROOT}/view")
 
 import making  # pylint: disable=wrong-import-position
 from kernel import NOBODY, Kernel, maps_of
+from proc import Area
 from rows import BOUNDS, KEYS, Line, Row, careful, mending, other_bounds, row_of
 from saying import Refused
 from shift import GAP, WIDE, NotAsked
@@ -122,6 +124,12 @@ def is_alike(words: list[str], model: list[str], linux: list[str], in_part: bool
     return shown(words, model) == shown(words, linux)
 
 
+def runs_of(areas: list[str]) -> list[str]:
+    """The runs of pages of one protection that a reply of `areas` has, whatever their bounds."""
+    rows = [re.fullmatch(r"(\w+)-(\w+) (...).*", it) for it in areas[1:]]
+    return maps_of([Area(int(it[1], 16), int(it[2], 16), it[3], False, "") for it in rows])
+
+
 def as_far_as(words: list[str], said: str) -> tuple[list[str], str]:
     """An access up to where the model's frames or device end it, and the reply to that; any other
     line as it is.
@@ -186,14 +194,14 @@ class Beside:
                 if words != line.words:
                     raise NotAsked(NO_FRAME)
                 return None
-        return Difference(line, asked.reply, linux, self.row_of(line, said, linux[0]))
+        return Difference(line, asked.reply, linux, self.row_of(line, model, linux))
 
-    def row_of(self, line: Line, said: str, reply: str) -> Row | None:
+    def row_of(self, line: Line, model: list[str], linux: list[str]) -> Row | None:
         """The row by which a line was answered so."""
         if line.name == "areas":
-            return self.bounds.get(line.process)
-        row = row_of(line, reply, line.process in self.children)
-        if row is KEYS and self.kernel.read(*line.words[1:], with_keys=True) != [said]:
+            return self.bounds.get(line.process) if runs_of(model) == runs_of(linux) else None
+        row = row_of(line, linux[0], line.process in self.children)
+        if row is KEYS and self.kernel.read(*line.words[1:], with_keys=True) != model[:1]:
             return None
         return row
 

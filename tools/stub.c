@@ -39,7 +39,7 @@ static void end(void)
         call(__NR_exit_group, 0, 0, 0, 0, 0, 0);
 }
 
-/* Copies byte by byte, and gives how many bytes are left: none, or those from one on that faults. */
+/* Copies byte by byte, and gives how many bytes are left: those from one on that faults. */
 word copy(char *to, const char *from, word count);
 extern char copied[], restore[];
 __asm__("copy: mov %rdx, %rcx\n"
