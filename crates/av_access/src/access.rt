@@ -1,10 +1,10 @@
 //! Reads and writes, page by page.
 
 ghost use Rattle.std.specs.Prelude.{◌≡◌, ◌<◌, [], true, length, take, IfOk};
-ghost use Rattle.av_plain.specs.Device.{IsSameDevice};
+ghost use Rattle.av_plain.specs.Device.{IsSameDevice, seen_by};
 ghost use Rattle.av_plain.specs.Transcript.{State};
 ghost use Rattle.av_mem.specs.Mem.{frame_count, Keeps, IsSteadyAt};
-ghost use Rattle.av_step.specs.Step.{Does, IsSteadyFor, reply_in, seen_by};
+ghost use Rattle.av_step.specs.Step.{Does, IsSteadyFor, reply_in};
 ghost use Rattle.av_access.specs.Access.{IsPiece, IsAccess, IsRead, answer_at, answer_of};
 ghost use Rattle.av_trace.specs.Reply.{IsCleared};
 ghost use Rattle.av_trace.specs.declared.command.Command.TheVariants as commands;

@@ -4,11 +4,11 @@ ghost use Rattle.std.specs.Prelude.{◌≡◌, ◌+◌, ◌^◌, ◌<◌, ◌≤
 ghost use Rattle.std.specs.Prelude.{OnOk};
 ghost use Rattle.std.specs.List.{AllByRecursion};
 ghost use Rattle.av_base.specs.Page.{page_size};
-ghost use Rattle.av_plain.specs.Device.{IsSameDevice};
+ghost use Rattle.av_plain.specs.Device.{IsSameDevice, seen_by};
 ghost use Rattle.av_plain.specs.Transcript.{State};
 ghost use Rattle.av_mem.specs.Mem.{frame_count, Keeps};
 ghost use Rattle.av_access.specs.Page.{IsPageStep, IsPageRead};
-ghost use Rattle.av_step.specs.Step.{IsSteadyFor, seen_by};
+ghost use Rattle.av_step.specs.Step.{IsSteadyFor};
 
 use av_base::PAGE_SIZE;
 use av_fault::{Stop, Touched, touch};

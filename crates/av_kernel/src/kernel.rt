@@ -2,12 +2,12 @@
 
 ghost use Rattle.std.specs.Prelude.{◌≡◌, ◌⊎◌, ◌<◌, ◌≤◌, ◌^◌, IfOk, OnOk, OnErr, length, true, false};
 ghost use Rattle.av_base.specs.Limits.{most_commands};
-ghost use Rattle.av_plain.specs.Device.{Device, IsSameDevice, setting_of};
+ghost use Rattle.av_plain.specs.Device.{Device, IsSameDevice, setting_of, seen_by};
 ghost use Rattle.av_plain.specs.Report.{totals as totals_of};
 ghost use Rattle.av_plain.specs.Transcript.{State, at_first};
 ghost use Rattle.av_swapdev.specs.Device.{most_areas};
 ghost use Rattle.av_kernel.specs.Kernel.{Stands, Steps, Counts, IsNew, IsSpent};
-ghost use Rattle.av_step.specs.Step.{seen_by, sizes_of};
+ghost use Rattle.av_step.specs.Step.{sizes_of};
 ghost use Rattle.av_trace.specs.Command.{is_in_grammar};
 ghost use Rattle.av_kernel.specs.Step.{has_device};
 

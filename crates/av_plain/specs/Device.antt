@@ -17,6 +17,11 @@ pub record Device : Type 0 where
 abbrev pub device_by : (ℕ → Option ℕ) → Option (ℕ → ℕ → List ℕ) → ℕ → Device
 device_by sizes pages failures = record { sizes = sizes; pages = pages; failures = failures }
 
+-- a device by the ghost functions of its kind
+abbrev pub seen_by : {D : Type 0} → (D → ℕ → Option ℕ) → (D → Option (ℕ → ℕ → List ℕ)) → (D → ℕ)
+    → D → Device
+seen_by sizes pages failures d = device_by (sizes d) (pages d) (failures d)
+
 -- the device, or one just like it that doesn't tell its pages
 abbrev pub as_told : Bool → Device → Device
 as_told true d = d

@@ -2,8 +2,8 @@
 
 ghost use Rattle.std.specs.Prelude.{◌≡◌, ℕ, ◌≤◌, List, length, IfOk, IsErrOf};
 ghost use Rattle.av_io.specs.Count.{Rose};
+ghost use Rattle.av_plain.specs.Device.{seen_by};
 ghost use Rattle.av_swapdev.specs.Device.{most_areas};
-ghost use Rattle.av_step.specs.Step.{seen_by};
 ghost use Rattle.av_replay.specs.Attach.{Attaches, AttachesFewer, HasNone};
 
 use av_swapdev::{AttachErr, SwapDev};

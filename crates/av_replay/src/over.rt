@@ -2,8 +2,9 @@
 
 ghost use Rattle.std.specs.Prelude.{◌≡◌, ◌≢◌, ◌≤◌, is_some, length};
 ghost use Rattle.av_io.specs.Count.{Rose};
+ghost use Rattle.av_plain.specs.Device.{seen_by};
 ghost use Rattle.av_swapdev.specs.Device.{most_areas};
-ghost use Rattle.av_step.specs.Step.{seen_by, sizes_of};
+ghost use Rattle.av_step.specs.Step.{sizes_of};
 ghost use Rattle.av_replay.specs.Attach.{AttachesFewer, HasNone};
 ghost use Rattle.av_replay.specs.Over.{ReplaysOver};
 ghost use Rattle.av_replay.specs.KernelPorts.{ports_by};

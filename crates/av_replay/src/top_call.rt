@@ -3,7 +3,7 @@
 ghost use Rattle.std.specs.Prelude.{◌≡◌, ◌≢◌, None, is_some, map};
 ghost use Rattle.std.specs.Prelude.{string_bytes};
 ghost use Rattle.av_io.specs.Count.{Rose};
-ghost use Rattle.av_step.specs.Step.{seen_by};
+ghost use Rattle.av_plain.specs.Device.{seen_by};
 ghost use Rattle.av_replay.specs.Attach.{HasNone};
 ghost use Rattle.av_replay.specs.KernelPorts.{ports_by};
 ghost use Rattle.av_replay.specs.Replay.{can_go_on};

@@ -2,11 +2,10 @@
 
 ghost use Rattle.std.specs.Prelude.{◌≡◌, ◌≢◌, ◌≤◌, false, is_some, length};
 ghost use Rattle.av_io.specs.Count.{Rose};
-ghost use Rattle.av_plain.specs.Device.{setting_of};
+ghost use Rattle.av_plain.specs.Device.{setting_of, seen_by};
 ghost use Rattle.av_plain.specs.Report.{totals as totals_of};
 ghost use Rattle.av_plain.specs.Transcript.{State};
 ghost use Rattle.av_kernel.specs.Kernel.{Stands};
-ghost use Rattle.av_step.specs.Step.{seen_by};
 ghost use Rattle.av_replay.specs.Attach.{AttachesFewer, HasNone};
 ghost use Rattle.av_replay.specs.Over.{WorksOver};
 ghost use Rattle.av_replay.specs.Replay.{can_go_on};

@@ -3,9 +3,10 @@
 ghost use Rattle.std.specs.Prelude.{◌≡◌, ◌≤◌, ◌^◌, Option, Some, None, IfOk, IsErrOf};
 ghost use Rattle.av_trace.specs.declared.command.Command.{Command as AnyCommand};
 ghost use Rattle.av_trace.specs.Line.{Says};
+ghost use Rattle.av_plain.specs.Device.{seen_by};
 ghost use Rattle.av_plain.specs.Transcript.{State};
 ghost use Rattle.av_kernel.specs.Kernel.{Stands};
-ghost use Rattle.av_step.specs.Step.{seen_by, sizes_of};
+ghost use Rattle.av_step.specs.Step.{sizes_of};
 ghost use Rattle.av_sample.specs.Answers.{Answers};
 
 use av_kernel::Kernel;

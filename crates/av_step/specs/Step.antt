@@ -6,7 +6,7 @@ use Rattle.av_trace.specs.declared.reply.Answer.TheVariants as answers
 use Rattle.av_trace.specs.declared.reply.Reply.{Reply}
 use Rattle.av_trace.specs.Reply.{answer_only}
 use Rattle.av_io.specs.Count.{RoseBy}
-use Rattle.av_plain.specs.Device.{Device, IsSameDevice, device_by}
+use Rattle.av_plain.specs.Device.{Device, IsSameDevice}
 use Rattle.av_plain.specs.Step.{causes}
 use Rattle.av_plain.specs.Transcript.{State, IsStep}
 use Rattle.av_spaces.specs.Spaces.{areas_of}
@@ -31,11 +31,6 @@ reply_of (Err Memory) = None
 -- the sizes of swap areas by their numbers: an area past them is not attached
 abbrev pub sizes_of : List ℕ → ℕ → Option ℕ
 sizes_of sizes k = slice_get sizes k
-
--- a device by what is told of one
-abbrev pub seen_by : {D : Type 0} → (D → ℕ → Option ℕ) → (D → Option (ℕ → ℕ → List ℕ)) → (D → ℕ)
-    → D → Device
-seen_by sizes pages failures d = device_by (sizes d) (pages d) (failures d)
 
 -- over some device with these sizes the memory system stands for something, in which the process
 -- lives

@@ -2,8 +2,9 @@
 
 ghost use Rattle.av_trace.specs.Reply.{IsCleared};
 ghost use Rattle.av_trace.specs.declared.command.Command.TheVariants as commands;
+ghost use Rattle.av_plain.specs.Device.{seen_by};
 ghost use Rattle.av_mem.specs.Mem.{IsSteadyAt};
-ghost use Rattle.av_step.specs.Step.{Does, reply_in, seen_by};
+ghost use Rattle.av_step.specs.Step.{Does, reply_in};
 
 use av_mem::Mem;
 use av_step::{Refusal, answer_with};

@@ -3,6 +3,7 @@
 
 ghost use Rattle.std.specs.Prelude.{◌≡◌, ◌<◌, ◌≤◌, false, true, length, slice_get, unwrap_or};
 ghost use Rattle.std.specs.Prelude.{MatchResult, Some};
+ghost use Rattle.av_plain.specs.Device.{seen_by};
 ghost use Rattle.av_swapcache.specs.Swap.{IsPage, header_at, shown as shown_swap};
 ghost use Rattle.av_swapdev.specs.Device.{most_areas};
 ghost use Rattle.av_trace.specs.Reply.{IsCleared};
@@ -12,7 +13,7 @@ ghost use Rattle.av_plain.specs.Swapoff.{close_answer};
 ghost use Rattle.av_plain.specs.Swapon.{priority_of as priority_asked};
 ghost use Rattle.av_swapoff.specs.Empty.{close_of};
 ghost use Rattle.av_mem.specs.Mem.{IsSteady, IsSteadyAt};
-ghost use Rattle.av_step.specs.Step.{Does, DoesBeside, reply_in, seen_by, sizes_of};
+ghost use Rattle.av_step.specs.Step.{Does, DoesBeside, reply_in, sizes_of};
 ghost use Rattle.av_swap.specs.Swap.{has_page, on_answer as answer_of_on, page_answer};
 
 use av_base::Slot;

@@ -1,7 +1,8 @@
 -- Each piece that is served is a part of the access more, and is shown; one that stops ends it.
 use Rattle.std.proofs.Common.{◌≡◌, None, sym, subst, ◌∙◌, arith}
+use Rattle.av_plain.specs.Device.{seen_by}
 use Rattle.av_access.specs.Access.{IsRead}
-use Rattle.av_step.specs.Step.{IsSteadyFor, seen_by}
+use Rattle.av_step.specs.Step.{IsSteadyFor}
 use Rattle.av_access.proofs.AccessParts.{none_left, piece-within, piece-ends, read-served, read-stopped}
 use Rattle.av_step.proofs.StepLaws.{same_then}
 use Rattle.av_access.proofs.access.read_pieces.Goals as goal

@@ -1,10 +1,10 @@
 -- What is done so far is an access of its own, served whole; behind it a page begins, or nothing is left.
 use Rattle.std.proofs.Common.{◌≡◌, ◌+◌, ◌-◌, ◌%◌, ◌<◌, ◌≤◌, true, length, take, None}
-use Rattle.av_plain.specs.Device.{IsSameDevice}
+use Rattle.av_plain.specs.Device.{IsSameDevice, seen_by}
 use Rattle.av_plain.specs.Transcript.{State}
 use Rattle.av_mem.specs.Mem.{frame_count, Keeps}
 use Rattle.av_access.specs.Access.{IsAccess}
-use Rattle.av_step.specs.Step.{IsSteadyFor, seen_by}
+use Rattle.av_step.specs.Step.{IsSteadyFor}
 use Rattle.av_access.proofs.access.write_pieces.Given as goal
 
 abbrev pub decreases-loop-done : goal.decreases-loop-done

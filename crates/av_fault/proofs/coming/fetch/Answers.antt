@@ -1,6 +1,6 @@
 use Rattle.std.proofs.Common.{◌∙◌, None, subst, sym}
 use Rattle.std.specs.Prelude.{Ok}
-use Rattle.av_plain.specs.Device.{as_told, device_by}
+use Rattle.av_plain.specs.Device.{as_told, seen_by}
 use Rattle.av_mem.proofs.ComingBack.{got-told, seen-same, told-still}
 use Rattle.av_fault.specs.Coming.{Fetches, HasCome}
 use Rattle.av_fault.specs.Seek.{HasSought}
@@ -67,9 +67,9 @@ load-requires-clause-free g c =
 
 pub returns-in_ok-push-in-Ok-clause-fetched : goal.returns-in_ok-push-in-Ok-clause-fetched
 returns-in_ok-push-in-Ok-clause-fetched g c = λ told w r l h.
-    let d0 = device_by (g.D.SwapDev.sizes c.args.dev.now) (g.D.SwapDev.pages c.args.dev.now) (g.D.SwapDev.failures c.args.dev.now) in
-    let d1 = device_by (g.D.SwapDev.sizes c.seek.new.dev) (g.D.SwapDev.pages c.seek.new.dev) (g.D.SwapDev.failures c.seek.new.dev) in
-    let d2 = device_by (g.D.SwapDev.sizes c.load.new.dev) (g.D.SwapDev.pages c.load.new.dev) (g.D.SwapDev.failures c.load.new.dev) in
+    let d0 = seen_by g.D.SwapDev.sizes g.D.SwapDev.pages g.D.SwapDev.failures c.args.dev.now in
+    let d1 = seen_by g.D.SwapDev.sizes g.D.SwapDev.pages g.D.SwapDev.failures c.seek.new.dev in
+    let d2 = seen_by g.D.SwapDev.sizes g.D.SwapDev.pages g.D.SwapDev.failures c.load.new.dev in
     let load = c.in-Ok.ensures.loads in
     subst (λ d. HasCome (λ m w l added came. Fetches m w l c.args.slot added came) (as_told told d0) d c.args.mem.now c.load.new.self w r l
     c.args.notes.now c.push.new.self (Ok c.in-Ok.frame)) (sym (told-still told d1 d2 c.load.ensures.same_sizes c.load.ensures.same_pages load.1))
@@ -83,8 +83,8 @@ returns-in_ok-push-in-Ok-clause-fetched g c = λ told w r l h.
 
 pub returns-in-Err-clause-fetched : goal.returns-in-Err-clause-fetched
 returns-in-Err-clause-fetched g c = λ told w r l h.
-    let d1 = device_by (g.D.SwapDev.sizes c.seek.new.dev) (g.D.SwapDev.pages c.seek.new.dev) (g.D.SwapDev.failures c.seek.new.dev) in
-    let d2 = device_by (g.D.SwapDev.sizes c.load.new.dev) (g.D.SwapDev.pages c.load.new.dev) (g.D.SwapDev.failures c.load.new.dev) in
+    let d1 = seen_by g.D.SwapDev.sizes g.D.SwapDev.pages g.D.SwapDev.failures c.seek.new.dev in
+    let d2 = seen_by g.D.SwapDev.sizes g.D.SwapDev.pages g.D.SwapDev.failures c.load.new.dev in
     let load = c.in-Err.ensures.loads in
     come-lost _ (as_told told d1) c.args.mem.now c.seek.new.mem w r l c.args.key c.args.slot c.args.home c.args.notes.now
     c.seek.new.notes h c.requires.away c.requires.home (sym c.find.ensures.value ∙ c.in_default.is)

@@ -1,5 +1,5 @@
 use Rattle.std.proofs.Common.{◌<◌, false, None, Some, refl, sym, subst, ◌∙◌}
-use Rattle.av_plain.specs.Device.{as_told, device_by}
+use Rattle.av_plain.specs.Device.{as_told, device_by, seen_by}
 use Rattle.av_plain.specs.Fault.{CopyOnWrite}
 use Rattle.av_fault.specs.Seek.{HasSought}
 use Rattle.av_fault.specs.declared.seek.Got.TheVariants.{Frame, Out}
@@ -13,8 +13,8 @@ use Rattle.av_fault.proofs.making.make_copy.Goals as goal
 
 pub returns-in-Out-clause-made : goal.returns-in-Out-clause-made
 returns-in-Out-clause-made g c = λ told w r l h came.
-    let d = as_told told (device_by (g.D.SwapDev.sizes c.args.dev.now) (g.D.SwapDev.pages c.args.dev.now) (g.D.SwapDev.failures c.args.dev.now)) in
-    let d' = as_told told (device_by (g.D.SwapDev.sizes c.seek.new.dev) (g.D.SwapDev.pages c.seek.new.dev) (g.D.SwapDev.failures c.seek.new.dev)) in
+    let d = as_told told (seen_by g.D.SwapDev.sizes g.D.SwapDev.pages g.D.SwapDev.failures c.args.dev.now) in
+    let d' = as_told told (seen_by g.D.SwapDev.sizes g.D.SwapDev.pages g.D.SwapDev.failures c.seek.new.dev) in
     let old = c.args.mem.now in
     let shared = sym (shared-in d old w r l h c.args.from) ∙ c.requires.shared in
     let f = c.args.from in
@@ -82,8 +82,8 @@ take_frame_for_copy-frame-requires-clause-mapped g c =
 
 pub returns-clause-made : goal.returns-clause-made
 returns-clause-made g c = λ told w r l h came.
-    let d = as_told told (device_by (g.D.SwapDev.sizes c.args.dev.now) (g.D.SwapDev.pages c.args.dev.now) (g.D.SwapDev.failures c.args.dev.now)) in
-    let d' = as_told told (device_by (g.D.SwapDev.sizes c.seek.new.dev) (g.D.SwapDev.pages c.seek.new.dev) (g.D.SwapDev.failures c.seek.new.dev)) in
+    let d = as_told told (seen_by g.D.SwapDev.sizes g.D.SwapDev.pages g.D.SwapDev.failures c.args.dev.now) in
+    let d' = as_told told (seen_by g.D.SwapDev.sizes g.D.SwapDev.pages g.D.SwapDev.failures c.seek.new.dev) in
     let old = c.args.mem.now in
     let shared = sym (shared-in d old w r l h c.args.from) ∙ c.requires.shared in
     let f = c.args.from in

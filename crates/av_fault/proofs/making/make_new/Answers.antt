@@ -1,5 +1,5 @@
 use Rattle.std.proofs.Common.{false, None, refl, subst}
-use Rattle.av_plain.specs.Device.{as_told, device_by}
+use Rattle.av_plain.specs.Device.{as_told, device_by, seen_by}
 use Rattle.av_plain.specs.Fault.{NewPage}
 use Rattle.av_plain.specs.Ledger.{entry}
 use Rattle.av_pagetable.specs.Entries.{entry_at}
@@ -14,8 +14,8 @@ use Rattle.av_fault.proofs.making.make_new.Goals as goal
 
 pub returns-in-Out-clause-made : goal.returns-in-Out-clause-made
 returns-in-Out-clause-made g c = λ told w r l h.
-    let d = as_told told (device_by (g.D.SwapDev.sizes c.args.dev.now) (g.D.SwapDev.pages c.args.dev.now) (g.D.SwapDev.failures c.args.dev.now)) in
-    let d' = as_told told (device_by (g.D.SwapDev.sizes c.seek.new.dev) (g.D.SwapDev.pages c.seek.new.dev) (g.D.SwapDev.failures c.seek.new.dev)) in
+    let d = as_told told (seen_by g.D.SwapDev.sizes g.D.SwapDev.pages g.D.SwapDev.failures c.args.dev.now) in
+    let d' = as_told told (seen_by g.D.SwapDev.sizes g.D.SwapDev.pages g.D.SwapDev.failures c.seek.new.dev) in
     let old = c.args.mem.now in
     let key = c.args.key in
     let s = subst (HasSought d d' old c.seek.new.mem w r l None c.args.notes.now c.seek.new.notes) c.in-Out.is
@@ -74,8 +74,8 @@ take_frame_of_zeros-requires-clause-free g c =
 
 pub returns-clause-made : goal.returns-clause-made
 returns-clause-made g c = λ told w r l h.
-    let d = as_told told (device_by (g.D.SwapDev.sizes c.args.dev.now) (g.D.SwapDev.pages c.args.dev.now) (g.D.SwapDev.failures c.args.dev.now)) in
-    let d' = as_told told (device_by (g.D.SwapDev.sizes c.seek.new.dev) (g.D.SwapDev.pages c.seek.new.dev) (g.D.SwapDev.failures c.seek.new.dev)) in
+    let d = as_told told (seen_by g.D.SwapDev.sizes g.D.SwapDev.pages g.D.SwapDev.failures c.args.dev.now) in
+    let d' = as_told told (seen_by g.D.SwapDev.sizes g.D.SwapDev.pages g.D.SwapDev.failures c.seek.new.dev) in
     let old = c.args.mem.now in
     let key = c.args.key in
     let s = subst (HasSought d d' old c.seek.new.mem w r l None c.args.notes.now c.seek.new.notes) c.in_default.is

@@ -1,6 +1,6 @@
 use Rattle.std.proofs.Common.{◌≡◌, ◌<◌, false, true, None, is_some, refl, sym, ap, subst, ◌∙◌}
 use Rattle.av_plain.specs.Areas.{rmap_after_all}
-use Rattle.av_plain.specs.Device.{as_told, device_by}
+use Rattle.av_plain.specs.Device.{as_told, device_by, seen_by}
 use Rattle.av_plain.specs.Event.{after_all, after_notes, note_events}
 use Rattle.av_plain.specs.Fault.{asks_copy}
 use Rattle.av_plain.specs.Ledger.{slot_of}
@@ -65,7 +65,7 @@ pub returns-clause-made : goal.returns-clause-made
 returns-clause-made g c = λ told w r l h came.
     let old = c.args.mem.now in
     let mid = c.drop_unneeded.new.mem in
-    let d = as_told told (device_by (g.D.SwapDev.sizes c.args.dev.now) (g.D.SwapDev.pages c.args.dev.now) (g.D.SwapDev.failures c.args.dev.now)) in
+    let d = as_told told (seen_by g.D.SwapDev.sizes g.D.SwapDev.pages g.D.SwapDev.failures c.args.dev.now) in
     let m = setting_by d old in
     let here = c.requires.here in
     let f = c.args.frame in

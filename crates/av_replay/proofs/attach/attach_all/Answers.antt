@@ -1,6 +1,6 @@
 use Rattle.std.proofs.Common.{◌≡◌, [], ◌∷◌, ◌++◌, length, length-append, sym, ap, subst, ◌∙◌, arith}
 use Rattle.std.specs.Prelude.{if◌then◌else◌}
-use Rattle.av_step.specs.Step.{seen_by}
+use Rattle.av_plain.specs.Device.{seen_by}
 use Rattle.av_replay.specs.Attach.{Attaches}
 use Rattle.av_replay.proofs.Attached.{attached_more}
 use Rattle.av_replay.proofs.attach.attach_all.Goals as goal

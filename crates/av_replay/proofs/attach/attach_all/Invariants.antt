@@ -1,6 +1,6 @@
 -- The areas so far are attached.
 use Rattle.std.proofs.Common.{◌≡◌, length}
-use Rattle.av_step.specs.Step.{seen_by}
+use Rattle.av_plain.specs.Device.{seen_by}
 use Rattle.av_replay.specs.Attach.{Attaches}
 use Rattle.av_replay.proofs.attach.attach_all.Given as goal
 

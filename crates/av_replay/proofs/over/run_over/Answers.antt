@@ -1,5 +1,5 @@
 use Rattle.std.proofs.Common.{Err, ap, refl}
-use Rattle.av_step.specs.Step.{seen_by}
+use Rattle.av_plain.specs.Device.{seen_by}
 use Rattle.av_replay.proofs.Endings.{nothing_done}
 use Rattle.av_replay.proofs.over.run_over.Goals as goal
 

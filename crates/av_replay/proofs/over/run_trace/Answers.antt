@@ -1,7 +1,7 @@
 use Rattle.std.proofs.Common.{ℕ, ap, subst, sym, ◌∙◌}
 use Rattle.av_kernel.specs.Kernel.{Stands}
-use Rattle.av_step.specs.Step.{seen_by, sizes_of}
-use Rattle.av_plain.specs.Device.{setting_of}
+use Rattle.av_step.specs.Step.{sizes_of}
+use Rattle.av_plain.specs.Device.{setting_of, seen_by}
 use Rattle.av_plain.specs.Transcript.{at_first}
 use Rattle.av_replay.proofs.Calls.{goes_on_at}
 use Rattle.av_replay.proofs.Endings.{nothing_done, same_frames}

@@ -1,6 +1,6 @@
 use Rattle.std.proofs.Common.{◌≡◌, Some, None, true, false, is_some, length, refl, sym, ap, ◌∙◌, arith}
 use Rattle.av_io.specs.Source.{SourceView}
-use Rattle.av_step.specs.Step.{seen_by}
+use Rattle.av_plain.specs.Device.{seen_by}
 use Rattle.av_replay.specs.Replay.{can_go_on}
 use Rattle.av_replay.proofs.Loads.{goes-on-attached, goes-on-done, loaded-over, never-attaches, stopped, summed, wanting}
 use Rattle.av_replay.proofs.work_over.work_over.Goals as goal

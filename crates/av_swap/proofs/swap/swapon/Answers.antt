@@ -5,7 +5,7 @@ use Rattle.std.proofs.lemmas.Option.{slice_get_within}
 use Rattle.av_swapcache.specs.Calls.{Answers}
 use Rattle.av_swapcache.specs.Swap.{shown as shown_swap}
 use Rattle.av_trace.specs.declared.command.Command.TheVariants.{Swapon}
-use Rattle.av_plain.specs.Device.{device_by}
+use Rattle.av_plain.specs.Device.{seen_by}
 use Rattle.av_step.specs.Step.{Does}
 use Rattle.av_swap.specs.Swap.{on_answer}
 use Rattle.av_step.proofs.StepLaws.{only_answer}
@@ -36,8 +36,8 @@ returns g c =
     let fits : to_z w32 (of_z w32 c.priority_of.result) ≡ c.priority_of.result = omega (arith, ints) in
     let answers = subst (λ priority. Answers (dev.pages old) c.args.area c.in_ok-pages.pages priority c.in_ok-came.came
     (shown_swap k.swap) (shown_swap c.swapon.new.self)) (fits ∙ c.priority_of.ensures) did.answers in
-    subst (λ reply. Does (device_by (dev.sizes old) (dev.pages old) (dev.failures old))
-    (device_by (dev.sizes new) (dev.pages new) (dev.failures new)) k later
+    subst (λ reply. Does (seen_by dev.sizes dev.pages dev.failures old)
+    (seen_by dev.sizes dev.pages dev.failures new) k later
     (Swapon c.args.area c.args.priority) (Ok reply)) (sym (c.answer_with.ensures
     ∙ ap (λ a. record c.args.reply.now { answer = a }) c.on_answer.ensures
     ∙ only_answer c.args.reply.now (on_answer c.in_ok-came.came) c.requires.cleared))

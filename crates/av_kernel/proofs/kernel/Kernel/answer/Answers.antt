@@ -1,9 +1,9 @@
 use Rattle.std.proofs.Common.{◌≡◌, ◌+◌, ◌<◌, ◌^◌, sym, subst, arith}
-use Rattle.av_plain.specs.Device.{setting_of}
+use Rattle.av_plain.specs.Device.{setting_of, seen_by}
 use Rattle.av_plain.specs.Transcript.{IsStep}
 use Rattle.av_mem.specs.Mem.{Keeps}
 use Rattle.av_kernel.specs.Machine.{Machine}
-use Rattle.av_step.specs.Step.{seen_by, sizes_of}
+use Rattle.av_step.specs.Step.{sizes_of}
 use Rattle.av_mem.specs.Mem.{IsSteadyAt}
 use Rattle.av_kernel.specs.Tally.{IsAtMost}
 use Rattle.av_kernel.proofs.TallyCounts.{counted-few, few-enough}
