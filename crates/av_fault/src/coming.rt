@@ -32,14 +32,14 @@ pub(crate) fn come_in<D: SwapDev>(
     requires away { entry_at mem.old.tables key.0 key.1 ≡ Pte.Away slot }
     requires home { home ≡ home_of key.1 (pages_of mem.old.spaces.processes key.0 key.1) }
     ensures come { IfOk result (λ came. Does
-        (seen_by D.sizes D.pages D.failures dev.old)
-        (seen_by D.sizes D.pages D.failures dev.new) mem.old (λ d d' w r l.
+        (seen_by D.sizes D.pages D.failures D.history dev.old)
+        (seen_by D.sizes D.pages D.failures D.history dev.new) mem.old (λ d d' w r l.
         HasCome (λ m w l added came. Comes m w l key slot added came)
         d d' mem.old mem.new w r l notes.old notes.new came)) }
     ensures here { IfOk result (λ came. IfOk came (λ f.
         entry_at mem.new.tables key.0 key.1 ≡ Pte.Here f false false)) }
-    ensures same { IsSameDevice (seen_by D.sizes D.pages D.failures dev.old)
-        (seen_by D.sizes D.pages D.failures dev.new) }
+    ensures same { IsSameDevice (seen_by D.sizes D.pages D.failures D.history dev.old)
+        (seen_by D.sizes D.pages D.failures D.history dev.new) }
     ensures count { frame_count mem.new ≡ frame_count mem.old }
 {
     match fetch(mem, dev, key, slot, home, notes)? {
@@ -69,12 +69,12 @@ fn fetch<D: SwapDev>(
     requires away { entry_at mem.old.tables key.0 key.1 ≡ Pte.Away slot }
     requires home { home ≡ home_of key.1 (pages_of mem.old.spaces.processes key.0 key.1) }
     ensures fetched { IfOk result (λ came. Does
-        (seen_by D.sizes D.pages D.failures dev.old)
-        (seen_by D.sizes D.pages D.failures dev.new) mem.old (λ d d' w r l.
+        (seen_by D.sizes D.pages D.failures D.history dev.old)
+        (seen_by D.sizes D.pages D.failures D.history dev.new) mem.old (λ d d' w r l.
         HasCome (λ m w l added came. Fetches m w l slot added came)
         d d' mem.old mem.new w r l notes.old notes.new came)) }
-    ensures same { IsSameDevice (seen_by D.sizes D.pages D.failures dev.old)
-        (seen_by D.sizes D.pages D.failures dev.new) }
+    ensures same { IsSameDevice (seen_by D.sizes D.pages D.failures D.history dev.old)
+        (seen_by D.sizes D.pages D.failures D.history dev.new) }
     ensures count { frame_count mem.new ≡ frame_count mem.old }
 {
     if let Some(frame) = mem.swap.find(slot) {

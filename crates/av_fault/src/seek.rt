@@ -31,11 +31,11 @@ pub(crate) fn seek<D: SwapDev>(
 ) -> Result<Got, AllocError>
     requires between { IsBetween (D.sizes dev.old) mem.old }
     ensures sought { IfOk result (λ got. Does
-        (seen_by D.sizes D.pages D.failures dev.old)
-        (seen_by D.sizes D.pages D.failures dev.new) mem.old
+        (seen_by D.sizes D.pages D.failures D.history dev.old)
+        (seen_by D.sizes D.pages D.failures D.history dev.new) mem.old
         (λ d d' w r l. HasSought d d' mem.old mem.new w r l pinned notes.old notes.new got)) }
-    ensures same { IsSameDevice (seen_by D.sizes D.pages D.failures dev.old)
-        (seen_by D.sizes D.pages D.failures dev.new) }
+    ensures same { IsSameDevice (seen_by D.sizes D.pages D.failures D.history dev.old)
+        (seen_by D.sizes D.pages D.failures D.history dev.new) }
     ensures count { frame_count mem.new ≡ frame_count mem.old }
 {
     match av_reclaim::seek(mem, dev, pinned, notes)? {

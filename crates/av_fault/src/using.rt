@@ -75,12 +75,12 @@ pub(crate) fn write_frame<D: SwapDev>(
     requires here { IsHere mem.old key frame settled }
     requires home { home ≡ home_of key.1 (pages_of mem.old.spaces.processes key.0 key.1) }
     ensures made { IfOk result (λ touched. Does
-        (seen_by D.sizes D.pages D.failures dev.old)
-        (seen_by D.sizes D.pages D.failures dev.new) mem.old (λ d d' w r l.
+        (seen_by D.sizes D.pages D.failures D.history dev.old)
+        (seen_by D.sizes D.pages D.failures D.history dev.new) mem.old (λ d d' w r l.
         (came : Bool)
         → HasMade d d' mem.old mem.new w r l true came key notes.old notes.new touched)) }
-    ensures same { IsSameDevice (seen_by D.sizes D.pages D.failures dev.old)
-        (seen_by D.sizes D.pages D.failures dev.new) }
+    ensures same { IsSameDevice (seen_by D.sizes D.pages D.failures D.history dev.old)
+        (seen_by D.sizes D.pages D.failures D.history dev.new) }
     ensures count { frame_count mem.new ≡ frame_count mem.old }
 {
     if !settled && asks_copy(mem, frame) {

@@ -24,10 +24,10 @@ pub struct Driver<'a, D: SwapDev> {
 
 impl<'a, D: SwapDev> System for Driver<'a, D> {
     ghost view = { λ s told. view_of (s.mem.ghost_name ∷ s.dev.ghost_name ∷ []) (as_told told
-        (seen_by D.sizes D.pages D.failures s.dev.now)) s.mem.now };
+        (seen_by D.sizes D.pages D.failures D.history s.dev.now)) s.mem.now };
 
     ghost locks = { λ s told l sound stood w r claims. locked_so (as_told told
-        (seen_by D.sizes D.pages D.failures s.dev.now))
+        (seen_by D.sizes D.pages D.failures D.history s.dev.now))
         (closing_of s.mem.now) s.mem.now w r l sound.in_order claims };
 
     fn frames(&self) -> u32 {

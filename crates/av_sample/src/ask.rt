@@ -58,7 +58,7 @@ pub fn ask<D: SwapDev>(
     line: &[u8],
 ) -> Result<Bytes, Unanswered>
     requires attached { D.sizes dev.old ≡ sizes_of kernel.old.sizes }
-    ensures answers { let d = seen_by D.sizes D.pages D.failures in (s : State)
+    ensures answers { let d = seen_by D.sizes D.pages D.failures D.history in (s : State)
         → Stands kernel.old (d dev.old) s → IfOk result
         (Answers line.now (d dev.old) (d dev.new) s kernel.old kernel.new) }
     ensures blank { IsErrOf result Unanswered.Blank

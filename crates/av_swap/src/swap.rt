@@ -43,7 +43,7 @@ pub fn swapon<D: SwapDev>(
     requires attached { D.sizes dev.old ≡ sizes_of sizes.now }
     requires few { length sizes.now ≤ most_areas }
     requires cleared { IsCleared reply.old }
-    ensures { let d = seen_by D.sizes D.pages D.failures in Does (d dev.old) (d dev.new)
+    ensures { let d = seen_by D.sizes D.pages D.failures D.history in Does (d dev.old) (d dev.new)
         mem.old mem.new (commands.Swapon area priority) (reply_in reply.new result) }
 {
     let pages = pages_of(sizes, area)?;
@@ -102,7 +102,7 @@ pub fn swapoff<D: SwapDev>(
 ) -> Result<(), Refusal>
     requires steady { IsSteadyAt (D.sizes dev.old) mem.old }
     requires cleared { IsCleared reply.old }
-    ensures { let d = seen_by D.sizes D.pages D.failures in Does (d dev.old) (d dev.new)
+    ensures { let d = seen_by D.sizes D.pages D.failures D.history in Does (d dev.old) (d dev.new)
         mem.old mem.new (commands.Swapoff area) (reply_in reply.new result) }
 {
     if !mem.swap.is_on(area) {

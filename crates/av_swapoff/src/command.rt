@@ -36,11 +36,11 @@ pub fn swapoff<D: SwapDev>(
     requires between { IsBetween (D.sizes dev.old) mem.old }
     requires on { is_on (shown mem.old.swap) area ≡ true }
     ensures turned { IfOk result (λ end. Does
-        (seen_by D.sizes D.pages D.failures dev.old)
-        (seen_by D.sizes D.pages D.failures dev.new) mem.old (λ d d' w r l.
+        (seen_by D.sizes D.pages D.failures D.history dev.old)
+        (seen_by D.sizes D.pages D.failures D.history dev.new) mem.old (λ d d' w r l.
         HasTurnedOff d d' mem.old mem.new w r l area notes.old notes.new end)) }
-    ensures same { IsSameDevice (seen_by D.sizes D.pages D.failures dev.old)
-        (seen_by D.sizes D.pages D.failures dev.new) }
+    ensures same { IsSameDevice (seen_by D.sizes D.pages D.failures D.history dev.old)
+        (seen_by D.sizes D.pages D.failures D.history dev.new) }
     ensures count { frame_count mem.new ≡ frame_count mem.old }
 {
     mem.swap.close(area);
@@ -58,13 +58,13 @@ fn empty_area<D: SwapDev>(
     notes: &mut Notes,
 ) -> Result<EmptyEnd, AllocError>
     requires { IsClosingOver (as_told false
-        (seen_by D.sizes D.pages D.failures dev.old)) area mem.old }
+        (seen_by D.sizes D.pages D.failures D.history dev.old)) area mem.old }
     ensures emptied { IfOk result (λ end. DoesClosing area
-        (seen_by D.sizes D.pages D.failures dev.old)
-        (seen_by D.sizes D.pages D.failures dev.new) mem.old (λ d d' w r l.
+        (seen_by D.sizes D.pages D.failures D.history dev.old)
+        (seen_by D.sizes D.pages D.failures D.history dev.new) mem.old (λ d d' w r l.
         HasEmptied d d' mem.old mem.new w r l area notes.old notes.new end)) }
-    ensures same { IsSameDevice (seen_by D.sizes D.pages D.failures dev.old)
-        (seen_by D.sizes D.pages D.failures dev.new) }
+    ensures same { IsSameDevice (seen_by D.sizes D.pages D.failures D.history dev.old)
+        (seen_by D.sizes D.pages D.failures D.history dev.new) }
     ensures count { frame_count mem.new ≡ frame_count mem.old }
 {
     let mut driver = Driver { mem, dev };

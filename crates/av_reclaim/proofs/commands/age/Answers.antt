@@ -8,7 +8,7 @@ use Rattle.av_reclaim.proofs.CommandLaws.{added, count-lent, is-at, same-lent}
 use Rattle.av_reclaim.proofs.commands.age.Goals as goal
 
 pub age-requires : goal.age-requires
-age-requires g c = is-at [] (seen_by g.D.SwapDev.sizes g.D.SwapDev.pages g.D.SwapDev.failures c.args.dev.now)
+age-requires g c = is-at [] (seen_by g.D.SwapDev.sizes g.D.SwapDev.pages g.D.SwapDev.failures g.D.SwapDev.history c.args.dev.now)
     c.args.mem.now c.requires
 
 pub returns-clause-ages : goal.returns-clause-ages

@@ -10,7 +10,7 @@ use Rattle.av_reclaim.proofs.commands.complete.Goals as goal
 
 pub complete-requires : goal.complete-requires
 complete-requires g c =
-    is-at [] (seen_by g.D.SwapDev.sizes g.D.SwapDev.pages g.D.SwapDev.failures c.args.dev.now)
+    is-at [] (seen_by g.D.SwapDev.sizes g.D.SwapDev.pages g.D.SwapDev.failures g.D.SwapDev.history c.args.dev.now)
     c.args.mem.now c.requires
 
 pub returns-clause-completes : goal.returns-clause-completes

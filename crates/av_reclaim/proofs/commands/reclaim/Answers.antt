@@ -9,12 +9,12 @@ use Rattle.av_reclaim.proofs.commands.reclaim.Goals as goal
 
 pub reclaim-requires : goal.reclaim-requires
 reclaim-requires g c =
-    is-at [] (seen_by g.D.SwapDev.sizes g.D.SwapDev.pages g.D.SwapDev.failures c.args.dev.now)
+    is-at [] (seen_by g.D.SwapDev.sizes g.D.SwapDev.pages g.D.SwapDev.failures g.D.SwapDev.history c.args.dev.now)
     c.args.mem.now c.requires
 
 pub returns-clause-reclaims : goal.returns-clause-reclaims
 returns-clause-reclaims g c = λ told. added _ _ _ _ _ _ _ _ _ _ None
-    (λ spared l notes. Outcomes (setting_by (as_told told (seen_by g.D.SwapDev.sizes g.D.SwapDev.pages g.D.SwapDev.failures c.args.dev.now)) c.args.mem.now) spared l (from_tail c.args.count l.inactive) notes)
+    (λ spared l notes. Outcomes (setting_by (as_told told (seen_by g.D.SwapDev.sizes g.D.SwapDev.pages g.D.SwapDev.failures g.D.SwapDev.history c.args.dev.now)) c.args.mem.now) spared l (from_tail c.args.count l.inactive) notes)
     (λ m w l added. Reclaims m w l c.args.count (note_events added) Done [])
     (λ w l notes asked. (notes, asked, refl, refl, refl)) (c.in_ok-reclaim.ensures.gives told) (λ e. (search rules, search rules))
 

@@ -16,8 +16,8 @@ returns-then-is_err-clause-wanting g c = λ wanting. (
 
 pub loop-area-preserved : goal.loop-area-preserved
 loop-area-preserved g c =
-    let old = seen_by g.D.SwapDev.sizes g.D.SwapDev.pages g.D.SwapDev.failures c.args.dev.now in
-    let new = seen_by g.D.SwapDev.sizes g.D.SwapDev.pages g.D.SwapDev.failures c.attach.new.self in
+    let old = seen_by g.D.SwapDev.sizes g.D.SwapDev.pages g.D.SwapDev.failures g.D.SwapDev.history c.args.dev.now in
+    let new = seen_by g.D.SwapDev.sizes g.D.SwapDev.pages g.D.SwapDev.failures g.D.SwapDev.history c.attach.new.self in
     let items : c.push.new.self.items ≡ c.loop-area.pages.items ++ c.in_ok-size.size ∷ [] = c.push.ensures.items
     ∙ ap (λ b. if b then c.loop-area.pages.items ++ c.in_ok-size.size ∷ [] else c.loop-area.pages.items) c.if-is_err.ensures.negation in
     record {

@@ -13,7 +13,7 @@ returns-in_default-clause-replayed g c = nothing_done c.args.frames _
 pub replay_over-status-requires : goal.replay_over-status-requires
 replay_over-status-requires g c =
     let new = c.in-Ok.ensures.new in
-    let d = seen_by g.D.SwapDev.sizes g.D.SwapDev.pages g.D.SwapDev.failures c.args.dev.now in
+    let d = seen_by g.D.SwapDev.sizes g.D.SwapDev.pages g.D.SwapDev.failures g.D.SwapDev.history c.args.dev.now in
     record {
       stands = subst (λ (n : ℕ). Stands c.in-Ok.kernel d (at_first (setting_of n d))) (sym new.frames) (c.in-Ok.ensures.stands d);
       steps = new.steps;

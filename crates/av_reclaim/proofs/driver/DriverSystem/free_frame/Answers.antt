@@ -9,6 +9,6 @@ returns-clause-first g c = λ told. c.first.ensures ∙ at-front c.args.self.now
 
 pub returns-clause-free : goal.returns-clause-free
 returns-clause-free g c = let dev = c.args.self.now.dev.now in λ told l sound stood.
-    free-first (setting_by (as_told told (seen_by g.D.SwapDev.sizes g.D.SwapDev.pages g.D.SwapDev.failures dev))
+    free-first (setting_by (as_told told (seen_by g.D.SwapDev.sizes g.D.SwapDev.pages g.D.SwapDev.failures g.D.SwapDev.history dev))
     c.args.self.now.mem.now) l
     c.args.self.now.mem.now.frames.free _ c.first.ensures stood.2.free.frames

@@ -10,7 +10,7 @@ put-requires-clause-uncached g c = put-uncached _ _ _ _ _ _ c.args.frame c.requi
 
 pub returns-clause-slot : goal.returns-clause-slot
 returns-clause-slot g c = let dev = c.args.self.now.dev.now in λ told.
-    put-slot [] (as_told told (seen_by g.D.SwapDev.sizes g.D.SwapDev.pages g.D.SwapDev.failures dev))
+    put-slot [] (as_told told (seen_by g.D.SwapDev.sizes g.D.SwapDev.pages g.D.SwapDev.failures g.D.SwapDev.history dev))
     c.args.self.now.mem.now c.put.new.self
     c.args.frame c.put.result c.put.ensures.put
 

@@ -11,5 +11,5 @@ returns-clause-users g c =
     let driver = c.args.self.now in
     let dev = driver.dev.now in
     all-told (λ users. users.items) (driver.mem.ghost_name ∷ driver.dev.ghost_name ∷ [])
-    (λ (told : Bool). as_told told (seen_by g.D.SwapDev.sizes g.D.SwapDev.pages g.D.SwapDev.failures dev))
+    (λ (told : Bool). as_told told (seen_by g.D.SwapDev.sizes g.D.SwapDev.pages g.D.SwapDev.failures g.D.SwapDev.history dev))
     driver.mem.now c.args.area c.users.result c.users.ensures.users
