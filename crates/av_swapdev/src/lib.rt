@@ -13,6 +13,7 @@ mod file;
 mod file_dev;
 mod header;
 mod host_file;
+mod log;
 mod mem_dev;
 
 pub use device::{AttachErr, PAGE_LEN, SwapDev};
@@ -20,4 +21,5 @@ pub use file::{SwapFile, SwapFiles};
 pub use file_dev::FileDev;
 pub use header::{Header, HeaderErr, bad_pages, is_bad, read_header};
 pub use host_file::{HostFile, HostFiles};
+pub use log::{Call, Log};
 pub use mem_dev::MemDev;

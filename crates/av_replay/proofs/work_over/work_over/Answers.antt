@@ -1,6 +1,6 @@
 use Rattle.std.proofs.Common.{◌≡◌, Some, None, true, false, is_some, length, refl, sym, ap, ◌∙◌, arith}
 use Rattle.av_io.specs.Source.{SourceView}
-use Rattle.av_step.specs.Step.{seen_by}
+use Rattle.av_plain.specs.Device.{seen_by}
 use Rattle.av_replay.specs.Replay.{can_go_on}
 use Rattle.av_replay.proofs.Loads.{goes-on-attached, goes-on-done, loaded-over, never-attaches, stopped, summed, wanting}
 use Rattle.av_replay.proofs.work_over.work_over.Goals as goal
@@ -9,7 +9,7 @@ pub returns-in_default-clause-worked : goal.returns-in_default-clause-worked
 returns-in_default-clause-worked g c = λ other.
     let a = c.args in
     let o = c.run_over-status in
-    let d = seen_by g.D.SwapDev.sizes g.D.SwapDev.pages g.D.SwapDev.failures in
+    let d = seen_by g.D.SwapDev.sizes g.D.SwapDev.pages g.D.SwapDev.failures g.D.SwapDev.history in
     let stops : false ≡ can_go_on o.result.status = sym (ap is_some c.in_default.is) ∙ o.ensures.kernel in
     let replays = rw c.in_default.is at o.ensures.replayed other in
     wanting a.frames (length a.names.now) a.seed a.lines o.result.status (g.K.Sink.view a.sink.now) (d a.dev.now) (d o.new.dev) None
@@ -21,7 +21,7 @@ pub returns-clause-worked : goal.returns-clause-worked
 returns-clause-worked g c = λ other.
     let a = c.args in
     let o = c.run_over-status in
-    let d = seen_by g.D.SwapDev.sizes g.D.SwapDev.pages g.D.SwapDev.failures in
+    let d = seen_by g.D.SwapDev.sizes g.D.SwapDev.pages g.D.SwapDev.failures g.D.SwapDev.history in
     let k = c.in-Some.kernel in
     let sum = c.sum_up_over-status in
     let goes : true ≡ can_go_on o.result.status = sym (ap is_some c.in-Some.is) ∙ o.ensures.kernel in
