@@ -6,7 +6,7 @@ use Rattle.std.proofs.lemmas.Bool.{false≢true}
 use Rattle.av_base.specs.declared.slot.Slot.{Slot}
 use Rattle.av_base.specs.Words.{how_many, with_at, is_in}
 use Rattle.av_frames.specs.Store.{IsWhole, itself, Store, shown}
-use Rattle.av_frames.proofs.Counted.{count-set}
+use Rattle.av_base.proofs.Counted.{count-set}
 
 same_is : (f : ℕ) → (f == f) ≡ true
 same_is f = grind (arith, nat_tests)

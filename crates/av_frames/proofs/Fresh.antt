@@ -5,7 +5,7 @@ use Rattle.std.proofs.lemmas.Bool.Decides.{nat_tests}
 use Rattle.av_base.specs.Words.{how_many}
 use Rattle.std.specs.List.{range_with_len}
 use Rattle.av_frames.specs.Store.{IsWhole, itself, shown, fresh}
-use Rattle.av_frames.proofs.Counted.{count-none}
+use Rattle.av_base.proofs.Counted.{count-none}
 use Rattle.av_frames.proofs.Free.{zeros}
 
 one_more : (a n : ℕ) → (a + 1) + n ≡ a + suc n

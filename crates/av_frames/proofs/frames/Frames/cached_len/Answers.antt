@@ -2,7 +2,7 @@ use Rattle.std.proofs.Common.{None, ap, get_or, is_some, length, subst, ◌≡�
 use Rattle.std.specs.List.{range_with_len}
 use Rattle.av_base.specs.Words.{how_many}
 use Rattle.av_frames.specs.Store.{Store}
-use Rattle.av_frames.proofs.Counted.{count-places}
+use Rattle.av_base.proofs.Counted.{count-places}
 use Rattle.av_frames.proofs.frames.Frames.cached_len.Goals as goal
 
 pub returns : goal.returns

@@ -1,6 +1,6 @@
 use Rattle.std.proofs.Common.{None, is_some, refl, sym}
 use Rattle.std.proofs.lemmas.List.{length-replicate}
-use Rattle.av_frames.proofs.Counted.{count-none}
+use Rattle.av_base.proofs.Counted.{count-none}
 use Rattle.av_frames.proofs.slots.Slots.new.Goals as goal
 
 pub invariant_of-result : goal.invariant_of-result

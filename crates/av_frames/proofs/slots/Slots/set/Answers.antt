@@ -1,7 +1,7 @@
 use Rattle.std.proofs.Common.{arith, List, None, Option, ap, cond, get_or, is_some, length, length-set, slice_set, subst, sym, ℕ, ◌+◌, ◌<◌, ◌≤◌, ◌∙◌, ◌≡◌}
 use Rattle.av_base.specs.Words.{how_many}
 use Rattle.av_base.specs.declared.slot.Slot.{Slot}
-use Rattle.av_frames.proofs.Counted.{count-most, count-set, count-some}
+use Rattle.av_base.proofs.Counted.{count-most, count-set, count-some}
 use Rattle.av_frames.proofs.slots.Slots.set.Goals as goal
 
 -- what is known of the count, over the items `xs` that are seen as `v`, in which this was the frame's
