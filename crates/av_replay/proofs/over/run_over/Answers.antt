@@ -13,5 +13,7 @@ returns-in-Err-Memory-clause-replayed g c = λ other.
       all = λ not. absurd (not refl);
       attached = seen_by g.D.SwapDev.sizes g.D.SwapDev.pages g.D.SwapDev.failures g.D.SwapDev.history c.attach_all.new.dev;
       attaches = some.2;
+      failed = some.3;
+      tries = some.4;
       does = nothing_done c.args.frames _;
     }
