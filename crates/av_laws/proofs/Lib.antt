@@ -17,3 +17,4 @@ pub mod Covered
 pub mod RunCovered
 pub mod Spared
 pub mod Stay
+pub mod Told

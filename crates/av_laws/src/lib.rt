@@ -15,6 +15,7 @@
 mod areas;
 mod cover;
 mod determinism;
+mod events;
 mod examples;
 mod flags;
 mod forks;
@@ -42,9 +43,10 @@ pub use determinism::{
     areas_has_one_answer, failures_are_within, maps_has_one_answer, replies_are_determined,
     runs_are_determined,
 };
+pub use events::events_are_told;
 pub use examples::{
     accesses_stop, commands_are_refused, entries_go, frames_are_chosen, mappings_have_room,
-    memories_follow, pages_are_served, reports_show,
+    memories_follow, pages_are_served, reports_show, some_commands_use_the_device,
 };
 pub use flags::{
     advice_is_about_one_flag, flags_are_refused, flags_are_told, flags_cut_areas, flags_follow,
