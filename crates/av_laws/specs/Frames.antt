@@ -8,8 +8,8 @@
 --   the last copy of a merged frame (`asks_copy`, `change_frame`): those of
 --     `last_copies_free_merged_frames`
 --   which frame moves, and where to (`next_move`, `with_places`): moves, no_more, merged,
---     goes_along; the free ones (`takes_any`, `sorts_free`, `Compacts`): moved_from_anywhere, risen,
---     no_move, one_move
+--     goes_along; the free ones (`takes_any`, `sorts_free`, `Compacts`): moved_from_anywhere,
+--     risen, no_move, one_move
 use Rattle.std.specs.Prelude.{true, false, if◌then◌else◌, List, [], ◌∷◌, Some, None, ◌==◌}
 use Rattle.av_base.specs.Flags.{no_flags}
 use Rattle.av_trace.specs.declared.note.Note.{Note}

@@ -1,8 +1,8 @@
 -- Views of a kernel after a fork, when two processes have frame 0, and once that is cached at slot
 -- 1 and unmapped: some that don't stand for the states. Each is the right one but for one thing,
 -- which one clause of `Stands` refuses. (That a kernel can stand for a state its own crates show.)
-use Rattle.std.specs.Prelude.{ℕ, ◌-◌, Bool, true, false, ◌==◌, ◌&&◌, ◌||◌, if◌then◌else◌, List, [], ◌∷◌}
-use Rattle.std.specs.Prelude.{◌++◌, Some, None, option_map, replicate, codes}
+use Rattle.std.specs.Prelude.{ℕ, ◌-◌, Bool, true, false, ◌==◌, ◌&&◌, ◌||◌, if◌then◌else◌, List}
+use Rattle.std.specs.Prelude.{[], ◌∷◌, ◌++◌, Some, None, option_map, replicate, codes}
 use Rattle.av_clusters.specs.Clusters.{Slots}
 use Rattle.av_plain.specs.Device.{Device, no_device}
 use Rattle.av_plain.specs.Ledger.{Entry, InFrame, InSlot, Key, SwapArea, entry, frame_at}

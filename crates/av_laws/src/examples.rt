@@ -278,10 +278,10 @@ pub fn entries_go()
         (Forked 1 2 (0x7fffffffd ∷ 0x7fffffffe ∷ []) ∷ []) }
 {}
 
-/// `maps` shows the longest runs with one protection; `areas` ranges that cover the pages, each with
-/// a chain that rises; `rmap` each entry of the frame of a page's entry, if that names one; `entry`
-/// what a page's entry is, with the slot at which its frame is cached, or the frame that caches its
-/// slot; `stat` how many there are of all.
+/// `maps` shows the longest runs with one protection; `areas` ranges that cover the pages, each
+/// with a chain that rises; `rmap` each entry of the frame of a page's entry, if that names one;
+/// `entry` what a page's entry is, with the slot at which its frame is cached, or the frame that
+/// caches its slot; `stat` how many there are of all.
 pub fn reports_show()
     ensures two_runs { MayCome (machine 4) ((1, two_kinds) ∷ []) first_ledger (Maps 1)
         (with_rows_of (Runs 2)

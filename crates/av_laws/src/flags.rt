@@ -157,10 +157,10 @@ pub fn flags_follow()
 {}
 
 /// Entries go where nothing is needed, up to a locked page. A flag is set or cleared over a hole,
-/// too. An mlock brings its pages in, each as if it was written, or read where it can't be, once all
-/// are locked; where one isn't mapped none comes. How much it has brought in counts from the first
-/// page. A lock is set or cleared up to a hole. A child inherits the entries of the pages that go
-/// over whole.
+/// too. An mlock brings its pages in, each as if it was written, or read where it can't be, once
+/// all are locked; where one isn't mapped none comes. How much it has brought in counts from the
+/// first page. A lock is set or cleared up to a hole. A child inherits the entries of the pages
+/// that go over whole.
 pub fn flags_are_told()
     ensures entry_goes { ComesBy (machine 4) (three_written no_flags no_flags no_flags)
         (Madvise 1 0x7fffffffb000 8192 DontNeed)
@@ -235,8 +235,8 @@ pub fn locked_frames_are_spared()
         (Some (Starved (record { pinned = 0; noslot = 0; fault = 0; locked = 2; ksm = 0 }))) }
 {}
 
-/// A row of `areas` has the flags of the area's pages, and no other; and its chain rises, so that no
-/// anon_vma stands twice in it.
+/// A row of `areas` has the flags of the area's pages, and no other; and its chain rises, so that
+/// no anon_vma stands twice in it.
 pub fn rows_show_flags()
     ensures shown_without { NotShown left_out no_flags [] }
     ensures shown_with_one { NotShown no_flags left_out [] }

@@ -111,8 +111,8 @@ pub fn merges_ask_each_page()
         ((1, 0x10) ∷ (2, 0x10) ∷ (3, 0x10) ∷ []) ≡ Joined 2 0x10000 3 ∷ [] }
 {}
 
-/// A frame that is kept as one of a locked page, or as a merged one, goes to the head of active, and
-/// its entries are seen as before.
+/// A frame that is kept as one of a locked page, or as a merged one, goes to the head of active,
+/// and its entries are seen as before.
 pub fn kept_frames_stay_seen()
     ensures ksm { after_note (Kept 3 Ksm) merged_in_inactive ≡ merged_at_head }
     ensures locked { after_note (Kept 3 Locked) merged_in_inactive ≡ merged_at_head }

@@ -1,13 +1,13 @@
 //! What follows from the definitions of `av_plain`, beside what the kernel needs of them: replies
-//! are determined, numbers add up, a refusal changes nothing or no more than what it met, a reply is
-//! read back from its text, what is free is listed, only equal pages are merged, a compaction takes
-//! the lowest frames, areas cover what is mapped, frames of locked pages stay; and worked examples
-//! of the definitions. Each stands for a wrong version of one, which breaks it; where a law of this
-//! crate breaks with that version there is no example. They are single commands, turns in a pass,
-//! single steps of swap, several of a kind that differ, what lines, answers, notes and rows say,
-//! slots that are given, areas, anon_vmas and homes that come of commands, flags of pages, frames
-//! that are shared or move, forks, pages that move, states that aren't sound, and views that don't
-//! stand for a state.
+//! are determined, numbers add up, a refusal changes nothing or no more than what it met, a reply
+//! is read back from its text, what is free is listed, only equal pages are merged, a compaction
+//! takes the lowest frames, areas cover what is mapped, frames of locked pages stay; and worked
+//! examples of the definitions. Each stands for a wrong version of one, which breaks it; where a
+//! law of this crate breaks with that version there is no example. They are single commands, turns
+//! in a pass, single steps of swap, several of a kind that differ, what lines, answers, notes and
+//! rows say, slots that are given, areas, anon_vmas and homes that come of commands, flags of
+//! pages, frames that are shared or move, forks, pages that move, states that aren't sound, and
+//! views that don't stand for a state.
 //!
 //! No function does anything. Each one's contract is a law, proved of the definitions alone.
 #![tactic(auto)]

@@ -61,9 +61,9 @@ pub fn bad_pages_are_not_given()
 {}
 
 /// A load from a device that doesn't tell its pages makes unclaimed what the slot's pages held, in
-/// each process, and nothing else; one from a device that tells them changes nothing. So does one of
-/// a page that went to the slot in the same command; and a read shows what was loaded, which may be
-/// anything.
+/// each process, and nothing else; one from a device that tells them changes nothing. So does one
+/// of a page that went to the slot in the same command; and a read shows what was loaded, which may
+/// be anything.
 pub fn loads_make_unclaimed()
     ensures its_page { ClaimsAfterLoad untold 1 0x7fffffffe000 None }
     ensures page_of_other { ClaimsAfterLoad untold 2 0x7fffffffe000 None }
@@ -76,7 +76,8 @@ pub fn loads_make_unclaimed()
         (reply_with (Data (9 ∷ [])) (Loaded (slot 1) 0 ∷ Mapped 1 0x7fffffffe000 0 ∷ [])) }
 {}
 
-/// What only failures of the device explain is counted: each `fail`, `bus` and EIO, of all commands.
+/// What only failures of the device explain is counted: each `fail`, `bus` and EIO, of all
+/// commands.
 pub fn failures_are_counted()
     ensures bus_and_fails { causes
         (reply_with (Bus 0 []) (Failed (slot 1) ∷ Written (slot 2) ∷ Failed (slot 3) ∷ []))

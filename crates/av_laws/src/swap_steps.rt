@@ -173,8 +173,8 @@ pub fn slots_are_emptied_in_turn()
     ensures unmapped_in_turn { IsLegal (with_swap 1 3 2) [] (cached_by_second false) (Swapoff 0)
         (reply_with (NoFrame (numbers 1 0)) unmapped_in_turn)
         (note_events unmapped_in_turn) }
-    ensures unread_stays_on { IsLegal (with_swap 4 8 7) (paged_out 7 []).world (paged_out 7 []).ledger
-        (Swapoff 0)
+    ensures unread_stays_on { IsLegal (with_swap 4 8 7) (paged_out 7 []).world
+        (paged_out 7 []).ledger (Swapoff 0)
         (reply_with (Refused Eio) []) [] }
 {}
 
@@ -211,8 +211,8 @@ pub fn slots_are_told()
 
 /// `swapon` refuses an area without a device, or without a page, before anything is read of it.
 /// Else its page 0 isn't read, or is no header, and no area is on; or it is one and its numbers are
-/// told: those of the area that is asked for, and this one is on. Where headers aren't told, these may be any numbers,
-/// but for no slots.
+/// told: those of the area that is asked for, and this one is on. Where headers aren't told, these
+/// may be any numbers, but for no slots.
 pub fn areas_are_turned_on()
     ensures no_device { MayCome third_bad [] first_ledger (Swapon 3 None)
         (reply_with (Refused Einval) []) }
