@@ -18,3 +18,5 @@ pub mod RunCovered
 pub mod Spared
 pub mod Stay
 pub mod Told
+pub mod FirstView
+pub mod Along
