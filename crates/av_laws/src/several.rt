@@ -1,7 +1,7 @@
 //! Worked examples with several of a kind that differ: frames in lists, swap areas, pages of a
 //! device.
 
-ghost use Rattle.std.specs.Prelude.{◌≡◌, [], ◌∷◌, true, false, Some};
+ghost use Rattle.std.specs.Prelude.{◌≡◌, [], ◌∷◌, true, false, None, Some};
 ghost use Rattle.av_trace.specs.declared.note.Note.TheVariants.{Kept, New};
 ghost use Rattle.av_trace.specs.declared.note.Cause.TheVariants.{NoSlot, Referenced, WriteStarted};
 ghost use Rattle.av_plain.specs.Device.{IsSameDevice, headers_of};
@@ -13,6 +13,8 @@ ghost use Rattle.av_laws.specs.Examples.{cached_out, page_with, paged_out};
 ghost use Rattle.av_laws.specs.Pairs.{with_frames};
 ghost use Rattle.av_laws.specs.Several.{
   HoldWith,
+  after_writing,
+  attached_again,
   told_header,
   one_free,
   seven_at,
@@ -64,10 +66,19 @@ pub fn areas_have_pages_of_their_own()
         ≡ Some (record { pages = 8; slots = 7; bad = [] }) }
 {}
 
-/// A device that has other bytes at its slots is still the same one. It isn't where a byte of page
-/// 0 is another, though its header says the same.
+/// A device that has other bytes at its slots is still the same one, and so where these were to be
+/// written. It isn't where a byte of page 0 is another, though its header says the same, nor where
+/// page 0 was to be written; where an area has another size, or was to be attached again; or where
+/// its count of failures fell.
 pub fn page_0_of_a_device_stays()
     ensures other_slots { IsSameDevice (seven_at 1) (seven_at 2) }
     ensures other_page_0 { IsSameDevice (swap_device 9) with_other_page_0 → ⊥ }
     ensures same_header { headers_of with_other_page_0 ≡ headers_of (swap_device 9) }
+    ensures slot_written { IsSameDevice (swap_device 9) (after_writing 2) }
+    ensures header_written { IsSameDevice (swap_device 9) (after_writing 0) → ⊥ }
+    ensures attached_again { IsSameDevice (swap_device 9) attached_again → ⊥ }
+    ensures other_sizes { IsSameDevice (swap_device 9) (record (swap_device 9) { sizes = λ k. None })
+        → ⊥ }
+    ensures fewer_failures { IsSameDevice (record (swap_device 9) { failures = 1 }) (swap_device 9)
+        → ⊥ }
 {}
