@@ -93,7 +93,7 @@ waited n past ahead rest old now new k so_far few reads = record {
 
 pub stops : (n : ℕ) (past : Past) (ahead rest : List ℕ) (old now new : PortsView) (k k' : Machine) → SoFar n past ahead old now k →
     length past.lines ≤ most_lines → Waits ahead rest now new k k' → Leaves n rest old new k' (whole past) (text_of_run past.transcript)
-unfolding (waited, begun_of, still)
+unfolding waited begun_of still
 stops n past ahead rest old now new k k' so_far few waits = record {
   replays = waited n past ahead rest old now new k so_far few (begun_of ahead rest now new waits.reads);
   told = refl;

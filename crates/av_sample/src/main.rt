@@ -27,11 +27,13 @@ const FAULTS: [&str; 5] = [
 ];
 
 /// A page goes to its slot.
-const SWAP: [&str; 6] = [
+const SWAP: [&str; 8] = [
     "swapon 0",
     "spawn 1",
     "mmap 1 4096 rw-",
     "write 1 7fffffffe000 41",
+    "reclaim 1",
+    "age 1",
     "reclaim 1",
     "complete 1",
 ];

@@ -108,8 +108,7 @@ module _ (command : Command) (by : IsByNotes command) where
         let s = steady.1 in
         let keeps = keeps-whenever d.sizes None steady.0 (d.failures, d.history) old s steady.2 in
         let after = added-steps (as_told false d) (as_told false d') old new s before now keeps fresh
-        (h false s.world (rmap_of s) s.ledger (stands-between (as_told false d) old s keeps)) in
-        (
+        (h false s.world (rmap_of s) s.ledger (stands-between (as_told false d) old s keeps)) in (
           (d'.failures, d'.history),
           after.next,
           subst (λ sizes. Keeps (device_by sizes None (d'.failures, d'.history)) new after.next) after.same.sizes after.keeps,

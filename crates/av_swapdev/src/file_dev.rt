@@ -157,7 +157,11 @@ impl<H: SwapFiles + Drop> SwapDev for FileDev<H> {
             → self.new.failures ≡ one_more self.old.failures }
     {
         let opened = self.files.open(name);
-        self.log = self.log.then(&Call::Attach { area, name, well: opened.is_ok() });
+        self.log = self.log.then(&Call::Attach {
+            area,
+            name,
+            well: opened.is_ok(),
+        });
         match opened {
             Ok(file) => {
                 let pages = pages_of(file.len());

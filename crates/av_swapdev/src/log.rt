@@ -19,15 +19,8 @@ impl Model for Log {
 /// A call of a device that its history has.
 #[derive(Clone, Copy, Drop)]
 pub enum Call<'a> {
-    Attach {
-        area: u8,
-        name: &'a str,
-        well: bool,
-    },
-    Write {
-        area: u8,
-        page: u32,
-    },
+    Attach { area: u8, name: &'a str, well: bool },
+    Write { area: u8, page: u32 },
 }
 
 impl Log {

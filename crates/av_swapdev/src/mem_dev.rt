@@ -120,7 +120,11 @@ impl SwapDev for MemDev {
         ensures kept { ⟦<MemDev as SwapDev>⟧.pages self.new ≡ ⟦<MemDev as SwapDev>⟧.pages self.old }
     {
         let failed = self.failures.next_fails();
-        self.log = self.log.then(&Call::Attach { area, name, well: !failed });
+        self.log = self.log.then(&Call::Attach {
+            area,
+            name,
+            well: !failed,
+        });
         if failed {
             return Err(AttachErr::Failed);
         }
