@@ -4,12 +4,13 @@
 --     new_to_head, stuck_to_active_head
 --   what counts over all areas (`is_full`, `totals`): not_full, full, all_slots, all_free_slots
 --   which page of the device it is (`HoldsTold`, `IsClean`): page_at_next_slot, clean_at_next_slot
+--   where a page is by its entry (`IsKept`, `IsKeptAt`): cached, no_entry, zero_page
 --   which area of the device it is (`HoldsTold`, `IsClean`, `headers_of`, `first_pages`):
 --     page_of_other_area, clean_by_other_area, second_header
 --   what stays of a device (`IsSameDevice`): other_slots, other_page_0 (with same_header),
 --     slot_written, header_written, attached_again, other_sizes, fewer_failures
-use Rattle.std.specs.Prelude.{ℕ, true, false, ◌==◌, ◌&&◌, if◌then◌else◌, List, [], ◌∷◌, Option, Some}
-use Rattle.std.specs.Prelude.{None, drop, option_and_then, replicate}
+use Rattle.std.specs.Prelude.{ℕ, true, false, ◌==◌, ◌&&◌, if◌then◌else◌, List, [], ◌∷◌, Option}
+use Rattle.std.specs.Prelude.{Some, None, drop, option_and_then, replicate}
 use Rattle.av_swapdev.specs.Header.{Layout}
 use Rattle.av_swapdev.specs.Device.{after_attach, after_write, no_history}
 use Rattle.av_plain.specs.Device.{Device, device_by, headers_of}

@@ -1,6 +1,6 @@
 -- Views of a kernel where nothing was done; after a fork, when two processes have frame 0; and once
--- that is cached at slot 1 and unmapped: some that don't stand for the states. Each is the right one
--- but for one thing, which one clause of `Stands` refuses. (That a kernel can stand for a state
+-- that is cached at slot 1 and unmapped: some that don't stand for the states. Each is the right
+-- one but for one thing, which one clause of `Stands` refuses. (That a kernel can stand for a state
 -- after some commands its own crates show.)
 use Rattle.std.specs.Prelude.{ℕ, ◌-◌, Bool, true, false, ◌==◌, ◌&&◌, ◌||◌, if◌then◌else◌, List}
 use Rattle.std.specs.Prelude.{[], ◌∷◌, ◌++◌, Some, None, option_map, replicate, codes}

@@ -20,8 +20,8 @@ ghost use Rattle.av_laws.specs.Locked.{
 
 /// No frame is unmapped that the entry of a locked page names. The entry of such a page goes on
 /// naming its frame, unless a note copies the page, or the command is one of its process that takes
-/// pages away, moves them, or maps others in their place. A compaction moves frames, those of locked
-/// pages too, and each entry goes along with its frame.
+/// pages away, moves them, or maps others in their place. A compaction moves frames, those of
+/// locked pages too, and each entry goes along with its frame.
 pub fn locked_frames_stay()
     ensures unmaps_none { (m : Setting) (old new : State) (command : Command) (reply : Reply)
         (step : IsStep m old command reply new)

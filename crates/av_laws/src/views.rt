@@ -1,12 +1,11 @@
 //! Views of a kernel that don't stand for a state.
 
-ghost use Rattle.std.specs.Prelude.{[], ◌∷◌, true, false, None, Some};
+ghost use Rattle.std.specs.Prelude.{[], ◌∷◌, true, false, None};
 ghost use Rattle.av_plain.specs.Device.{no_device};
-ghost use Rattle.av_plain.specs.Ledger.{Zero, first_ledger};
-ghost use Rattle.av_plain.specs.Stands.{IsKept, IsKeptAt, Stands};
+ghost use Rattle.av_plain.specs.Stands.{Stands};
 ghost use Rattle.av_plain.specs.Transcript.{at_first};
 ghost use Rattle.av_laws.specs.Areas.{family};
-ghost use Rattle.av_laws.specs.Examples.{machine, page_with, slot, with_slots};
+ghost use Rattle.av_laws.specs.Examples.{machine, with_slots};
 ghost use Rattle.av_clusters.specs.Clusters.{fresh};
 ghost use Rattle.av_laws.specs.Views.{
   NotCovered,
@@ -38,30 +37,20 @@ ghost use Rattle.av_laws.specs.Views.{
   with_fewer_slots,
 };
 
-/// Before the first command a view of a machine stands for the first state, but not where it has
-/// another number of frames, or one of them inactive; nor does it over a device with other sizes, or
-/// with headers that aren't told where they were.
-pub fn changed_first_views_do_not_stand()
-    ensures right { Stands (machine 4) (first_view 4 []) no_device (at_first (machine 4)) }
-    ensures more_frames { NotFirst no_device (first_view 5 []) no_device }
-    ensures made_inactive { NotFirst no_device (first_view 4 (0 ∷ [])) no_device }
-    ensures other_sizes { NotFirst (untold_device 8) (first_view 4 []) (untold_device 9) }
-    ensures other_headers { NotFirst (swap_device 7) (first_view 4 []) (untold_device 8) }
-{}
-
-/// A page is held where its entry says: in the frame that caches its slot, and one without an entry,
-/// or with the zero page, as zeros.
-pub fn pages_are_where_their_entries_say()
-    ensures cached { IsKeptAt right (swap_device 7) (slot 1) (Some (page_with 7)) (Some 1) → ⊥ }
-    ensures no_entry { IsKept right no_device first_ledger None (Some (page_with 7)) → ⊥ }
-    ensures zero_page { IsKept right no_device first_ledger (Some Zero) (Some (page_with 7)) → ⊥ }
-{}
-
 /// After a fork, a view stands for the state only where it has the bytes of the shared frame, no
 /// write bit over it, all entries and counts, the free frames in their order, each of them once, no
 /// slots, no other active frames, and the areas of each process that lives: apart, over its pages
 /// alone, its own, and with their offsets and flags.
+///
+/// Before the first command, a view stands for the first state, but not where it has another number
+/// of frames, or one of them inactive; nor does it over a device with other sizes, or with headers
+/// that aren't told where they were.
 pub fn changed_views_do_not_stand()
+    ensures first { Stands (machine 4) (first_view 4 []) no_device (at_first (machine 4)) }
+    ensures more_frames { NotFirst no_device (first_view 5 []) no_device }
+    ensures made_inactive { NotFirst no_device (first_view 4 (0 ∷ [])) no_device }
+    ensures other_sizes { NotFirst (untold_device 8) (first_view 4 []) (untold_device 9) }
+    ensures other_headers { NotFirst (swap_device 7) (first_view 4 []) (untold_device 8) }
     ensures other_byte { Refused (record right { bytes = λ f i. 0 }) }
     ensures write_bit { Refused (view_with (λ p. topmost p ∷ []) true) }
     ensures no_entry { Refused (record right { table = λ p page. None }) }

@@ -44,8 +44,8 @@ pub fn lines_are_done_up_to_the_most()
 
 /// A run whose read failed has written, over such a source and sink, the text of a legal run of the
 /// lines that were read to their newline, and nothing else, and keeps nothing of it back. Which
-/// read fails no one knows before. So it was like that at each: a person at a terminal has the reply
-/// to each whole line before the next is waited for.
+/// read fails no one knows before. So it was like that at each: a person at a terminal has the
+/// reply to each whole line before the next is waited for.
 pub fn replies_are_out_before_a_read()
     ensures { (n : ℕ) (old new : PortsView) (kernel : Option Machine) (content before : List ℕ)
         → DoesTrace n Status.ReadFault old new kernel
@@ -54,8 +54,8 @@ pub fn replies_are_out_before_a_read()
         new.sink.kept_back }
 {}
 
-/// A run whose write failed has written, over such a source and sink, the text of a legal run of the
-/// lines that were done, but for the reply to the last of them, which is cut short.
+/// A run whose write failed has written, over such a source and sink, the text of a legal run of
+/// the lines that were done, but for the reply to the last of them, which is cut short.
 pub fn failed_writes_cut_the_last_reply()
     ensures { (n : ℕ) (old new : PortsView) (kernel : Option Machine) (content before : List ℕ)
         → Headline n Status.WriteFault old new kernel

@@ -7,7 +7,7 @@ use Rattle.av_plain.proofs.NoDevice.{never}
 use Rattle.av_plain.proofs.Wrote.{some-none, some-one}
 use Rattle.av_laws.specs.Examples.{slot}
 use Rattle.av_swapdev.specs.Header.{number_at}
-use Rattle.av_laws.proofs.several.page_0_of_a_device_stays.Goals as goal
+use Rattle.av_laws.proofs.several.devices_stay_the_same.Goals as goal
 
 -- the page of the first slot
 abbrev first_page : List Slot → ℕ
