@@ -4,7 +4,6 @@ and the accesses that page faults tell of, by time.
 import dataclasses
 import re
 
-from calls import advice_of_model
 from faults import Fault
 from memory import Command, Memory
 from saying import Refused, count_of, printable
@@ -64,7 +63,7 @@ class Convert:
 
     def __init__(self, steps: list[Step], faults: list[Fault], options: Options):
         self.steps, self.faults, self.options = steps, faults, options
-        self.memory = Memory(options.anonymous_only, options.touch, advice_of_model())
+        self.memory = Memory(options.anonymous_only, options.touch)
         self.tally = self.memory.tally
         self.threads: dict[int, Thread] = {}
         self.all: list[Thread] = []

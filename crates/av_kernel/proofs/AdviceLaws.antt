@@ -72,6 +72,9 @@ madvise-allowed : {d : Device} (k : Mem) (s : State) (p a len : ℕ) (advice : A
 madvise-allowed k s p a len advice keeps alive good =
     lived k s p keeps alive (cond (is_bad_range a len) (Some Einval) None) ∙ ap (λ b. cond b (Some Einval) None) good
 
+abbrev no_rows : List Row
+no_rows = []
+
 -- ---- how far it goes
 
 -- the answer by the first page that is locked and the first that isn't mapped, as the kernel has it
@@ -168,7 +171,7 @@ module _ {d : Device} (old : Mem) (spaces : AllSpaces) (anons : AnonSet) (s : St
           answer = subst (λ o. MatchOption o (Follows (setting_by d old) s.world s.ledger (Madvise p a len advice) events answer [])
               (λ e. Refuses e events answer [])) (sym (madvise-allowed old s p a len advice keeps alive good))
               (subst (λ change. (answer ≡ advice_answer (pages s.world p) from n change)
-              × (events ≡ advice_events s.ledger p from (pages_advised (pages s.world p) from n change) change) × (([] : List Row) ≡ []))
+              × (events ≡ advice_events s.ledger p from (pages_advised (pages s.world p) from n change) change) × (no_rows ≡ []))
               (sym about) (flag_answer, refl, refl));
           notes = refl;
         };
@@ -291,7 +294,7 @@ module _ {d : Device} (old new : Mem) (s : State) (p a len locked hole : ℕ) (a
           answer = subst (λ o. MatchOption o (Follows (setting_by d old) s.world s.ledger (Madvise p a len advice) zapped_events answer [])
               (λ e. Refuses e zapped_events answer [])) (sym (madvise-allowed old s p a len advice keeps alive good))
               (subst (λ change. (answer ≡ advice_answer (pages s.world p) from (pages_of len) change)
-              × (zapped_events ≡ advice_events s.ledger p from (pages_advised (pages s.world p) from (pages_of len) change) change) × (([] : List Row) ≡ []))
+              × (zapped_events ≡ advice_events s.ledger p from (pages_advised (pages s.world p) from (pages_of len) change) change) × (no_rows ≡ []))
               (sym about) (ends, ap (λ m. zaps_of s.ledger (keys_in s.ledger p from m)) (sym many), refl));
           notes = refl;
         };

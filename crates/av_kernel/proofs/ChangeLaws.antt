@@ -40,7 +40,7 @@ pub record AreChanged (old : Mem) (spaces : AllSpaces) (anons : AnonSet) (p from
   pub marks : GetsMarks old.spaces.processes spaces.processes p (changed_on from n effect (marks_on (areas_on old.spaces.processes p)))
   pub areas : GetsAreas old.spaces.processes spaces.processes p
       (pages_changed (lengths old.spaces.areas old.anons) effect from n (areas_on old.spaces.processes p))
-  pub anons : AnonsStay old.spaces old.anons spaces anons
+  pub stays : AnonsStay old.spaces old.anons spaces anons
   pub homes : KeepsHomes (areas_on old.spaces.processes p) (areas_on spaces.processes p)
 
 -- as a change of the areas promises it
@@ -57,7 +57,7 @@ are_changed old spaces anons p from past n effect many h remap stay = record {
       (changed-marks len old.spaces.processes spaces.processes p from past effect
       (subst (λ k. IsChanged old.spaces.processes spaces.processes p (AreThese (pages_changed len effect from k on))) (sym many) h) remap);
   areas = gets_areas old.spaces.processes spaces.processes p _ h;
-  anons = stay;
+  stays = stay;
   homes = changed-homes (lengths old.spaces.areas old.anons) old.spaces.processes spaces.processes p from n effect h;
 }
 
@@ -88,7 +88,7 @@ module _ {d : Device} (old : Mem) (spaces : AllSpaces) (anons : AnonSet) (s : St
       (re_areas old.spaces.processes spaces.processes p _ _ alike are.areas)
 
   pub anons_left : AreLeft s.anons (with_at p (pages_changed (chain_length s.anons) effect from n (s.areas p)) s.areas) (left_of anons s.anons)
-  anons_left = are_left d old s keeps spaces anons are.anons _ now_on
+  anons_left = are_left d old s keeps spaces anons are.stays _ now_on
 
   -- the marks of the areas are those of the pages, and the bytes are as they were
   covered : (page : ℕ) → changed_on from n effect (marks_on (areas_on old.spaces.processes p)) page
@@ -148,7 +148,7 @@ module _ {d : Device} (old : Mem) (spaces : AllSpaces) (anons : AnonSet) (s : St
       let now : Process = with_change_on (pages s.world p) from n change in
       let new = moved_on old old.tables spaces anons in
       let marks = changed_on from n effect (marks_on (areas_on old.spaces.processes p)) in
-      changed old new s command reply p now (pages_changed (chain_length s.anons) effect from n (s.areas p)) s.ledger keeps are.anons refl
+      changed old new s command reply p now (pages_changed (chain_length s.anons) effect from n (s.areas p)) s.ledger keeps are.stays refl
       (swap_alike old old old new refl refl (swap_itself old)) (stays_orderly d old old.tables spaces anons s.ledger refl (orderly old s keeps)) refl refl
       keeps.stands.items (λ q page other. refl) (cached-itself s.ledger) kept (reach_of old s keeps) (λ page h there is. home page h is)
       step now_on (areas_changed old new s p now marks keeps alive are.marks covered) (tables_kept old new s p now marks keeps alive are.marks covered refl)

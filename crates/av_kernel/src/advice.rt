@@ -1,6 +1,6 @@
 //! `madvise`: what a fork makes of pages, and that what is in them is needed no more.
 
-ghost use Rattle.std.specs.Prelude.{◌≡◌, Bool, false, None, Some, ◌×◌, ◌==◌, if◌then◌else◌};
+ghost use Rattle.std.specs.Prelude.{◌≡◌, ◌==◌, false, true, None, Some, if◌then◌else◌};
 ghost use Rattle.std.specs.Prelude.{is_some, nat_lt};
 ghost use Rattle.av_mem.specs.Mem.{IsSteady};
 ghost use Rattle.av_plain.specs.Advice.{flag_of_advice};
