@@ -96,7 +96,9 @@ def run_plainly(program: str, words: list[str], lines: list[str]) -> tuple[str, 
 
 
 class Run:
-    """A trace as avsim answers it. `said` is why it ended early, if it did."""
+    """A trace as avsim answers it. `said` is why it ended early, if it did, and `has_bad_line`
+    whether that was at a line that is no command.
+    """
 
     def __init__(self, program: str, words: list[str], commands: list[Command]):
         self.program, self.words, self.commands = program, words, commands
@@ -104,6 +106,7 @@ class Run:
         self.replies, self.said = replies_of(transcript), said
         if status == 2 or not self.replies and commands and status not in (0, 3):
             raise Refused(f"avsim ended with status {status}: {said or 'it says nothing'}")
+        self.has_bad_line = status == 3
         # (the program counts the lines that it was given, and here those without a command are
         # left out)
         if status == 3:
