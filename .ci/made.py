@@ -3,6 +3,7 @@
 The commands are those of docs/REFERENCE.md: a heading for each, and the first sentence below it.
 What is proved of a crate is the head of its lib.rt (or main.rt).
 """
+import glob
 import os
 import re
 import subprocess
@@ -11,6 +12,7 @@ import sys
 ROOT = os.path.dirname(os.path.dirname(os.path.abspath(__file__)))
 sys.path.insert(0, f"{ROOT}/shell")
 
+from common import edit_of
 from reference import Reference  # pylint: disable=wrong-import-position
 
 # the items of a crate whose contracts carry what its head says; a crate without an entry has none
@@ -107,17 +109,49 @@ def commands_table():
 
 
 def crates_table():
-    """What the heads of the crates say."""
-    yield "| Crate | What its head says | Carried by |"
+    """What each crate is, and what carries what is proved of it."""
+    yield "| Crate | What it is | Carried by |"
     yield "|---|---|---|"
     for crate in crates():
-        head = " <br><br> ".join(head_of(crate)).replace("|", "\\|")
+        what = re.split(r"(?<=[^.][.])\s", head_of(crate)[0])[0]
         names = ", ".join(f"`{it}`" for it in CARRIERS.get(crate, "").split())
-        yield f"| [{crate}](../{root_file(crate)}) | {head} | {names} |"
+        yield f"| [{crate}](../{root_file(crate)}) | {what} | {names} |"
+
+
+def definition_at(file, text):
+    """The name of the definition of `av_plain` that a text stands in."""
+    code = text_of(f"crates/av_plain/{file}")
+    behind = code[: code.index(text) + len(text)]
+    names = re.findall(r"^(?:(?:abbrev|pub|record|data) )*(?!use\b|mod\b)(\w+)\b", behind, re.M)
+    return names[-1] if names else ""
+
+
+def wrong_versions():
+    """The wrong definitions, each with the definition and the examples that break."""
+    for path in sorted(glob.glob(f"{ROOT}/.ci/definitions/*.edit")):
+        changes, others = edit_of(path)
+        # (an import, or what is put before a comment, is no version of a definition)
+        file, old, _ = next(it for it in changes if not it[1].startswith(("use ", "--")))
+        topic = os.path.basename(file).removesuffix(".antt")
+        broken = [it.split()[-1] for it in others.get("breaks", [])]
+        yield topic, definition_at(file, old), os.path.basename(path), broken
+
+
+def examples_table():
+    """The wrong definitions, by the definition that each is a version of."""
+    yield "| Definition | Wrong version: the examples that break |"
+    yield "|---|---|"
+    rows = {}
+    for topic, name, edit, broken in wrong_versions():
+        shown = ", ".join(f"`{it}`" for it in broken)
+        link = f"[{edit.removesuffix('.edit')}](../.ci/definitions/{edit})"
+        rows.setdefault((topic, name), []).append(f"{link}: {shown}")
+    for (topic, name), versions in sorted(rows.items()):
+        yield f"| `{topic}`: `{name}` | {'; '.join(versions)} |"
 
 
 # the parts of documents that are made: the name that stands in the marks around each
-PARTS = {"commands": commands_table, "crates": crates_table}
+PARTS = {"commands": commands_table, "crates": crates_table, "examples": examples_table}
 MARKED = re.compile(r"(<!-- made: (\w+) -->\n).*?(<!-- end -->)", re.S)
 
 
@@ -149,5 +183,6 @@ def man_page():
 FILES = {
     "README.md": lambda: with_parts(text_of("README.md")),
     "docs/PROVED.md": lambda: with_parts(text_of("docs/PROVED.md")),
+    "docs/EXAMPLES.md": lambda: with_parts(text_of("docs/EXAMPLES.md")),
     "docs/avsim.1": man_page,
 }
