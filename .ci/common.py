@@ -1,14 +1,17 @@
 """What the gate's own checks share: the program, a run of it, what documents show, and how a
 failure is told.
 
-Each check is called as `.ci/NAME [PROGRAM]`; the program is the proved one that `rt ci` left,
-unless another is named.
+The program is the proved one that `rt ci` left, unless another is named.
 """
+import argparse
 import difflib
 import os
 import re
 import subprocess
 import sys
+import tempfile
+import unittest
+from collections.abc import Callable, Iterable, Iterator
 
 ROOT = os.path.dirname(os.path.dirname(os.path.abspath(__file__)))
 sys.path.insert(0, f"{ROOT}/tools")
@@ -16,43 +19,103 @@ sys.path.insert(0, f"{ROOT}/tools")
 import swapfile  # pylint: disable=wrong-import-position
 
 
-class Check:
-    """The results of one check: a line for each thing that failed, and how many passed."""
+class Case(unittest.TestCase):
+    """A case of a check: a function, run in a folder of its own or at the top of the repository."""
 
-    def __init__(self, name, needs_program=True):
-        self.name, self.passed, self.failed = name, 0, 0
+    def __init__(self, check: "Check", does: Callable[..., None]):
+        super().__init__()
+        self.check, self.does = check, does
+
+    def id(self) -> str:
+        return f"{self.check.name}.{self.does.__name__}"
+
+    def runTest(self) -> None:
+        self.check.running = self
+        with tempfile.TemporaryDirectory() as room:
+            os.chmod(room, 0o755)
+            os.chdir(room if self.check.in_room else ROOT)
+            try:
+                self.does(*[room][: self.does.__code__.co_argcount])
+            finally:
+                os.chdir(ROOT)
+
+
+class Check:
+    """A check: its cases, a line for each thing that failed, and how many passed.
+
+    It is called as `.ci/NAME [PROGRAM] [-k PART] [-l]`: -k runs the cases that have PART in their
+    names, -l lists all. With `in_room` each case is run in a folder of its own, which one that has
+    a parameter is told.
+    """
+
+    def __init__(self, name: str, needs_program: bool = True, in_room: bool = False, more=()):
+        self.name, self.in_room, self.passed, self.failed = name, in_room, 0, 0
+        self.cases: list[Case] = []
+        self.running: Case | None = None
+        parser = argparse.ArgumentParser(prog=f".ci/{name}")
+        parser.add_argument("program", nargs="?", default=f"{ROOT}/crates/avsim/out/avsim")
+        for word in more:
+            parser.add_argument(word, nargs="?")
+        parser.add_argument("-k", dest="parts", metavar="PART", action="append", default=[])
+        parser.add_argument("-l", dest="lists", action="store_true")
+        self.words = parser.parse_args()
+        self.program = os.path.abspath(self.words.program)
         os.chdir(ROOT)
-        if not needs_program:
-            return
-        self.program = (
-            os.path.abspath(sys.argv[1]) if len(sys.argv) > 1 else f"{ROOT}/crates/avsim/out/avsim"
-        )
-        if not os.access(self.program, os.X_OK):
+        if needs_program and not self.words.lists and not os.access(self.program, os.X_OK):
             print(
                 f"{name}: FAILED: there is no program {self.program}: "
                 "`rt ci` or `./avsim build` makes it"
             )
             sys.exit(1)
 
-    def expect(self, what, given, wanted):
-        """Passes where the two are equal; else shows where they differ."""
-        if given == wanted:
-            self.passed += 1
-            return
-        self.failed += 1
-        print(f"{self.name}: FAILED: {what}")
-        lines = [it if isinstance(it, str) else repr(it) for it in (wanted, given)]
-        for line in difflib.unified_diff(
-            *(it.splitlines() for it in lines), "wanted", "given", lineterm="", n=2
-        ):
-            print(f"    {line}")
-        if lines[0].splitlines() == lines[1].splitlines():
-            print("    they differ only in how a line ends")
+    def case(self, does: Callable[..., None]) -> Callable[..., None]:
+        """Makes a function a case; cases run in the order in which they stand."""
+        self.cases.append(Case(self, does))
+        return does
 
-    def end(self):
-        """Says how it went, and ends the check."""
-        print(f"{self.name}: {self.passed} passed, {self.failed} failed")
-        sys.exit(1 if self.failed or not self.passed else 0)
+    def expect(self, what: str, given: object, wanted: object) -> None:
+        """Passes where the two are equal; else shows where they differ, and the case goes on."""
+        assert self.running
+        with self.running.subTest(what):
+            if given == wanted:
+                self.passed += 1
+                return
+            self.failed += 1
+            print(f"{self.name}: FAILED: {what}")
+            lines = [it if isinstance(it, str) else repr(it) for it in (wanted, given)]
+            for line in difflib.unified_diff(
+                *(it.splitlines() for it in lines), "wanted", "given", lineterm="", n=2
+            ):
+                print(f"    {line}")
+            if lines[0].splitlines() == lines[1].splitlines():
+                print("    they differ only in how a line ends")
+            self.running.fail(what)
+
+    def skip(self, why: str) -> None:
+        """Ends a case that can't be run here."""
+        raise unittest.SkipTest(why)
+
+    def expect_none(self, what: str, found: Iterable[str]) -> None:
+        """Passes where nothing was found; else each thing is shown on a line of its own."""
+        self.expect(what, "\n".join(found), "")
+
+    def end(self) -> None:
+        """Runs the cases, says how it went, and ends the check."""
+        parts = self.words.parts or [""]
+        chosen = [it for it in self.cases if any(part in it.does.__name__ for part in parts)]
+        if self.words.lists:
+            for case in chosen:
+                print(case.does.__name__, "-", (case.does.__doc__ or "").strip().split("\n")[0])
+            sys.exit(0)
+        result = unittest.TestResult()
+        unittest.TestSuite(chosen).run(result)
+        for case, why in result.skipped:
+            print(f"{case.id()} is passed over: {why}")
+        for case, why in result.errors:
+            print(f"{self.name}: FAILED: {case.id()}\n{why}")
+        failed = self.failed + len(result.errors)
+        print(f"{self.name}: {self.passed} passed, {failed} failed")
+        sys.exit(1 if failed or not self.passed else 0)
 
 
 def run(program, words, given=b"", **how):
