@@ -4,12 +4,13 @@ Whether it is none is for the program to say; here only its reason is sought. Th
 order in which people would look: the line as bytes, its blanks, its first word, and then its words
 from left to right.
 """
+import difflib
 import re
 
 from reference import LATER
 
 LINE_LIMIT = 8448
-WORDS_OF_TALK = ("touch", "undo", "save", "load", "help", "quit")
+WORDS_OF_TALK = ("show", "view", "touch", "undo", "save", "load", "help", "quit")
 # sections of the reference
 TRACE, COMMANDS, TALK = "Trace", "Commands", "Talk"
 
@@ -102,9 +103,14 @@ def form_of(name, reference):
         raise Reason(f"the name of a command is lower case: {printable(name)}")
     if name in WORDS_OF_TALK:
         raise Reason(f"{name} is a word of avsim talk, and of no trace", TALK)
-    raise Reason(
-        f"there is no command {printable(name)}; there are {', '.join(reference.forms)}", COMMANDS
-    )
+    raise Reason(no_command(name, list(reference.forms)), COMMANDS)
+
+
+def no_command(name, names):
+    """What is said of a name that none of these is: which one may be meant, or all."""
+    near = difflib.get_close_matches(name, names, 1, 0.7)
+    hint = f"did you mean {near[0]}?" if near else f"there are {', '.join(names)}"
+    return f"there is no command {printable(name)}; {hint}"
 
 
 def of_words(words, form):

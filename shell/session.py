@@ -7,6 +7,7 @@ for `undo`, a new one is given the lines again: the same lines have the same rep
 import contextlib
 import errno
 import os
+import subprocess
 import sys
 import tempfile
 
@@ -30,6 +31,10 @@ NOT_DONE = "this is not done, and the session goes on before it"
 
 class Trouble(Exception):
     """What couldn't be done, in one sentence. The session stays as it was before."""
+
+
+class Ended(Trouble):
+    """The program ended meanwhile."""
 
 
 class BadLine(Exception):
@@ -94,19 +99,49 @@ class Session:
         if len(lines) != 1 or not self.looks_good(lines[0]):
             self.refuse_bad(lines)
         try:
-            self.start()
-            replies = self.live.answers(commands)
-            self.steps += map(list, steps)
-        except (EarlyEnd, Refused) as why:
-            self.again()
+            replies = self.ask(commands)
+        except Ended:
             if len(lines) == 1:
                 # (it looked good, and may have been what the run ended at)
                 self.refuse_bad(lines)
-            raise Trouble(f"{why}: {NOT_DONE}") from None
+            raise
+        self.steps += map(list, steps)
+        return replies
+
+    def ask(self, lines):
+        """The replies to commands, which aren't kept. If the program ends meanwhile, or is
+        interrupted, the session is as before.
+        """
+        try:
+            self.start()
+            return self.live.answers(list(lines))
+        except (EarlyEnd, Refused) as why:
+            self.again()
+            raise Ended(f"{why}: {NOT_DONE}") from None
         except KeyboardInterrupt:
             self.again()
             raise Trouble(f"interrupted: {NOT_DONE}") from None
-        return replies
+
+    def write_page(self, file):
+        """Writes the page of the session, and gives what the view says. The run is ended before,
+        since another one uses its swap files; it begins anew afterwards.
+        """
+        self.end()
+        with tempfile.TemporaryDirectory(prefix="avsim-view-") as room:
+            trace = f"{room}/session"
+            with open(trace, "wb") as it:
+                it.write(b"".join(line + b"\n" for line in self.lines()))
+            words = [f"{ROOT}/view/run", "--program", self.program, "-o", file]
+            words += [self.words[0], trace, *self.words[1:]]
+            ran = subprocess.run(
+                [sys.executable, "-B", *words], stdout=subprocess.PIPE, stderr=subprocess.PIPE
+            )
+        self.again()
+        said = (ran.stderr if ran.returncode else ran.stdout).decode("utf-8", "replace")
+        said = said.strip().split("\n")[-1].removeprefix("view: ")
+        if ran.returncode:
+            raise Trouble(said or f"the view ended with status {ran.returncode}")
+        return said
 
     def again(self):
         """Starts the session's run anew. Where that can't be, the next command tries it again."""

@@ -8,6 +8,17 @@ PAGE = 4096
 MOST_TOUCHED = 16384
 
 
+def without_blanks(line):
+    """A line without the blanks that no trace has: tabs, spaces around it, and more than one."""
+    text = line.strip(" \t")
+    return line if line.startswith("#") else text if text.startswith("#") else spaced(text)
+
+
+def spaced(text):
+    """Words with one space between them."""
+    return re.sub("[ \t]+", " ", text)
+
+
 def lines_for(text, reference):
     """The lines that are sent for a line that was typed: itself, where it has no small word. What
     makes no sense as a small word stays, so that the program refuses it.

@@ -4,17 +4,22 @@ import re
 import shutil
 import signal
 import sys
+import tempfile
 import textwrap
 
 from program import EarlyEnd, Refused, lines_from
-from reasons import WORDS_OF_TALK, fault_of, reason_of, printable
+from reasons import WORDS_OF_TALK, fault_of, no_command, reason_of, printable
 from reference import Reference
 from session import BadLine, Session, Trouble, says_nothing
-from small import lines_for
-from terminal import Completion, Screen, Names, is_terminal, set_up
+from show import lines_of_show, processes_in
+from small import lines_for, without_blanks
+from terminal import Completion, History, Screen, Names, is_terminal, set_up
 
 PROMPT = "> "
-OWN_WORDS = "undo [N] | save FILE | load FILE | touch P A LEN | help [COMMAND] | quit"
+OWN_WORDS = (
+    "show [P] | view [FILE] | undo [N] | save FILE | load FILE | touch P A LEN | "
+    "help [COMMAND] | quit"
+)
 
 
 class Talk:
@@ -32,6 +37,9 @@ class Talk:
             "save": self.save,
             "load": self.load,
             "help": self.help,
+            "?": self.help,
+            "show": self.show,
+            "view": self.view,
         }
 
     def lines(self):
@@ -79,8 +87,10 @@ class Talk:
         text = str(reason_of(line, self.reference))
         if line.split() == [b"exit"]:
             return f"{text}; quit leaves the session"
-        is_name = text.startswith("there is no command")
-        return text + f"; of the shell there are {', '.join(WORDS_OF_TALK)}" * is_name
+        if not text.startswith("there is no command"):
+            return text
+        name = line.split(b" ")[0].decode("ascii")
+        return no_command(name, [*self.reference.forms, *WORDS_OF_TALK])
 
     def do(self, line):
         """Does a line: a word of the shell, or commands."""
@@ -88,7 +98,7 @@ class Talk:
         if words and words[0] in self.own_words:
             self.own_words[words[0]](words[1:])
             return
-        sent = lines_for(line, self.reference)
+        sent = lines_for(without_blanks(line), self.reference)
         given = [it.encode("utf-8", "surrogateescape") for it in sent]
         replies = self.session.do(given)
         for text, reply in zip(sent, replies):
@@ -140,6 +150,21 @@ class Talk:
             wanted = asked.removeprefix("# Run it with ").removesuffix(".")
             self.screen.own(f"it is for {wanted}, and not for this machine")
 
+    def show(self, words):
+        """`show`, `show P`: what each page is, and who has each frame."""
+        if len(words) > 1 or words and not re.fullmatch("[1-9][0-9]{0,4}", words[0]):
+            raise Trouble("show has at most one word, a process: show 1")
+        numbers = [int(words[0])] if words else processes_in(self.session.lines())
+        for line in lines_of_show(self.session.ask, numbers):
+            self.screen.own(line)
+
+    def view(self, words):
+        """`view`, `view FILE`: writes the page of the session."""
+        if len(words) > 1:
+            raise Trouble("view has at most one word, the name of a file: view my.html")
+        file = words[0] if words else f"{tempfile.mkdtemp(prefix='avsim-view-')}/session.html"
+        self.screen.own(self.session.write_page(os.path.expanduser(file)))
+
     def help(self, words):
         """`help`, `help COMMAND`: what the reference says."""
         width = min(shutil.get_terminal_size().columns, 100) - 2
@@ -147,7 +172,7 @@ class Talk:
             self.screen.own("\n".join(self.overview(width)))
             return
         lines = self.reference.help(words[0], width) if len(words) == 1 else []
-        if not lines and words[0] in (*self.own_words, "touch", "quit"):
+        if not lines and words[0] in ("?", *WORDS_OF_TALK):
             lines = self.reference.help("Talk", width)
         if not lines:
             name = printable(" ".join(words))
@@ -206,7 +231,10 @@ def talk(program, words):
         # (a shell that starts this in the background has control-C ignored)
         signal.signal(signal.SIGINT, signal.default_int_handler)
         set_up(Completion(it.reference, it.names))
+        history = History()
         frames = plural(int(words[0]), "frame")
         it.screen.own(f"{frames}; help lists the commands, quit or control-D leaves")
     all_done = it.run()
+    if it.is_terminal:
+        history.save()
     return 0 if all_done or it.is_terminal else 3

@@ -1,4 +1,5 @@
 """What the shell shows where it is at a terminal: colours, editing of lines, and completion."""
+import contextlib
 import glob
 import os
 import re
@@ -10,7 +11,11 @@ COLOURS = {"good": "32", "bad": "31", "note": "36", "sent": "2", "own": "33"}
 REFUSALS = ("err", "segv", "oom", "bus")
 PROTS = [f"{r}{w}{x}" for r in "r-" for w in "w-" for x in "x-"]
 # words that mostly stand alone
-ALONE = ("stat", "undo", "help", "quit")
+ALONE = ("stat", "show", "view", "undo", "help", "quit")
+# the words that stand behind one of the shell's
+OWN_KINDS = {"touch": ["P", "A", "LEN"], "show": ["P"]}
+# lines that are remembered over sessions
+MOST_LINES = 1000
 # addresses and processes that are remembered for completion
 MOST_NAMES = 1000
 
@@ -95,13 +100,13 @@ class Completion:
         if not before:
             words = with_prefix([*self.reference.forms, *WORDS_OF_TALK], text)
             return [it if it in ALONE else f"{it} " for it in words]
-        if before[0] in ("save", "load"):
+        if before[0] in ("save", "load", "view"):
             files = sorted(glob.glob(glob.escape(text) + "*"))
             return [it + "/" * os.path.isdir(it) for it in files]
         if before[0] == "help":
             return with_prefix([*self.reference.forms, *WORDS_OF_TALK], text)
-        if before[0] == "touch":
-            kinds, ways = ["P", "A", "LEN"], []
+        if before[0] in OWN_KINDS:
+            kinds, ways = OWN_KINDS[before[0]], []
         elif before[0] in self.reference.forms:
             form = self.reference.forms[before[0]]
             kinds, ways = form.kinds, form.ways
@@ -133,8 +138,42 @@ def with_prefix(words, text):
     return [it for it in words if it.startswith(text)]
 
 
+def history_file():
+    """Where lines are remembered over sessions."""
+    home = os.environ.get("XDG_STATE_HOME") or os.path.expanduser("~/.local/state")
+    return os.path.join(home, "avsim", "history")
+
+
+class History:
+    """The lines of earlier sessions, where Python has readline and a file can be read and written:
+    where not, a session has its own lines alone.
+    """
+
+    def __init__(self):
+        self.lines, self.had = None, 0
+        with contextlib.suppress(ImportError):
+            import readline
+
+            self.lines = readline
+            readline.set_history_length(MOST_LINES)
+            with contextlib.suppress(OSError):
+                readline.read_history_file(history_file())
+            self.had = readline.get_current_history_length()
+
+    def save(self):
+        """Adds the lines of this session. (Another one may have added its own meanwhile.)"""
+        new = self.lines.get_current_history_length() - self.had if self.lines else 0
+        if new <= 0:
+            return
+        with contextlib.suppress(OSError):
+            os.makedirs(os.path.dirname(history_file()), mode=0o700, exist_ok=True)
+            with open(history_file(), "a", encoding="utf-8"):
+                pass
+            self.lines.append_history_file(new, history_file())
+
+
 def set_up(completion):
-    """Gives the prompt its editing, history and completion, where Python has them."""
+    """Gives the prompt its editing and completion, where Python has them."""
     try:
         import readline
     except ImportError:
