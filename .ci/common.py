@@ -14,7 +14,7 @@ import unittest
 from collections.abc import Callable, Iterable, Iterator
 
 ROOT = os.path.dirname(os.path.dirname(os.path.abspath(__file__)))
-sys.path.insert(0, f"{ROOT}/tools")
+sys.path[:0] = [f"{ROOT}/{it}" for it in ("tools", "view", "shell")]
 
 import swapfile  # pylint: disable=wrong-import-position
 
