@@ -11,12 +11,17 @@ import subprocess
 import sys
 import tempfile
 import unittest
-from collections.abc import Callable, Iterable, Iterator
+from typing import Any, Callable, Iterable, Iterator
 
 ROOT = os.path.dirname(os.path.dirname(os.path.abspath(__file__)))
 sys.path[:0] = [f"{ROOT}/{it}" for it in ("tools", "view", "shell")]
 
 import swapfile  # pylint: disable=wrong-import-position
+
+# what a run ended with: status, standard output and standard error
+Ran = tuple[int, str, str]
+# a change of a file: its name, the old text and the new one
+Change = tuple[str, str, str]
 
 
 class Case(unittest.TestCase):
@@ -48,7 +53,9 @@ class Check:
     a parameter is told.
     """
 
-    def __init__(self, name: str, needs_program: bool = True, in_room: bool = False, more=()):
+    def __init__(
+        self, name: str, needs_program: bool = True, in_room: bool = False, more: Iterable[str] = ()
+    ):
         self.name, self.in_room, self.passed, self.failed = name, in_room, 0, 0
         self.cases: list[Case] = []
         self.running: Case | None = None
@@ -118,7 +125,7 @@ class Check:
         sys.exit(1 if failed or not self.passed else 0)
 
 
-def run(program, words, given=b"", **how):
+def run(program: str, words: list, given: bytes = b"", **how: Any) -> Ran:
     """Runs the program: its status, standard output and standard error. `given` are the bytes of
     standard input.
     """
@@ -130,18 +137,18 @@ def run(program, words, given=b"", **how):
     return ran.returncode, text(ran.stdout), text(ran.stderr)
 
 
-def replies_of(transcript):
+def replies_of(transcript: str) -> list[str]:
     """A transcript cut into replies: each begins with the line that has no space in front."""
     return re.findall(r"^(?! ).*\n(?:^ .*\n)*", transcript, re.M)
 
 
-def bytes_of(shown):
+def bytes_of(shown: str) -> bytes:
     """A line whose invisible bytes are shown."""
     shown = shown.replace(r"\s", " ").replace(r"\r", "\r").replace(r"\t", "\t").encode()
     return re.sub(rb"\\x([0-9a-f]{2})", lambda it: bytes([int(it[1], 16)]), shown)
 
 
-def edit_of(file):
+def edit_of(file: str) -> tuple[list[Change], dict[str, list[str]]]:
     """What an edit says: its changes, each with its file, the old text and the new one; and what
     its other lines say, by their first word. Lines of one kind in a row are lines of one text.
     """
@@ -171,21 +178,21 @@ class Session:
     A later block that begins with `> ` goes on with it.
     """
 
-    def __init__(self, frames, place, swaps=()):
+    def __init__(self, frames: str, place: str, swaps: Iterable[list[str]] = ()):
         self.frames, self.place, self.swaps = frames, place, list(swaps)
         self.lines, self.text = [], ""
 
-    def trace(self):
+    def trace(self) -> str:
         return "".join(f"{it}\n" for it in self.lines)
 
-    def add(self, block):
+    def add(self, block: list[str]) -> None:
         for line in block:
             if line.startswith("> "):
                 self.lines.append(line[2:])
             else:
                 self.text += f"{line}\n"
 
-    def words(self, room):
+    def words(self, room: str) -> list[str]:
         """The words behind `run`. The swap files are made in a folder."""
         files = [os.path.join(room, it) for it in swapfile.files_for(len(self.swaps))]
         words = [it for area, file in zip(self.swaps, files) for it in (*area, file)]
@@ -195,7 +202,7 @@ class Session:
         return [self.frames, *files]
 
 
-def blocks_of(text):
+def blocks_of(text: str) -> Iterator[tuple[int, list[str]]]:
     """The indented blocks of code of a Markdown text, each with the number of its first line."""
     block, first = [], 0
     for number, line in enumerate([*text.split("\n"), "end"], 1):
@@ -209,7 +216,7 @@ def blocks_of(text):
             block, first = [], 0
 
 
-def swaps_made(line):
+def swaps_made(line: str) -> list[tuple[list[str], str]]:
     """The swap files that a line of a document makes by `$ tools/make-swap`: the words before the
     name of each, and the name.
     """
@@ -220,7 +227,7 @@ def swaps_made(line):
     ]
 
 
-def sessions_of(file):
+def sessions_of(file: str) -> list[Session]:
     """The sessions that a document shows."""
     found, swaps = [], {}
     with open(f"{ROOT}/{file}", encoding="utf-8") as it:

@@ -8,6 +8,7 @@ import os
 import re
 import subprocess
 import sys
+from typing import Iterator
 
 ROOT = os.path.dirname(os.path.dirname(os.path.abspath(__file__)))
 sys.path.insert(0, f"{ROOT}/shell")
@@ -69,35 +70,35 @@ CARRIERS = {
 }
 
 
-def text_of(file):
+def text_of(file: str) -> str:
     """The text of a file of the repository."""
     with open(f"{ROOT}/{file}", encoding="utf-8") as it:
         return it.read()
 
 
-def crates():
+def crates() -> list[str]:
     """The names of the crates, lowest first."""
     return re.findall(r"^(\w+)(?: \w+)?:", text_of("crates.txt"), re.M)
 
 
-def root_file(crate):
+def root_file(crate: str) -> str:
     """The file that a crate begins with."""
     library = f"crates/{crate}/src/lib.rt"
     return library if os.path.exists(f"{ROOT}/{library}") else f"crates/{crate}/src/main.rt"
 
 
-def head_of(crate):
+def head_of(crate: str) -> list[str]:
     """The paragraphs of a crate's head."""
     lines = re.findall(r"^//! ?(.*)$", text_of(root_file(crate)), re.M)
     return [" ".join(it.split("\n")) for it in re.split(r"\n\n+", "\n".join(lines).strip())]
 
 
-def anchor_of(heading):
+def anchor_of(heading: str) -> str:
     """The name by which a page is led to one of its headings."""
     return re.sub(r"[^\w -]", "", heading.lower()).replace(" ", "-")
 
 
-def commands_table():
+def commands_table() -> Iterator[str]:
     """The commands, each with what it does in a sentence, and the way to its section."""
     yield "| Command | What it does |"
     yield "|---|---|"
@@ -108,7 +109,7 @@ def commands_table():
         yield f"| [`{words}`]({place}) | {reference.first_sentence(form.name)} |"
 
 
-def crates_table():
+def crates_table() -> Iterator[str]:
     """What each crate is, and what carries what is proved of it."""
     yield "| Crate | What it is | Carried by |"
     yield "|---|---|---|"
@@ -118,7 +119,7 @@ def crates_table():
         yield f"| [{crate}](../{root_file(crate)}) | {what} | {names} |"
 
 
-def definition_at(file, text):
+def definition_at(file: str, text: str) -> str:
     """The name of the definition of `av_plain` that a text stands in."""
     code = text_of(f"crates/av_plain/{file}")
     behind = code[: code.index(text) + len(text)]
@@ -126,7 +127,7 @@ def definition_at(file, text):
     return names[-1] if names else ""
 
 
-def wrong_versions():
+def wrong_versions() -> Iterator[tuple[str, str, str, list[str]]]:
     """The wrong definitions, each with the definition and the examples that break."""
     for path in sorted(glob.glob(f"{ROOT}/.ci/definitions/*.edit")):
         changes, others = edit_of(path)
@@ -137,7 +138,7 @@ def wrong_versions():
         yield topic, definition_at(file, old), os.path.basename(path), broken
 
 
-def examples_table():
+def examples_table() -> Iterator[str]:
     """The wrong definitions, by the definition that each is a version of."""
     yield "| Definition | Wrong version: the examples that break |"
     yield "|---|---|"
@@ -155,17 +156,17 @@ PARTS = {"commands": commands_table, "crates": crates_table, "examples": example
 MARKED = re.compile(r"(<!-- made: (\w+) -->\n).*?(<!-- end -->)", re.S)
 
 
-def with_parts(text):
+def with_parts(text: str) -> str:
     """A document with its made parts as they should be."""
     return MARKED.sub(lambda it: it[1] + "\n".join(PARTS[it[2]]()) + "\n" + it[3], text)
 
 
-def without_parts(text):
+def without_parts(text: str) -> str:
     """What is written by hand in a document."""
     return MARKED.sub("", text)
 
 
-def help_texts():
+def help_texts() -> tuple[str, str, str]:
     """The texts of `--help`, `run --help` and `work --help`, as the program's source has them."""
     source = text_of("crates/avsim/src/help.rt")
     found = re.findall(r'const (\w+): &str = "\\\n(.*?)";', source, re.S)
@@ -173,7 +174,7 @@ def help_texts():
     return texts["HELP"], texts["RUN_HELP"], texts["WORK_HELP"]
 
 
-def man_page():
+def man_page() -> str:
     """The reference as a man page."""
     ran = subprocess.run([f"{ROOT}/.ci/man"], stdout=subprocess.PIPE, text=True, check=True)
     return ran.stdout
