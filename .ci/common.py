@@ -13,10 +13,9 @@ import tempfile
 import unittest
 from typing import Any, Callable, Iterable, Iterator
 
-ROOT = os.path.dirname(os.path.dirname(os.path.abspath(__file__)))
-sys.path[:0] = [f"{ROOT}/{it}" for it in ("tools", "view", "shell")]
+from shared import ROOT
 
-import swapfile  # pylint: disable=wrong-import-position
+import swapfile
 
 # what a run ended with: status, standard output and standard error
 Ran = tuple[int, str, str]

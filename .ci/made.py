@@ -7,14 +7,12 @@ import glob
 import os
 import re
 import subprocess
-import sys
 from typing import Iterator
 
-ROOT = os.path.dirname(os.path.dirname(os.path.abspath(__file__)))
-sys.path.insert(0, f"{ROOT}/shell")
+from shared import ROOT
 
 from common import edit_of
-from reference import Reference  # pylint: disable=wrong-import-position
+from reference import Reference
 
 # the items of a crate whose contracts carry what its head says; a crate without an entry has none
 CARRIERS = {

@@ -10,13 +10,14 @@ import tempfile
 import threading
 from typing import Any, BinaryIO, Iterable, Iterator
 
+from shared import saying
 
-class Refused(Exception):
-    """What the user is told: one sentence. `status` is the exit status where nothing goes on."""
+
+class Refused(saying.Refused):
+    """What the user is told, where nothing goes on."""
 
     def __init__(self, sentence: str, status: int = 125):
-        super().__init__(sentence)
-        self.status = status
+        super().__init__(sentence, status)
 
 
 def lines_from(file: BinaryIO, limit: int = -1) -> Iterator[bytes]:

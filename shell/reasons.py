@@ -3,13 +3,17 @@
 Whether it is none is for the program to say; here only its reason is sought. The tests stand in the
 order in which people would look: the line as bytes, its blanks, its first word, and then its words
 from left to right.
+
 """
 import difflib
 import re
 
 from reference import LATER, Form, Reference
+from shared import saying
 
 LINE_LIMIT = 8448
+# characters of a word that are shown at most
+MOST_SHOWN = 40
 WORDS_OF_TALK = ("show", "view", "touch", "undo", "save", "load", "help", "quit")
 # sections of the reference
 TRACE, COMMANDS, TALK = "Trace", "Commands", "Talk"
@@ -49,11 +53,8 @@ def fault_of(line: bytes, reference: Reference) -> Reason | None:
 
 
 def printable(word: str | bytes) -> str:
-    """A word as it can be shown: in ASCII, and not too long."""
-    text = word if isinstance(word, str) else word.decode("utf-8", "backslashreplace")
-    text = text.encode("ascii", "backslashreplace").decode()
-    text = "".join(it if it.isprintable() else f"\\x{ord(it):02x}" for it in text)
-    return text if len(text) <= 40 else f"{text[:37]}.."
+    """A word as it can be shown."""
+    return saying.printable(word, MOST_SHOWN)
 
 
 def of_bytes(line: bytes) -> None:

@@ -12,18 +12,11 @@ import sys
 import tempfile
 from typing import Callable, Iterable
 
+from shared import ROOT
+
 from program import EarlyEnd, Judge, Live, Refused
 from reasons import LINE_LIMIT
-
-ROOT = os.path.dirname(os.path.dirname(os.path.realpath(__file__)))
-sys.path.append(f"{ROOT}/tools")
-
-from swapfile import (  # pylint: disable=wrong-import-position
-    Machine,
-    asked_by,
-    comment_for,
-    told_of,
-)
+from swapfile import Machine, asked_by, comment_for, told_of
 
 # bytes of a file that is loaded
 MOST_LOADED = 1 << 28

@@ -8,6 +8,8 @@ import tempfile
 import textwrap
 from typing import Iterator
 
+from shared.saying import count_of
+
 from program import EarlyEnd, Refused, lines_from
 from reasons import WORDS_OF_TALK, fault_of, no_command, reason_of, printable
 from reference import Reference
@@ -120,7 +122,7 @@ class Talk:
         if not gone:
             self.screen.own("there is nothing to undo")
         for step in gone[:10]:
-            more = f" .. and {plural(len(step) - 1, 'more line')}" * (len(step) > 1)
+            more = f" .. and {count_of(len(step) - 1, 'more line')}" * (len(step) > 1)
             self.screen.own(f"undone: {step[0].decode('ascii', 'replace')[:80]}{more}")
         if len(gone) > 10:
             self.screen.own(f"undone: {len(gone) - 10} more commands")
@@ -130,7 +132,7 @@ class Talk:
         if len(words) != 1:
             raise Trouble("save has one word, the name of a file: save my.trace")
         count = self.session.save(words[0])
-        self.screen.own(f"saved: {plural(count, 'command')} in {words[0]}")
+        self.screen.own(f"saved: {count_of(count, 'command')} in {words[0]}")
 
     def load(self, words: list[str]) -> None:
         """`load FILE`: does the lines of a trace."""
@@ -145,7 +147,7 @@ class Talk:
         commands = [it for it in self.session.lines() if not says_nothing(it)]
         for line, reply in zip(commands[-len(replies) :], replies):
             self.remember(line.decode("ascii"), reply)
-        self.screen.own(f"loaded: {plural(len(replies), 'command')} of {words[0]}")
+        self.screen.own(f"loaded: {count_of(len(replies), 'command')} of {words[0]}")
         asked = self.session.machine_asked()
         if asked and asked != self.session.machine():
             wanted = asked.removeprefix("# Run it with ").removesuffix(".")
@@ -193,11 +195,6 @@ class Talk:
         yield OWN_WORDS
 
 
-def plural(count: int, what: str) -> str:
-    """A number of things."""
-    return f"{count} {what}{'s' * (count != 1)}"
-
-
 def fault_of_file(name: str) -> str:
     """Why a swap file can't be opened, as far as that is seen, or nothing."""
     if os.path.isdir(name):
@@ -233,7 +230,7 @@ def talk(program: str, words: list[str]) -> int:
         signal.signal(signal.SIGINT, signal.default_int_handler)
         set_up(Completion(it.reference, it.names))
         history = History()
-        frames = plural(int(words[0]), "frame")
+        frames = count_of(int(words[0]), "frame")
         it.screen.own(f"{frames}; help lists the commands, quit or control-D leaves")
     all_done = it.run()
     if it.is_terminal:

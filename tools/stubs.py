@@ -19,10 +19,13 @@ import subprocess
 import tempfile
 from typing import Iterator
 
+from shared.saying import Refused, printable
+
 from proc import Pagemap, areas_of
 from ranges import PAGE
-from saying import Refused, printable
 from shift import TOP
+
+ROOT = os.path.dirname(os.path.dirname(os.path.realpath(__file__)))
 
 ROOT = os.path.dirname(os.path.dirname(os.path.realpath(__file__)))
 SOURCE = f"{ROOT}/tools/stub.c"

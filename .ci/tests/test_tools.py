@@ -3,12 +3,13 @@ import os
 import tempfile
 import unittest
 
+from shared.saying import Refused, count_of, lines_of, printable
+
 import swapfile
 from calls import Mapped, address_of, kind_of, protection_of
 from faults import most_common, read_faults
 from peak import Peak
 from ranges import Ranges, up
-from saying import Refused, count_of, lines_of, printable
 from shift import SPLIT, TOP, NotAsked, Shift
 from spaces import Space, runs_of
 from strace import Reader, time_of
