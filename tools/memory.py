@@ -23,12 +23,13 @@ from calls import (
     kind_of,
     protection_of,
 )
+from labels import MAPPING
 from ranges import PAGE, Range, up
 from spaces import Space, runs_of
 from strace import Call
 
-# what a mapping is, in the comment above it, and the name of what brk maps
-MAPPING, HEAP = "mapping: ", "[heap]"
+# the name of what brk maps
+HEAP = "[heap]"
 # kinds of what is left out
 SHARED = "shared (its place is kept, as ---)"
 OF_FILE = "of a file"

@@ -26,6 +26,9 @@ from ranges import PAGE
 from shift import TOP
 
 ROOT = os.path.dirname(os.path.dirname(os.path.realpath(__file__)))
+ROOT = os.path.dirname(os.path.dirname(os.path.realpath(__file__)))
+
+ROOT = os.path.dirname(os.path.dirname(os.path.realpath(__file__)))
 
 ROOT = os.path.dirname(os.path.dirname(os.path.realpath(__file__)))
 SOURCE = f"{ROOT}/tools/stub.c"
