@@ -26,11 +26,6 @@ from ranges import PAGE
 from shift import TOP
 
 ROOT = os.path.dirname(os.path.dirname(os.path.realpath(__file__)))
-ROOT = os.path.dirname(os.path.dirname(os.path.realpath(__file__)))
-
-ROOT = os.path.dirname(os.path.dirname(os.path.realpath(__file__)))
-
-ROOT = os.path.dirname(os.path.dirname(os.path.realpath(__file__)))
 SOURCE = f"{ROOT}/tools/stub.c"
 # above it the kernel lays nothing by itself, but the stack at the very top
 PLACE = 0x7FFFFC000000
