@@ -67,5 +67,29 @@ facts.lit = [...document.querySelectorAll("#spaces .lit[data-at]")].map(it => it
 at("find").value = "20123";
 at("find").dispatchEvent(new Event("input"));
 facts.found = at("found").textContent;
+// the pages that each step used, text that is found and stepped through, and a cell by the keys
+const usedNow = () => [...document.querySelectorAll("#spaces .used")].map(it => it.dataset.at);
+facts.used = [];
+for (let n = 1; n <= Math.min(last, 12); n++) { go(n); facts.used.push(usedNow().join(", ")); }
+const type = text => {
+  at("find").value = text;
+  at("find").dispatchEvent(new Event("input"));
+};
+go(0);
+type("fork");
+const pressIn = (key, shiftKey) =>
+  at("find").dispatchEvent(new KeyboardEvent("keydown", {key, shiftKey, bubbles: true}));
+facts.texts = [at("found").textContent];
+for (const isBack of [false, false, true]) {
+  pressIn("Enter", isBack);
+  facts.texts.push(`${here}: ${at("found").textContent}`);
+}
+type("");
+go(last);
+const cell = document.querySelector("#spaces [data-at]");
+cell?.focus();
+facts.told = at("found").textContent;
+cell?.dispatchEvent(new KeyboardEvent("keydown", {key: "Enter", bubbles: true}));
+facts.focus = [document.activeElement.dataset.at, lit.frame];
 const result = {walks, facts, height: document.documentElement.scrollHeight - window.innerHeight};
 document.body.replaceChildren(make("pre", "", JSON.stringify(result)));

@@ -1,18 +1,15 @@
 """Where the model answers a trace otherwise than the kernel answered the program, and which rule
 of docs/LINUX.md explains it.
 """
-import os
 import re
-import sys
 import tempfile
 from typing import Iterator
 
-ROOT = os.path.dirname(os.path.dirname(os.path.realpath(__file__)))
-sys.path.insert(0, f"{ROOT}/view")
+from shared import ROOT
+from shared.saying import Refused, count_of
 
-import making  # pylint: disable=wrong-import-position
+import making
 from memory import Command
-from saying import Refused, count_of
 from swapfile import Machine, words_of
 
 # a rule is a section of docs/LINUX.md and the beginning of a row in it
@@ -33,7 +30,7 @@ def run(program: str, machine: Machine, commands: list[Command]) -> list[list[st
     try:
         with tempfile.TemporaryDirectory() as room:
             found = making.Run(program, words_of(machine, room), lines)
-    except (making.Refused, OSError) as why:
+    except OSError as why:
         raise Refused(str(why)) from None
     if len(found) < len(lines):
         raise Refused(f"the model ends early: {found.said}")

@@ -5,11 +5,12 @@ import dataclasses
 import functools
 import re
 
+from shared.saying import Refused, count_of, name_of, printable
+
 from calls import advice_of_model
 from faults import Fault
 from memory import Command, Memory
 from peak import Peak
-from saying import Refused, count_of, name_of, printable
 from spaces import Space
 from strace import ALONE, NEVER, Call, Step
 from swapfile import MOST_FILES, MOST_FRAMES, MOST_PAGES, Machine, comment_for

@@ -9,7 +9,8 @@ import dataclasses
 import re
 from typing import Iterator
 
-from saying import Refused, lines_of, name_of, printable
+from shared.saying import Refused, lines_of, name_of, printable
+
 from strace import time_of
 
 # the first and the last line of what tools/record leaves, so that one sees whether it is whole

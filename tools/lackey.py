@@ -1,10 +1,12 @@
 """A program under valgrind's lackey, which tells each load, store and call: as a log of strace, and
 as faults, which are then every access to a page that isn't one of the last few.
 
-Both have one clock, which counts what is written. Loads and stores that the kernel does for `read`
-are told by the call. Which thread does what isn't told: all of it is one thread's.
+Both have one clock, which counts what is written. What the kernel stores for a `read` is told by
+the call. Instructions are left out: they are read from files, which take no frame in the model.
+Which thread does what isn't told, so all of it is one thread's.
 """
 import collections
+import contextlib
 import os
 import re
 from typing import Iterator, TextIO
@@ -12,7 +14,7 @@ from typing import Iterator, TextIO
 from faults import ON_CLOCK, TAIL
 from ranges import PAGE, Ranges, up
 
-# the pages of which an access is left out, if they are the last ones
+# so many pages are remembered: an access to one of them isn't told again, until it has made way
 NEAR = 8
 CALL = re.compile(
     r"SYSCALL\[\d+,(\d+)\]\( *(\d+)\) (?:sys_)?(\w+) \( ?(.*?) ?\)"
@@ -34,17 +36,30 @@ def names_of(bits: int, names: dict[int, str]) -> str:
 
 
 class Lackey:
-    """What lackey tells, line by line, as it goes to a log and a file of faults."""
+    """What lackey tells, line by line, as it goes to a log and a file of faults, which are closed
+    where it is left.
+    """
 
-    def __init__(self, program: str, log: TextIO, faults: TextIO):
-        self.program, self.log, self.faults = program, log, faults
+    def __init__(self, program: str, log: str, faults: str):
+        self.program, self.files_left = program, contextlib.ExitStack()
+        self.log, self.faults = self.opened(log), self.opened(faults)
         self.time = self.accesses = self.forks = 0
         self.mapped, self.heap = Ranges(), 0
-        # the last pages, each with whether it was written, and pages that no call mapped
+        # the pages that were told last, each with whether it was written, and those that no call
+        # mapped
         self.near: collections.OrderedDict[int, bool] = collections.OrderedDict()
         self.outside: set[int] = set()
         self.files: dict[int, str] = {}
         self.pending: dict[str, tuple[str, str]] = {}
+
+    def opened(self, file: str) -> TextIO:
+        return self.files_left.enter_context(open(file, "w", encoding="ascii"))
+
+    def __enter__(self) -> "Lackey":
+        return self
+
+    def __exit__(self, *_: object) -> None:
+        self.files_left.close()
 
     def take(self, lines: Iterator[str]) -> None:
         """The whole of it. (A line begins with the kind of an access, or tells a call.)"""
@@ -90,8 +105,7 @@ class Lackey:
         if self.mapped.at(page * PAGE) is None:
             self.outside.add(page)
             return
-        self.near[page] = self.near.get(page, False) or is_write
-        self.near.move_to_end(page)
+        self.near[page] = self.near.pop(page, False) or is_write
         if len(self.near) > NEAR:
             self.near.popitem(last=False)
         code = 6 if is_write else 4

@@ -8,6 +8,8 @@ import dataclasses
 import re
 from typing import NoReturn
 
+from shared.saying import Refused, name_of, printable
+
 from calls import (
     ADVICE,
     ANSWER,
@@ -23,7 +25,6 @@ from calls import (
 )
 from labels import MAPPING
 from ranges import PAGE, Range, up
-from saying import Refused, name_of, printable
 from spaces import Space, runs_of
 from strace import Call
 

@@ -1,13 +1,8 @@
 """What the replies of a run sum up to: for each process, and in all."""
 import dataclasses
-import os
-import sys
 from typing import Iterable
 
-ROOT = os.path.dirname(os.path.dirname(os.path.realpath(__file__)))
-sys.path.append(f"{ROOT}/view")
-
-from told import Told, frame_of  # pylint: disable=wrong-import-position
+from told import Told, frame_of
 from transcript import Step
 
 # the column that a note counts in, and notes by which an entry changes at an access

@@ -6,6 +6,7 @@ import os
 import re
 import stat
 import struct
+from typing import Sequence
 
 PAGE = 4096
 # where the fields of the header stand, and the words that end its page
@@ -31,7 +32,7 @@ class Unfit(Exception):
     """Why a file isn't made, in one sentence."""
 
 
-def header(pages: int, bad: list[int] = ()) -> bytes:
+def header(pages: int, bad: Sequence[int] = ()) -> bytes:
     """The first page of an area of so many pages, as mkswap of a little-endian machine writes it,
     but without a UUID.
     """
@@ -50,7 +51,7 @@ def is_swap_file(file: str) -> bool:
         return it.read(PAGE)[-len(SIGNATURE) :] == SIGNATURE
 
 
-def make(file: str, pages: int, bad: list[int] = ()) -> None:
+def make(file: str, pages: int, bad: Sequence[int] = ()) -> None:
     """Makes a swap file: the header, and zeros that take no room on most disks. One that was there
     goes; any other file stays.
     """

@@ -9,7 +9,7 @@ import re
 import sys
 from typing import Any, Iterator, NamedTuple
 
-from saying import Refused, name_of, read
+from shared.saying import Refused, name_of, read
 
 REFERENCE = os.path.join(os.path.dirname(os.path.realpath(__file__)), "..", "docs", "REFERENCE.md")
 # what the letters of a form stand for; any other word behind a note's name is a cause

@@ -4,9 +4,10 @@ import os
 import queue
 import re
 import subprocess
-import sys
 import threading
-import time
+
+from shared.meter import Progress
+from shared.saying import Refused
 
 from told import BY_RANGE, Told, page_of
 
@@ -16,34 +17,6 @@ MOST_STEPS, MOST_BYTES = 50_000, 90_000_000
 MOST_ROWS = 64
 # reports that are asked behind one command at most
 MOST_ASKED = 4096
-
-
-class Refused(Exception):
-    """What the user is told in place of a page."""
-
-
-class Progress:
-    """Says on standard error how far it is: on a terminal in one line that changes, elsewhere a
-    line now and then, from two seconds on.
-    """
-
-    def __init__(self):
-        self.is_terminal = sys.stderr.isatty()
-        self.next, self.shown = time.monotonic() + (0.2 if self.is_terminal else 2), False
-
-    def say(self, text: str) -> None:
-        now = time.monotonic()
-        if now < self.next:
-            return
-        self.next, self.shown = now + (0.2 if self.is_terminal else 2), True
-        print(*self.dressed(f"view: {text}"), end="", file=sys.stderr, flush=True)
-
-    def dressed(self, text: str) -> list[str]:
-        return [f"\r{text:<60}"] if self.is_terminal else [f"{text}\n"]
-
-    def end(self) -> None:
-        if self.shown and self.is_terminal:
-            print(f"\r{'':<60}\r", end="", file=sys.stderr, flush=True)
 
 
 Command = collections.namedtuple("Command", "number comment line")
@@ -96,7 +69,9 @@ def run_plainly(program: str, words: list[str], lines: list[str]) -> tuple[str, 
 
 
 class Run:
-    """A trace as avsim answers it. `said` is why it ended early, if it did."""
+    """A trace as avsim answers it. `said` is why it ended early, if it did, and `has_bad_line`
+    whether that was at a line that is no command.
+    """
 
     def __init__(self, program: str, words: list[str], commands: list[Command]):
         self.program, self.words, self.commands = program, words, commands
@@ -104,6 +79,7 @@ class Run:
         self.replies, self.said = replies_of(transcript), said
         if status == 2 or not self.replies and commands and status not in (0, 3):
             raise Refused(f"avsim ended with status {status}: {said or 'it says nothing'}")
+        self.has_bad_line = status == 3
         # (the program counts the lines that it was given, and here those without a command are
         # left out)
         if status == 3:
@@ -313,7 +289,7 @@ def window_of(wanted: tuple[int, int] | None, count: int) -> tuple[int, int]:
 
 def data_of(title: str, frames: int, run: Run, wanted: tuple[int, int] | None) -> dict:
     """What the page shows, as it stands in it."""
-    progress, steps, base, said, size = Progress(), [], [], [run.said], 0
+    progress, steps, base, said, size = Progress("view"), [], [], [run.said], 0
     first, last = window_of(wanted, len(run))
     wrong = lost = 0
     for at, (command, reply, told, same) in enumerate(follow(run, progress), 1):

@@ -1,12 +1,7 @@
-"""view/run --sizes N,N,.. TRACE: runs a trace with several numbers of frames, and draws what that
-costs: page faults over frames, as an SVG.
+"""Runs a trace with several numbers of frames, and draws what that costs: page faults over frames.
 
 Pages that find no frame go to a swap file, which is made for each run and is large enough; where
-the trace turns no area on, `swapon 0` is put in front. Standard output gets a row for each size.
-
--o FILE          writes the picture to FILE; else it goes where the page of the trace would
---program AVSIM  the program to run, in place of the one that the gate or ./avsim build left in
-                 the repository
+the trace turns no area on, `swapon 0` is put in front.
 
 An access is a `read` or `write`. It is a fault where its reply has a note `zero`, `new`, `copy` or
 `map`, and else a hit. Loaded are pages that come from the swap file, written those that go there.
@@ -18,8 +13,9 @@ import re
 import tempfile
 from typing import Callable, NamedTuple
 
+from shared.saying import Refused
+
 import making
-from making import Refused
 from sums import Sums
 from swapfile import MOST_FILES, MOST_FRAMES, MOST_PAGES, Machine, words_of
 from transcript import Step
@@ -28,7 +24,7 @@ from transcript import Step
 MOST_SIZES = 64
 # the picture, and its space for the axes
 WIDTH, HEIGHT, LEFT, RIGHT, TOP, BOTTOM = 640, 400, 70, 20, 50, 60
-# what is drawn: its name, its colour, and how far it is from faults
+# what is drawn: its column, and its colour
 LINES = (("faults", "#1864ab"), ("loaded", "#2b8a3e"), ("written", "#d9480f"))
 
 
@@ -119,7 +115,8 @@ def axes(title: str, across: Callable, up: Callable, most: tuple[int, int]) -> l
         found.append(f'<path d="M{LEFT} {y:.1f}H{WIDTH - RIGHT}" stroke="#e3e7ee"/>')
         found.append(text_at(LEFT - 8, y + 4, f"{value:,}", ' text-anchor="end"'))
     found.append(text_at(across(most[0] / 2), HEIGHT - 14, "frames", ' text-anchor="middle"'))
-    found.append(f'<path d="M{LEFT} {TOP}V{up(0):.1f}H{WIDTH - RIGHT}" fill="none" stroke="#14181f"/>')
+    frame = f"M{LEFT} {TOP}V{up(0):.1f}H{WIDTH - RIGHT}"
+    found.append(f'<path d="{frame}" fill="none" stroke="#14181f"/>')
     return found
 
 

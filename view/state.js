@@ -15,6 +15,8 @@ const state = {
   processes: new Map(), owners: new Map(), cached: new Map(), slots: new Map(),
   counts: new Map(), lists: new Map(), flight: new Map(), areas: new Map(), stat: "",
   listsKnown: true,
+  // the pages of each area whose slots have a text: a set, and the same in order
+  named: new Map(),
 };
 // what the step shown changed: entries, rows and processes as they were, and frames
 let change = null;
@@ -24,7 +26,7 @@ let undo = [];
 function newChange() {
   return {
     entries: new Map(), gone: new Map(), fresh: new Map(), died: new Map(), born: new Set(),
-    frames: new Map(), slots: new Set(), off: new Map(),
+    frames: new Map(), slots: new Set(), off: new Map(), used: new Set(),
   };
 }
 
@@ -169,6 +171,25 @@ function cacheSlot(slot, frame) {
   change?.slots.add(slot);
 }
 
+const areaOf = slot => Number(slot.split(":")[0]), slotPage = slot => Number(slot.split(":")[1]);
+
+// adds a slot to those of its area that have a text, or takes it away
+function turnNamed(slot) {
+  const [area, page] = [areaOf(slot), slotPage(slot)];
+  if (!state.named.has(area)) state.named.set(area, {pages: new Set(), sorted: null});
+  const named = state.named.get(area);
+  if (!named.pages.delete(page)) named.pages.add(page);
+  named.sorted = null;
+}
+
+function setCount(slot, text) {
+  const isNew = state.counts.has(slot) !== Boolean(text);
+  setIn(state.counts, slot, text || undefined);
+  if (!isNew) return;
+  turnNamed(slot);
+  undo.push(() => turnNamed(slot));
+}
+
 function setField(object, name, value) {
   const old = object[name];
   object[name] = value;
@@ -203,7 +224,7 @@ const operations = {
   k: (slot, text) => {
     // (the area of a slot without a text is off)
     if (change && !text) change.off.set(slot, state.counts.get(slot));
-    setIn(state.counts, slot, text || undefined);
+    setCount(slot, text);
     change?.slots.add(slot);
   },
   l: (frame, list, place) => {
@@ -244,6 +265,20 @@ function moveTo(n) {
   move(Math.max(n - 1, 0));
   change = newChange();
   move(n);
+  if (n) change.used = new Set(pagesUsed(data.steps[n - 1]));
+}
+
+// the pages that a command read, wrote or asked of, also where it changed nothing; of one that
+// stopped at a byte those up to there
+function pagesUsed(step) {
+  const [name, process, address, word] = step.c.split(" ");
+  const [kind, byte] = step.r[0].split(" ");
+  const sizes = {read: () => Number(word), write: () => word.length / 2, entry: () => 1, rmap: () => 1};
+  if (!sizes[name] || kind === "err") return [];
+  const count = /^(segv|oom|bus)$/.test(kind) ? Number(byte) + 1 : sizes[name]();
+  const first = parseInt(address, 16);
+  const [from, to] = [Math.floor(first / 4096), Math.floor((first + count - 1) / 4096)];
+  return Array.from({length: to - from + 1}, (_, i) => keyOf(Number(process), from + i));
 }
 
 apply(data.base);
@@ -257,6 +292,11 @@ function rowsOf(process) {
 function sortedPages(process) {
   process.sorted ??= Float64Array.from(process.table.keys()).sort();
   return process.sorted;
+}
+
+function sortedSlots(named) {
+  named.sorted ??= Float64Array.from(named.pages).sort();
+  return named.sorted;
 }
 
 // the first place in a sorted list whose value isn't below

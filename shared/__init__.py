@@ -1,0 +1,20 @@
+"""What the programs of tools, view, shell, bench and .ci share: where the repository is, how they
+say what is wrong (`saying`), and how far they are (`meter`).
+
+Each of these folders has a link to this one, so that a program finds it beside itself; and by it,
+the modules of the other folders. A program imports this first: where Python is too old for the
+others, it says so and ends. So this file, and the programs themselves, are of Python 3.6.
+"""
+import os
+import sys
+
+if sys.version_info < (3, 10):
+    print(
+        f"{os.path.basename(sys.argv[0])}: it needs Python 3.10 or newer, and this is "
+        f"{sys.version_info[0]}.{sys.version_info[1]}",
+        file=sys.stderr,
+    )
+    sys.exit(125)
+
+ROOT = os.path.dirname(os.path.dirname(os.path.realpath(__file__)))
+sys.path += [f"{ROOT}/{it}" for it in ("tools", "view", "shell")]
