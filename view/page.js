@@ -294,8 +294,8 @@ function hashed() {
   }
 }
 
-at("title").textContent =
-  `${data.title}, ${many(data.frames, "frame")}, ${data.most.toLocaleString("en")} in use at most`;
+at("title").textContent = `${data.title}, ${many(data.frames, "frame")}`;
+at("most").textContent = `${data.most.toLocaleString("en")} in use at most`;
 at("slider").max = last;
 at("slider").addEventListener("input", () => go(Number(at("slider").value)));
 at("first").onclick = () => go(0);
