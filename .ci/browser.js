@@ -96,5 +96,27 @@ cell?.focus();
 facts.told = at("found").textContent;
 cell?.dispatchEvent(new KeyboardEvent("keydown", {key: "Enter", bubbles: true}));
 facts.focus = [document.activeElement.dataset.at, lit.frame];
+// captions and names at the first steps, and what is hidden of one until it is asked for
+at("find").value = "";
+at("find").dispatchEvent(new Event("input"));
+toggled.clear();
+const texts = selector => [...document.querySelectorAll(selector)].map(it => it.textContent);
+facts.named = [];
+for (let n = 1; n <= Math.min(last, 12); n++) {
+  go(n);
+  const names = texts("#spaces h3:not(.gone), #spaces .row:not(.gone) .name");
+  facts.named.push([at("comment").textContent, ...names].join("; "));
+}
+const isEmpty = () => !document.querySelectorAll("#spaces .new, #cards .new").length;
+const answer = () => [at("reply").textContent, texts("#lines [aria-current] .soft")[0], isEmpty()];
+at("hide").click();
+go(Math.min(last, 3));
+facts.hidden = [answer()];
+press("Enter");
+facts.hidden.push(answer());
+press("ArrowLeft");
+facts.hidden.push(answer());
+at("hide").click();
+facts.hidden.push(answer());
 const result = {walks, facts, height: document.documentElement.scrollHeight - window.innerHeight};
 document.body.replaceChildren(make("pre", "", JSON.stringify(result)));

@@ -57,6 +57,12 @@ class Drawn:
         if process in self.dim:
             self.dim.add(child)
 
+    def op_n(self, process: int, name: str) -> None:
+        """(Names are no answers of the program.)"""
+
+    def op_b(self, process: int, page: int, count: int, name: str) -> None:
+        """(Nor are these.)"""
+
     def op_e(self, process: int, page: int, code: str) -> None:
         self.tables[process][page] = code
 

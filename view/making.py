@@ -9,6 +9,8 @@ import threading
 from shared.meter import Progress
 from shared.saying import Refused
 
+from labels import is_label
+from names import Names
 from told import BY_RANGE, Told, page_of
 
 # steps that one page has at most, and bytes
@@ -235,12 +237,17 @@ def step_of(command: Command, reply: list[str], ops: list[list]) -> dict:
     step = {"n": command.number, "c": command.line, "r": reply[:MOST_ROWS], "o": ops}
     if len(reply) > MOST_ROWS:
         step["more"] = len(reply) - MOST_ROWS
-    if command.comment:
-        step["t"] = command.comment
+    # (a comment that names something speaks of its own command alone, and ends the one before it)
+    lines = command.comment.split("\n") if command.comment else []
+    caption, label = ("\n".join(it for it in lines if is_label(it) == of) for of in (False, True))
+    if caption:
+        step["t"] = caption
+    if label:
+        step["l"] = label
     return step
 
 
-def follow(run: Run, progress: Progress):
+def follow(run: Run, progress: Progress, names: Names):
     """Each command with its reply, and what is known behind it. (The operations of `told` are
     those of this step, until the next one.)
     """
@@ -258,6 +265,7 @@ def follow(run: Run, progress: Progress):
             for slot in [it for it in told.counts if it.startswith(f"{words[1]}:")]:
                 told.answer_slot(slot, "")
         told.tell_of_areas()
+        told.ops += names.take(command.comment, words, reply)
         progress.say(f"{at} of {len(run)} commands")
         yield command, reply, told, same
 
@@ -276,6 +284,12 @@ def told_at(run: Run):
         told.ops.clear()
 
 
+def used_in(stat: str) -> int:
+    """The frames that are in use, by what `stat` says."""
+    numbers = dict(it.split("=") for it in stat.split())
+    return int(numbers.get("frames", 0)) - int(numbers.get("free", 0))
+
+
 def window_of(wanted: tuple[int, int] | None, count: int) -> tuple[int, int]:
     """The steps that a page shows, from 1: those that are wanted, else the last ones."""
     first, last = wanted or (max(1, count - MOST_STEPS + 1), count)
@@ -291,11 +305,13 @@ def data_of(title: str, frames: int, run: Run, wanted: tuple[int, int] | None) -
     """What the page shows, as it stands in it."""
     progress, steps, base, said, size = Progress("view"), [], [], [run.said], 0
     first, last = window_of(wanted, len(run))
-    wrong = lost = 0
-    for at, (command, reply, told, same) in enumerate(follow(run, progress), 1):
+    wrong = lost = most = 0
+    names = Names()
+    for at, (command, reply, told, same) in enumerate(follow(run, progress, names), 1):
+        most = max(most, used_in(told.numbers))
         wrong, lost = wrong or (not same and command.number), lost or told.lost and command.number
         if at == first - 1:
-            base = told.all_ops()
+            base = told.all_ops() + names.all_ops(set(told.tables))
         if at < first:
             continue
         steps.append(step_of(command, reply, told.ops))
@@ -319,6 +335,7 @@ def data_of(title: str, frames: int, run: Run, wanted: tuple[int, int] | None) -
     return {
         "title": title,
         "frames": frames,
+        "most": most,
         "first": first,
         "total": len(run),
         "said": "; ".join(it for it in said if it),

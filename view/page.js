@@ -3,16 +3,25 @@
 function showCommand(step, n) {
   // (a comment speaks of the commands up to the next one)
   let k = n;
-  while (k > 0 && !data.steps[k - 1].t) k--;
-  at("comment").textContent = n ? (k ? data.steps[k - 1].t : "") : beforeText();
+  while (k > 0 && !data.steps[k - 1].t && !data.steps[k - 1].l) k--;
+  at("comment").textContent = n ? captionOf(n, k) : beforeText();
   at("comment").classList.toggle("soft", n > 0 && k !== n);
   at("command").textContent = step ? step.c : "";
-  const reply = step ? step.r : [];
+  const reply = !step || isHidden(n) ? [] : step.r;
   const kind = /^(runs|areas|frame)/.test(reply[0] || "") ? "fact" : "note";
   const lines = reply.map((line, i) => make("div", i ? kind : "", i ? ` ${line}` : line));
-  if (step?.more) lines.push(make("div", "fact", `and ${step.more} more lines`));
+  if (isHidden(n)) lines.push(revealButton());
+  else if (step?.more) lines.push(make("div", "fact", `and ${step.more} more lines`));
   at("reply").replaceChildren(...lines);
   at("said").textContent = n === last || n === 0 ? data.said : "";
+}
+
+// what stands above step n, where k is the last one with a comment: one that names something
+// speaks of its own command alone
+function captionOf(n, k) {
+  const step = k ? data.steps[k - 1] : {};
+  if (step.l && k < n) return "";
+  return [step.t, step.l].filter(Boolean).join("\n");
 }
 
 const beforeText = () =>
@@ -33,8 +42,9 @@ function lineOf(i) {
   line.style.top = `${i * lineHeight}px`;
   line.style.height = `${lineHeight}px`;
   line.append(make("span", "number", step.n), make("span", "", step.c));
-  line.append(make("span", "soft", step.r[0]));
-  line.title = `${step.c}  ${step.r[0]}`;
+  const reply = isHidden(n) ? "?" : step.r[0];
+  line.append(make("span", "soft", reply));
+  line.title = `${step.c}  ${reply}`;
   if (n === here) line.setAttribute("aria-current", "step");
   line.onclick = () => go(n);
   return line;
@@ -88,10 +98,11 @@ const drawAll = () => keepingFocus(drawParts);
 
 function drawParts() {
   const step = here ? data.steps[here - 1] : null;
+  const seen = isHidden(here) ? {...step, r: ["?"]} : step;
   at("slider").value = here;
   at("place").textContent = `${here + data.first - 1} of ${data.total}`;
   showCommand(step, here);
-  showSpaces(step);
+  showSpaces(seen);
   showStat();
   showFrames();
   showSwap();
@@ -107,7 +118,7 @@ function show(place) {
   const n = Math.max(0, Math.min(last, place));
   if (n === here) return;
   here = n;
-  moveTo(n);
+  goThere();
   drawAll();
   // (a browser takes its time for this)
   clearTimeout(naming);
@@ -116,11 +127,38 @@ function show(place) {
   window.onstep?.(n);
 }
 
+// The steps whose replies were asked for, where the others are hidden; null where none is. At a step
+// whose reply is hidden the state before it is drawn.
+let revealed = null;
+const isHidden = n => revealed !== null && n > 0 && !revealed.has(n);
+const goThere = () => (isHidden(here) ? moveBefore(here) : moveTo(here));
+
+function hideReplies(on) {
+  revealed = on ? new Set() : null;
+  at("hide").checked = on;
+  goThere();
+  redraw();
+}
+
+function reveal() {
+  revealed.add(here);
+  goThere();
+  redraw();
+}
+
+function revealButton() {
+  const button = make("button", "", "what is the reply? (Enter shows it)");
+  button.id = "reveal";
+  button.onclick = reveal;
+  return button;
+}
+
 let naming = null;
 
 function nameStep() {
   try {
-    history.replaceState(null, "", `#step=${here + data.first - 1}`);
+    const hide = revealed ? "&hide" : "";
+    history.replaceState(null, "", `#step=${here + data.first - 1}${hide}`);
   } catch {
     // a page without an address
   }
@@ -204,11 +242,14 @@ const keys = {
 const CLICKED = "[data-frame], [data-at], [data-anon], h3[data-process]";
 
 document.addEventListener("keydown", event => {
-  const isText = event.target.tagName === "INPUT" && event.target.type !== "range";
-  const isButton = event.key === " " && event.target.tagName === "BUTTON";
+  const {tagName, type} = event.target;
+  const isText = tagName === "INPUT" && type !== "range" && type !== "checkbox";
+  const isButton = /^( |Enter)$/.test(event.key) && (tagName === "BUTTON" || type === "checkbox");
   if (event.altKey || event.ctrlKey || event.metaKey || isButton || isText) return;
   if (event.key === "Enter" && event.target.matches?.(CLICKED)) {
     event.target.dispatchEvent(new MouseEvent("click", {bubbles: true}));
+  } else if (event.key === "Enter" && isHidden(here)) {
+    reveal();
   } else if (event.key === " ") {
     play(!timer);
   } else if (keys[event.key]) {
@@ -245,6 +286,7 @@ function hashed() {
     at("only").value = words.get("processes");
     showOnly(at("only").value);
   }
+  if (words.has("hide") !== Boolean(revealed)) hideReplies(words.has("hide"));
   show(Number.isNaN(n) ? Math.min(1, last) : n - data.first + 1);
   if (words.has("find")) {
     at("find").value = words.get("find");
@@ -252,7 +294,8 @@ function hashed() {
   }
 }
 
-at("title").textContent = `${data.title}, ${many(data.frames, "frame")}`;
+at("title").textContent =
+  `${data.title}, ${many(data.frames, "frame")}, ${data.most.toLocaleString("en")} in use at most`;
 at("slider").max = last;
 at("slider").addEventListener("input", () => go(Number(at("slider").value)));
 at("first").onclick = () => go(0);
@@ -260,6 +303,7 @@ at("back").onclick = () => { play(false); back(); };
 at("next").onclick = () => { play(false); forth(); };
 at("last").onclick = () => go(last);
 at("play").onclick = () => play(!timer);
+at("hide").onchange = () => hideReplies(at("hide").checked);
 at("only").addEventListener("input", () => showOnly(at("only").value));
 at("find").addEventListener("input", () => find(at("find").value));
 at("find").addEventListener("keydown", event => {

@@ -99,6 +99,8 @@ function rowElement(number, process, row, kind, isMarked) {
   const count = row.end - row.start;
   const box = make("div", `row ${kind}${count > BIG_CELLS ? " long" : ""}`);
   box.append(make("span", "text", `${kind === "gone" ? "was " : ""}${row.text}`));
+  const name = namesIn(number, row);
+  if (name) box.append(make("span", "name soft", name));
   const isGone = kind === "gone";
   const codeAt = page =>
     (isGone && change.entries.get(keyOf(number, page))) || codeIn(process, page);
@@ -143,9 +145,11 @@ function drawnRow(number, process, row, dirtyRows, marked) {
   const kept = cache.get(row.text);
   const isFresh = change.fresh.get(number)?.includes(row) || change.born.has(number);
   const isMarked = isFresh || marked.has(row);
-  if (kept && !kept.isMarked && !isMarked && !dirtyRows.has(row)) return kept.box;
+  const name = namesIn(number, row);
+  const isKept = kept && kept.name === name;
+  if (isKept && !kept.isMarked && !isMarked && !dirtyRows.has(row)) return kept.box;
   const box = rowElement(number, process, row, isFresh ? "new" : "", marked.has(row));
-  cache.set(row.text, {box, isMarked});
+  cache.set(row.text, {box, isMarked, name});
   return box;
 }
 
@@ -230,7 +234,8 @@ function spaceBox(number, pagesChanged) {
   const rows = isGone
     ? rowsOf(process).map(row => ({row, box: rowElement(number, process, row, "gone")}))
     : spaceRows(number, process, pagesChanged);
-  const said = rows.length ? "" : ": no memory";
+  const title = state.titles.get(number);
+  const said = (title ? `: ${title}` : "") + (rows.length ? "" : `${title ? "," : ":"} no memory`);
   setText(box.firstChild, `${isGone ? "was " : ""}process ${number}${said}`, isGone ? "gone" : "");
   setChildren(box.lastChild, withHoles(rows));
   return box;
@@ -293,7 +298,8 @@ function folded(number) {
   const isGone = !state.processes.has(number);
   const {rows, table} = isGone ? change.died.get(number) : state.processes.get(number);
   const entries = `${table.size} ${table.size === 1 ? "entry" : "entries"}`;
-  const text = `process ${number}: ${many(rows.size, "area")}, ${entries}`;
+  const title = state.titles.has(number) ? `${state.titles.get(number)}, ` : "";
+  const text = `process ${number}: ${title}${many(rows.size, "area")}, ${entries}`;
   setText(buttons.get(number), `${isGone ? "was " : ""}${text}`, isGone ? "gone" : "");
   return buttons.get(number);
 }

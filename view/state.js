@@ -17,6 +17,8 @@ const state = {
   listsKnown: true,
   // the pages of each area whose slots have a text: a set, and the same in order
   named: new Map(),
+  // the names of processes, and of what is mapped in them
+  titles: new Map(), mappings: new Map(),
 };
 // what the step shown changed: entries, rows and processes as they were, and frames
 let change = null;
@@ -197,7 +199,11 @@ function setField(object, name, value) {
 }
 
 const operations = {
-  p: number => addProcess(number, newProcess()),
+  p: number => {
+    addProcess(number, newProcess());
+    setIn(state.titles, number, undefined);
+    setIn(state.mappings, number, undefined);
+  },
   x: dropProcess,
   f: (number, child) => {
     const parent = state.processes.get(number);
@@ -205,6 +211,8 @@ const operations = {
     process.dim = parent.dim;
     for (const [page, code] of parent.table) process.table.set(page, code.replace("F", "f"));
     addProcess(child, process);
+    setIn(state.titles, child, state.titles.get(number));
+    setIn(state.mappings, child, state.mappings.get(number));
   },
   e: setEntry,
   d: (number, first, count) => {
@@ -238,7 +246,26 @@ const operations = {
   t: (area, text) => setIn(state.areas, area, text || undefined),
   o: isKnown => setField(state, "listsKnown", Boolean(isKnown)),
   s: text => setField(state, "stat", text),
+  n: (number, name) => setIn(state.titles, number, name),
+  b: (number, first, count, name) => {
+    const all = state.mappings.get(number) || [];
+    const [end, rest] = [first + count, []];
+    for (const it of all) {
+      if (it.start < first) rest.push({...it, end: Math.min(it.end, first)});
+      if (it.end > end) rest.push({...it, start: Math.max(it.start, end)});
+    }
+    if (name) rest.push({start: first, end, name});
+    setIn(state.mappings, number, rest);
+  },
 };
+
+// the names of what is mapped in a row, by address
+function namesIn(number, row) {
+  const found = (state.mappings.get(number) || [])
+    .filter(it => it.start < row.end && row.start < it.end)
+    .sort((a, b) => a.start - b.start);
+  return [...new Set(found.map(it => it.name))].join(", ");
+}
 
 const apply = ops => ops.forEach(([name, ...of]) => operations[name](...of));
 
@@ -258,6 +285,14 @@ function move(wanted) {
 }
 
 // Goes to a step by way of the one before it, so that what it changes is seen.
+// goes to the state before a step, of which nothing is shown then
+function moveBefore(n) {
+  frameCells.clear();
+  change = null;
+  move(n - 1);
+  change = newChange();
+}
+
 function moveTo(n) {
   // (far away every frame may be another)
   if (Math.abs(n - done) > 1) frameCells.clear();
