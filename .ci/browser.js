@@ -71,6 +71,11 @@ facts.found = at("found").textContent;
 const usedNow = () => [...document.querySelectorAll("#spaces .used")].map(it => it.dataset.at);
 facts.used = [];
 for (let n = 1; n <= Math.min(last, 12); n++) { go(n); facts.used.push(usedNow().join(", ")); }
+go(last);
+const [outer, inner] = ["#scroll", "#spaces .used"]
+  .map(it => document.querySelector(it)?.getBoundingClientRect());
+facts.inSight = inner && [at("scroll").scrollTop > 0, outer.top <= inner.top,
+  inner.bottom <= outer.bottom];
 const type = text => {
   at("find").value = text;
   at("find").dispatchEvent(new Event("input"));

@@ -2,6 +2,7 @@
 import ast
 import glob
 import os
+import re
 import subprocess
 import sys
 import unittest
@@ -53,7 +54,9 @@ class Programs(unittest.TestCase):
     def test_they_can_be_read_by_an_older_python(self) -> None:
         for file in [*programs(), f"{ROOT}/shell/run", f"{ROOT}/shared/__init__.py"]:
             with self.subTest(file), open(file, encoding="utf-8") as it:
-                ast.parse(it.read(), feature_version=(3, 6))
+                text = it.read()
+                ast.parse(text, feature_version=(3, 6))
+                self.assertNotIn("import dataclasses", re.split("(?m)^(from|import) shared", text)[0])
 
     def test_what_they_import_is_of_python_3_10(self) -> None:
         for folder in ("tools", "view", "shell", "bench", "shared"):
