@@ -9,8 +9,9 @@ import os
 import sys
 
 if sys.version_info < (3, 10):
+    program = "/".join(os.path.abspath(sys.argv[0]).split("/")[-2:])
     print(
-        f"{os.path.basename(sys.argv[0])}: it needs Python 3.10 or newer, and this is "
+        f"{program}: it needs Python 3.10 or newer, and this is "
         f"{sys.version_info[0]}.{sys.version_info[1]}",
         file=sys.stderr,
     )

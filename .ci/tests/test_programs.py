@@ -48,7 +48,8 @@ class Programs(unittest.TestCase):
                 ran = subprocess.run(
                     [sys.executable, "-B", "-c", OLDER, file], capture_output=True, text=True
                 )
-                said = f"{os.path.basename(file)}: it needs Python 3.10 or newer, and this is 3.6\n"
+                name = "/".join(file.split("/")[-2:])
+                said = f"{name}: it needs Python 3.10 or newer, and this is 3.6\n"
                 self.assertEqual((ran.returncode, ran.stdout, ran.stderr), (125, "", said))
 
     def test_they_can_be_read_by_an_older_python(self) -> None:
