@@ -10,6 +10,7 @@
 use Rattle.std.specs.Prelude.{ℕ, false, ◌==◌, ◌&&◌, if◌then◌else◌, List, [], ◌∷◌, Option, Some}
 use Rattle.std.specs.Prelude.{None, drop, option_and_then, replicate}
 use Rattle.av_swapdev.specs.Header.{Layout}
+use Rattle.av_swapdev.specs.Device.{no_history}
 use Rattle.av_plain.specs.Device.{Device, device_by, headers_of}
 use Rattle.av_plain.specs.Ledger.{InSlot, Ledger, Setting, first_ledger}
 use Rattle.av_plain.specs.Stands.{BytesStand}
@@ -55,7 +56,7 @@ abbrev pub two_told : Device
 two_told = device_by two_swaps.sizes
     (Some (λ k page. if k == 1 && page == 0 then header_page
     else (if k == 1 then 9 else 7) ∷ replicate 4095 0))
-    0
+    (0, no_history)
 
 -- what the header of an area says, if it is told and has no fault
 abbrev pub told_header : ℕ → Device → Option Layout

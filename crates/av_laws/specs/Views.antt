@@ -4,6 +4,7 @@
 use Rattle.std.specs.Prelude.{ℕ, ◌-◌, Bool, true, false, ◌==◌, ◌&&◌, ◌||◌, if◌then◌else◌, List, [], ◌∷◌}
 use Rattle.std.specs.Prelude.{◌++◌, Some, None, option_map, replicate, codes}
 use Rattle.av_clusters.specs.Clusters.{Slots}
+use Rattle.av_swapdev.specs.Device.{no_history}
 use Rattle.av_plain.specs.Device.{Device, no_device}
 use Rattle.av_plain.specs.Ledger.{Entry, InFrame, InSlot, Key, SwapArea, entry, frame_at}
 use Rattle.av_plain.specs.Ledger.{map_count, slot_entries, slot_of}
@@ -132,6 +133,7 @@ swap_device b = record {
   sizes = λ k. if k == 0 then Some 8 else None;
   pages = Some (λ k page. if page == 0 then header_page else b ∷ replicate 4095 0);
   failures = 0;
+  history = no_history;
 }
 
 -- the same two processes, once frame 0 is cached at slot 1 and unmapped: its write is in flight or

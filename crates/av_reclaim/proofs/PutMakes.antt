@@ -36,7 +36,8 @@ use Rattle.av_mem.proofs.SwapSums.{each-free}
 use Rattle.av_reclaim.specs.Driver.{closing_of, view_of}
 use Rattle.av_reclaim.proofs.FinishMakes.{none-makes}
 use Rattle.av_reclaim.proofs.OneNote.{one-still}
-use Rattle.av_reclaim.proofs.StepMakes.{by-view, itself, same-world, stands-still}
+use Rattle.av_reclaim.proofs.StepMakes.{by-view, same-world, stands-still}
+use Rattle.av_plain.proofs.Wrote.{wrote-none, same-itself}
 
 -- ---- the swap area that gives
 
@@ -180,11 +181,12 @@ put-makes names d old new f (Some s) h parts = λ l sound stood may.
     let gives = may-be-given d old stood.0 stood.1 l stood.2 s h.rest h.area h.slot in
     one-still names d d old new l (Put f s) (record { sound = sound; world = stood.0; rmap = stood.1; serves = stood.2 }) (record {
       parts = parts;
-      same = itself d;
+      same = same-itself d;
       lawful = (gives, used);
       brings = λ w r c. tt;
       still = tt;
       failures = stands-still d.failures;
+      wrote = wrote-none d.history;
     }) (λ w. same-world (is_some m.headers) w)
     (λ w r serves. by-view d d old new l (Put f s) (view_put f s (with_at s.area h.rest (view old).slots) (view old)) w r h.puts
     (put-steps m (closing_of old) (held_by d old w r l) serves.held f s (with_at s.area h.rest (view old).slots)

@@ -1,7 +1,7 @@
 //! The memory system with its device, in single steps.
 
 ghost use Rattle.std.specs.Prelude.{◌≡◌, ◌∷◌, []};
-ghost use Rattle.av_plain.specs.Device.{as_told, device_by};
+ghost use Rattle.av_plain.specs.Device.{as_told, seen_by};
 ghost use Rattle.av_mem.proofs.Locks.{locks as locked_so};
 ghost use Rattle.av_reclaim.specs.Driver.{closing_of, end_of, view_of};
 
@@ -24,10 +24,10 @@ pub struct Driver<'a, D: SwapDev> {
 
 impl<'a, D: SwapDev> System for Driver<'a, D> {
     ghost view = { λ s told. view_of (s.mem.ghost_name ∷ s.dev.ghost_name ∷ []) (as_told told
-        (device_by (D.sizes s.dev.now) (D.pages s.dev.now) (D.failures s.dev.now))) s.mem.now };
+        (seen_by D.sizes D.pages D.failures D.history s.dev.now)) s.mem.now };
 
     ghost locks = { λ s told l sound stood w r claims. locked_so (as_told told
-        (device_by (D.sizes s.dev.now) (D.pages s.dev.now) (D.failures s.dev.now)))
+        (seen_by D.sizes D.pages D.failures D.history s.dev.now))
         (closing_of s.mem.now) s.mem.now w r l sound.in_order claims };
 
     fn frames(&self) -> u32 {

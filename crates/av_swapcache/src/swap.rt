@@ -121,6 +121,7 @@ impl Swap {
         ensures never_falls { D.failures dev.old ≤ D.failures dev.new }
         ensures cause { result ≡ Ok SwapOn.Io → Rose (D.failures dev.old) (D.failures dev.new) }
         ensures unfailed { (result ≡ Ok SwapOn.Io → ⊥) → D.failures dev.new ≡ D.failures dev.old }
+        ensures asked { D.history dev.new ≡ D.history dev.old }
     {
         if self.is_on(area) {
             return Ok(SwapOn::Busy);
@@ -204,6 +205,7 @@ impl Swap {
         ensures never_falls { D.failures dev.old ≤ D.failures dev.new }
         ensures cause { OnErr result (Rose (D.failures dev.old) (D.failures dev.new)) }
         ensures unfailed { OnOk result (D.failures dev.new ≡ D.failures dev.old) }
+        ensures asked { D.history dev.new ≡ D.history dev.old }
     {
         let Some(area) = self.areas.of_mut(slot.area) else {
             unreachable!();
@@ -290,12 +292,14 @@ impl Swap {
               frames = frames_shown frames.old;
               pages = D.pages dev.old;
               failures = D.failures dev.old;
+              history = D.history dev.old;
             })
             (record {
               swap = shown self.new;
               frames = frames_shown frames.new;
               pages = D.pages dev.new;
               failures = D.failures dev.new;
+              history = D.history dev.new;
             }) }
         ensures same_sizes { D.sizes dev.new ≡ D.sizes dev.old }
         ensures never_falls { D.failures dev.old ≤ D.failures dev.new }
