@@ -303,6 +303,9 @@ def compare_lists(program: str, words: list[str], data: dict) -> tuple[list[str]
     return wrong, count
 
 
+ADVICE = ["dontneed"] * 3 + ["dontfork", "dofork", "wipeonfork", "keeponfork"]
+
+
 def random_lines(pick: random.Random, live: set[int]) -> Iterator[str]:
     """A few lines to choose from, for processes that live, as far as one knows."""
     p = pick.choice(sorted(live)) if pick.random() < 0.95 else pick.randint(1, 5)
@@ -322,6 +325,8 @@ def random_lines(pick: random.Random, live: set[int]) -> Iterator[str]:
         f"mremap {p} {at:x} {length} {4096 * k} fixed {at + 0x5000:x}",
         f"mremap {p} {at:x} {length} {length} dontunmap",
         f"mremap {p} {at:x} {length} {length} dontunmap {at - 0x4000:x}",
+        f"madvise {p} {at:x} {length} {pick.choice(ADVICE)}",
+        f"madvise {p} {at:x} {4 * length} {pick.choice(ADVICE)}",
         f"rmap {p} {at:x}",
     ]
     if len(live) > 2 or pick.random() < 0.1:

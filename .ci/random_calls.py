@@ -12,6 +12,8 @@ PAGE, HUGE, TOP = 4096, 1 << 21, 0x7FFFFFFFF000
 # where the pages are: low, in the middle, and where automatic places are; each with how many
 PLACES = ((0x20000, 14), (0x555555554000, 6), (TOP - 20 * PAGE, 20))
 PROTS = ["rw-"] * 12 + ["r--"] * 3 + ["rwx", "r-x", "-w-", "---", "--x"]
+# (a process with pages that are left out can't be copied, and then fewer lines are tried)
+ADVICE = ["dontneed"] * 4 + ["wipeonfork"] * 3 + ["keeponfork", "dofork", "dofork", "dontfork"]
 # what a range may be that is refused, or at a border
 ODD_PLACES = (0, 1, 0xF000, 0x10000, 0x20001, TOP - PAGE, TOP, 2**47, 2**63, 2**64 - PAGE)
 ODD_LENGTHS = (0, 1, PAGE + 1, TOP - 0x10000, TOP, 2**47, 2**63, 2**64 - PAGE, 2**64 - 1)
@@ -21,6 +23,7 @@ KINDS = {
     "munmap": 5,
     "mprotect": 7,
     "mremap": 14,
+    "madvise": 5,
     "read": 10,
     "write": 18,
     "fork": 5,
@@ -92,6 +95,9 @@ class Trace:
         to = f"{self.page() if self.pick.random() < 0.97 else self.pick.choice(ODD_PLACES):x}"
         how = f"{how.removesuffix(' to')} {to}" if how in (" fixed", " dontunmap to") else how
         return f"mremap {self.process()} {at} {old} {new}{how}"
+
+    def madvise(self) -> str:
+        return f"madvise {self.process()} {self.range()} {self.pick.choice(ADVICE)}"
 
     def access(self) -> str:
         """An address, often just before a border of pages, and a number of bytes."""

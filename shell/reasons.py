@@ -15,6 +15,9 @@ LINE_LIMIT = 8448
 # characters of a word that are shown at most
 MOST_SHOWN = 40
 WORDS_OF_TALK = ("show", "view", "touch", "undo", "save", "load", "help", "quit")
+# what a madvise may say, and what it may in a later version
+ADVICE = ("dontneed", "dontfork", "dofork", "wipeonfork", "keeponfork")
+ADVICE_LATER = ("mergeable", "unmergeable")
 # sections of the reference
 TRACE, COMMANDS, TALK = "Trace", "Commands", "Talk"
 
@@ -194,6 +197,8 @@ def of_kind(kind: str, word: str, form: Form) -> None:
         of_hex(word)
     elif kind == "PROT":
         of_prot(word)
+    elif kind == "ADVICE":
+        of_advice(word)
 
 
 def of_decimal(what: str, word: str, least: int, most: int) -> None:
@@ -277,3 +282,14 @@ def of_prot(word: str) -> None:
         raise Reason(f"a protection has the letters r, w, x, or - in their place{see}")
     if not re.fullmatch("[r-][w-][x-]", word):
         raise Reason(f"a protection has its letters in the order r, w, x{see}")
+
+
+def of_advice(word: str) -> None:
+    """What a `madvise` says of pages."""
+    see = f": {printable(word)}"
+    if word in ADVICE_LATER:
+        raise Reason(f"{word} is no advice yet", "madvise")
+    if word.lower().removeprefix("madv_") in ADVICE and word not in ADVICE:
+        raise Reason(f"an advice is lower case, without MADV_{see}", "madvise")
+    if word not in ADVICE:
+        raise Reason(f"an advice is {', '.join(ADVICE[:-1])} or {ADVICE[-1]}{see}", "madvise")

@@ -6,12 +6,13 @@ import re
 import sys
 from typing import Iterable
 
-from reasons import WORDS_OF_TALK
+from reasons import ADVICE, WORDS_OF_TALK
 from reference import Form, Reference
 
 COLOURS = {"good": "32", "bad": "31", "note": "36", "sent": "2", "own": "33"}
 REFUSALS = ("err", "segv", "oom", "bus")
-PROTS = [f"{r}{w}{x}" for r in "r-" for w in "w-" for x in "x-"]
+# what may stand where a word of a kind is wanted
+OF_KIND = {"PROT": [f"{r}{w}{x}" for r in "r-" for w in "w-" for x in "x-"], "ADVICE": [*ADVICE]}
 # words that mostly stand alone
 ALONE = ("stat", "show", "view", "undo", "help", "quit")
 # the words that stand behind one of the shell's
@@ -132,7 +133,7 @@ class Completion:
             return sorted(self.names.of["A"])
         if kind in ("P", "Q"):
             return sorted(self.names.of["P"], key=lambda it: (len(it), it))
-        return PROTS if kind == "PROT" else []
+        return OF_KIND.get(kind, [])
 
 
 def with_prefix(words: Iterable[str], text: str) -> list[str]:

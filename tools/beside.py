@@ -19,6 +19,7 @@ IN_SWAP = "the model has the page in a slot"
 NO_FRAME = "the model has no frame for it, or its device failed"
 LIMIT = "the model has as many processes as it takes"
 LOST = "its process went another way before, in line {}"
+LEFT_OUT = "a copy of its process lacks pages, by their advice"
 CHANGES = "and other pages are mapped then"
 # how often frames are looked at, which the kernel may move meanwhile
 TRIES = 3
@@ -220,6 +221,8 @@ class Beside:
             raise Refused(f"a process can't be forked: error {-copy} (see ulimit -u)")
         before = maps_of(self.kernel.areas(copy))
         try:
+            if before != maps_of(self.kernel.areas(process)):
+                raise NotAsked(LEFT_OUT)
             linux = self.kernel.call(copy, line.words, line.said)
             return linux, maps_of(self.kernel.areas(copy)) != before
         except Gone:
@@ -239,9 +242,9 @@ class Beside:
 
     def pass_over(self, line: Line, why: str) -> None:
         self.passed.setdefault(why, collections.Counter())[line.name] += 1
-        changes = line.name in ("write", "mmap", "munmap", "mprotect", "mremap")
-        is_refused = line.said.startswith("err ") and line.name != "mprotect"
-        if why in (GAP, WIDE) and changes and not is_refused:
+        changes = line.name in ("write", "mmap", "munmap", "mprotect", "mremap", "madvise")
+        is_refused = line.said.startswith("err ") and line.name not in ("mprotect", "madvise")
+        if why in (GAP, WIDE, LEFT_OUT) and changes and not is_refused:
             self.lost[line.process] = line.number
 
     def follow(self, line: Line) -> None:

@@ -67,7 +67,7 @@ def rule_of(command: Command, reply: str) -> tuple[str, str] | None:
     """The rule that explains a reply; None where there is none."""
     words, error = command.line.split(" "), reply.removeprefix("err ")
     match words[0], error:
-        case "mprotect", "ENOMEM":
+        case "mprotect" | "madvise", "ENOMEM":
             return SPAWN if command.missing == "execve" else None
         case "mremap", "EFAULT" if command.missing:
             return SPAWN if command.missing == "execve" else None

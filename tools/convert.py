@@ -7,7 +7,6 @@ import re
 
 from shared.saying import Refused, count_of, name_of, printable
 
-from calls import advice_of_model
 from faults import Fault
 from memory import Command, Memory
 from peak import Peak
@@ -70,7 +69,7 @@ class Convert:
 
     def __init__(self, steps: list[Step], faults: list[Fault], options: Options):
         self.steps, self.faults, self.options = steps, faults, options
-        self.memory = Memory(options.anonymous_only, options.touch, advice_of_model())
+        self.memory = Memory(options.anonymous_only, options.touch)
         self.tally = self.memory.tally
         self.threads: dict[int, Thread] = {}
         self.all: list[Thread] = []

@@ -11,7 +11,7 @@ from shared.saying import Refused
 
 from labels import is_label
 from names import Names
-from told import BY_RANGE, Told, page_of
+from told import BY_RANGE, MIDWAY, Told, page_of
 
 # steps that one page has at most, and bytes
 MOST_STEPS, MOST_BYTES = 50_000, 90_000_000
@@ -111,7 +111,7 @@ def pages_named(words: list[str]) -> range:
 def asks_areas(words: list[str], reply: list[str]) -> list[int]:
     """The processes whose areas a command may have changed."""
     is_done = not reply[0].startswith("err ")
-    if words[0] in BY_RANGE and (is_done or words[0] == "mprotect"):
+    if words[0] in BY_RANGE and (is_done or words[0] in MIDWAY):
         return [int(words[1])]
     if words[0] in ("read", "write") and any(it.startswith("new ") for it in reply[1:]):
         return [int(words[1])]
