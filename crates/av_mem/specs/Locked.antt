@@ -2,9 +2,9 @@
 use Rattle.std.specs.Prelude.{ℕ, ◌-◌, Bool, ◌&&◌, List}
 use Rattle.std.specs.List.{list_any, range_with_len}
 use Rattle.av_pagetable.specs.Entries.{entry_at}
-use Rattle.av_rmap.specs.Locked.{is_locked}
 use Rattle.av_rmap.specs.Walk.{names_frame}
 use Rattle.av_spaces.specs.Spaces.{Spaces, pages_of}
+use Rattle.av_vma.specs.Areas.{is_locked}
 use Rattle.av_vma.specs.Index.{first_of, past_of}
 use Rattle.av_vma.specs.declared.area.Area.{Area}
 use Rattle.av_mem.specs.declared.mem.Mem.{Mem}
