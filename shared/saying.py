@@ -1,4 +1,4 @@
-"""How the tools say what is wrong, and how they end."""
+"""How the programs say what is wrong, and how they end."""
 import argparse
 import os
 import sys
@@ -48,10 +48,13 @@ def name_of(file: str) -> str:
     return os.path.basename(file).encode("ascii", "backslashreplace").decode()
 
 
-def printable(text: str) -> str:
-    """A line as it can be shown in a sentence."""
+def printable(text: str | bytes, most: int = 90) -> str:
+    """A line as it can be shown in a sentence: in ASCII, and not too long."""
+    if isinstance(text, bytes):
+        text = text.decode("utf-8", "backslashreplace")
+    text = text.encode("ascii", "backslashreplace").decode()
     text = "".join(it if it.isprintable() else f"\\x{ord(it):02x}" for it in text)
-    return text if len(text) <= 90 else f"{text[:87]}.."
+    return text if len(text) <= most else f"{text[: most - 3]}.."
 
 
 def count_of(number: int, one: str, many: str = "") -> str:
