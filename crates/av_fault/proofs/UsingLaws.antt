@@ -39,7 +39,7 @@ use Rattle.av_fault.specs.Using.{IsHere}
 use Rattle.av_fault.proofs.Amid.{Amid}
 use Rattle.av_fault.proofs.Between.{fit-stays, to-amid, to-fit}
 use Rattle.av_fault.proofs.Run.{run-done, run-none, run-then}
-use Rattle.av_plain.proofs.Wrote.{same-itself as device-itself, wrote-none}
+use Rattle.av_plain.proofs.Wrote.{device-itself, wrote-none}
 
 -- ---- an entry that is a frame
 
