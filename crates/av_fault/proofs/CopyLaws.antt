@@ -25,7 +25,7 @@ use Rattle.av_plain.proofs.Ledger.{entry-set, how_many-found, same_key-itself}
 use Rattle.av_plain.proofs.Load.{without-loads}
 use Rattle.av_plain.proofs.Event.{changed-by}
 use Rattle.av_plain.proofs.Sound.Access.{shared-is, shared-stays, sparing-pins, unused}
-use Rattle.av_plain.proofs.Sound.Counts.{device-itself}
+use Rattle.av_plain.proofs.Sound.Counts.{same-itself}
 use Rattle.av_plain.proofs.Sound.Sharing.{copied-kept, free-apart}
 use Rattle.av_plain.proofs.Sound.Steps.{is_steady}
 use Rattle.av_swap_laws.specs.Held.{Held, Steps}
@@ -84,7 +84,7 @@ module _ (m : Setting) (h : Held) (amid : Amid m h) (p a f g : ℕ) (left : List
   is_first = first-is m h.ledger f left (subst (ListsFree m h.ledger) first amid.free.frames)
 
   named : 0 < map_count h.ledger g
-  named = how_many-found (names_frame g) q h.ledger.entries (InFrame g seen) here (device-itself g)
+  named = how_many-found (names_frame g) q h.ledger.entries (InFrame g seen) here (same-itself g)
 
   -- whatever becomes of the frame that is copied
   module _ (v : View) (steps : Steps m None (Noted (Copied p a f)) h (made v)) (areas : v.areas ≡ h.view.areas) (anons : v.anons ≡ h.view.anons)
@@ -103,7 +103,7 @@ module _ (m : Setting) (h : Held) (amid : Amid m h) (p a f g : ℕ) (left : List
         (shared-is h.ledger g shared) is_first.below (unused h.ledger f is_first.free))
 
     both : (p == p && page_of a == page_of a) ≡ true
-    both = λ i. device-itself p i && device-itself (page_of a) i
+    both = λ i. same-itself p i && same-itself (page_of a) i
 
     bit-there : v.table p (page_of a) ≡ Some (record { entry = InFrame f false; write = true })
     bit-there = ap (λ (t : ℕ → ℕ → Option Plain). t p (page_of a)) table
@@ -112,7 +112,7 @@ module _ (m : Setting) (h : Held) (amid : Amid m h) (p a f g : ℕ) (left : List
     used : Run m h (record (made v) { view = view_seen p (page_of a) f true v; ledger = after_use true q (made v).ledger })
         (Noted (Copied p a f) ∷ Used true q ∷ [])
     used = used-run m h (made v) (Copied p a f) q f run (copy-there p a f h.ledger) (copy-slotless p a f h.ledger is_first.free)
-        (run.amid.held.ledger.tables.write_bits p (page_of a) (record { entry = InFrame f false; write = true }) f bit-there refl (device-itself f))
+        (run.amid.held.ledger.tables.write_bits p (page_of a) (record { entry = InFrame f false; write = true }) f bit-there refl (same-itself f))
         (ap (with_at f home) homes ∙ home-twice f home h.view.homes ∙ sym homes)
         (λ i. record h.rmap { homes = home-twice f home h.rmap.homes i })
 
@@ -219,14 +219,14 @@ module _ (d d' : Device) (old mid : Mem) (w : World) (r : Rmap) (l : Ledger) (be
 
   pub copy-mapped : 0 < (view mid).maps g
   copy-mapped = subst (λ n. 0 < n) (sym (s.done.between.serves.held.ledger.frames.maps g))
-      (how_many-found (names_frame g) k l1.entries (InFrame g here.seen) copy-at (device-itself g))
+      (how_many-found (names_frame g) k l1.entries (InFrame g here.seen) copy-at (same-itself g))
 
   pub copied-shared : asks_copy l1 g ≡ true
   copied-shared =
       let p = passed d d' old mid w r l (Some g) before mids got h s in
       subst (λ x. asks_copy x g ≡ true) (sym (note_events-all l s.added))
       (shared-by m (after_notes l s.added) g p.sound (shared-stays (is_spared (sparing w l (Some g))) l (after_notes l s.added) g (sparing-pins w l g) p.keeps
-      (how_many-found (names_frame g) k l.entries (InFrame g here.seen) at (device-itself g)) (shared-is l g shared)))
+      (how_many-found (names_frame g) k l.entries (InFrame g here.seen) at (same-itself g)) (shared-is l g shared)))
 
 module _ (d d' : Device) (old mid new : Mem) (w : World) (r : Rmap) (l : Ledger) (before mids now : List Note) (k : Key) (f g : ℕ)
     (came settled : Bool)
@@ -277,7 +277,7 @@ module _ (d d' : Device) (old mid new : Mem) (w : World) (r : Rmap) (l : Ledger)
       (ap (λ x. slot_of x f) (after_notes-append l s.added (note ∷ [])) ∙ copy-slotless k.0 (address_of k.1) f (after_notes l s.added) free)
 
   at_key : (k.0 == k.0 && k.1 == k.1) ≡ true
-  at_key = λ i. device-itself k.0 i && device-itself k.1 i
+  at_key = λ i. same-itself k.0 i && same-itself k.1 i
 
   home_now : home ≡ home_of k.1 (r2.areas k.0 k.1)
   home_now = home_is ∙ ap (home_of k.1) (sym (pages-sought d d' old mid w r l (Some g) before mids Frame h s k.0 k.1)

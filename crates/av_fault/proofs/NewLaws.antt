@@ -25,7 +25,7 @@ use Rattle.av_plain.proofs.Access.{after_notes-append, note_events-all}
 use Rattle.av_plain.proofs.Ledger.{entry-set, same_key-itself}
 use Rattle.av_plain.proofs.Load.{without-loads}
 use Rattle.av_plain.proofs.Sound.Access.{blank-steady, unused}
-use Rattle.av_plain.proofs.Sound.Counts.{device-itself}
+use Rattle.av_plain.proofs.Sound.Counts.{same-itself}
 use Rattle.av_plain.proofs.Sound.Entries.{new-kept}
 use Rattle.av_swap_laws.specs.Held.{Held}
 use Rattle.av_swap_laws.specs.Steps.{view_new, view_seen}
@@ -104,13 +104,13 @@ module _ (m : Setting) (h : Held) (amid : Amid m h) (p a f : ℕ) (left : List �
       (new-kept m no_excuse h.ledger q f amid.sound blank is_first.below (unused h.ledger f is_first.free))
 
   both : (p == p && page_of a == page_of a) ≡ true
-  both = λ i. device-itself p i && device-itself (page_of a) i
+  both = λ i. same-itself p i && same-itself (page_of a) i
 
   pub new-run : Run m h (record made { view = view_seen p (page_of a) f true made.view; ledger = after_use true q made.ledger })
       (Noted (New p a f) ∷ Used true q ∷ [])
   new-run = used-run m h made (New p a f) q f run (new-there p a f h.ledger) (unslotted h.ledger f is_first.free)
       (run.amid.held.ledger.tables.write_bits p (page_of a) (record { entry = InFrame f false; write = true }) f
-      (ap (λ b. cond b (Some (record { entry = InFrame f false; write = true })) (h.view.table p (page_of a))) both) refl (device-itself f))
+      (ap (λ b. cond b (Some (record { entry = InFrame f false; write = true })) (h.view.table p (page_of a))) both) refl (same-itself f))
       (home-twice f home h.view.homes) (λ i. record h.rmap { homes = home-twice f home h.rmap.homes i })
 
 -- ---- of the memory system
@@ -220,7 +220,7 @@ module _ (d d' : Device) (old mid new : Mem) (w : World) (r : Rmap) (l : Ledger)
         (ap (λ x. slot_of x f) (after_notes-append l s.added (note ∷ [])) ∙ unslotted (after_notes l s.added) f free)
 
     at_key : (k.0 == k.0 && k.1 == k.1) ≡ true
-    at_key = λ i. device-itself k.0 i && device-itself k.1 i
+    at_key = λ i. same-itself k.0 i && same-itself k.1 i
 
     pub new-made : now ≡ mids ++ note ∷ [] → HasMade d d' old new w r l true false k before now (Ready f)
     new-made notes = taken-made d d' old mid new w r l None before mids now k f note false h s
