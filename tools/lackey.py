@@ -14,7 +14,8 @@ from typing import Iterator, TextIO
 from faults import ON_CLOCK, TAIL
 from ranges import PAGE, Ranges, up
 
-# so many pages are remembered: an access to one of them isn't told again, until it has made way
+# so many pages are remembered, where nobody says otherwise: an access to one of them isn't told
+# again, until it has made way
 NEAR = 8
 CALL = re.compile(
     r"SYSCALL\[\d+,(\d+)\]\( *(\d+)\) (?:sys_)?(\w+) \( ?(.*?) ?\)"
@@ -40,8 +41,8 @@ class Lackey:
     where it is left.
     """
 
-    def __init__(self, program: str, log: str, faults: str):
-        self.program, self.files_left = program, contextlib.ExitStack()
+    def __init__(self, program: str, log: str, faults: str, most_near: int):
+        self.program, self.most_near, self.files_left = program, most_near, contextlib.ExitStack()
         self.log, self.faults = self.opened(log), self.opened(faults)
         self.time = self.accesses = self.forks = 0
         self.mapped, self.heap = Ranges(), 0
@@ -106,7 +107,7 @@ class Lackey:
             self.outside.add(page)
             return
         self.near[page] = self.near.pop(page, False) or is_write
-        if len(self.near) > NEAR:
+        if len(self.near) > self.most_near:
             self.near.popitem(last=False)
         code = 6 if is_write else 4
         event = f"exceptions:page_fault_user: address=0x{at:x} ip=0x0 error_code=0x{code:x}"
