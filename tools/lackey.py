@@ -21,7 +21,9 @@ CALL = re.compile(
     r"SYSCALL\[\d+,(\d+)\]\( *(\d+)\) (?:sys_)?(\w+) \( ?(.*?) ?\)"
     r"(?: -->)? ?\[(\w+(?:-\w+)?)\](?: -->)?(?: Success\(0x([0-9a-f]+)\))?.*"
 )
-RETURNS = re.compile(r"SYSCALL\[\d+,(\d+)\]\( *\d+\) \.\.\. \[async\] --> Success\(0x([0-9a-f]+)\).*")
+RETURNS = re.compile(
+    r"SYSCALL\[\d+,(\d+)\]\( *\d+\) \.\.\. \[async\] --> Success\(0x([0-9a-f]+)\).*"
+)
 PATH = re.compile(r"0x[0-9a-f]+\((.*)\), \S+(?:, \S+)?")
 PROTECTIONS = {1: "PROT_READ", 2: "PROT_WRITE", 4: "PROT_EXEC"}
 MAP = {1: "MAP_SHARED", 2: "MAP_PRIVATE", 16: "MAP_FIXED", 32: "MAP_ANONYMOUS"}
