@@ -19,8 +19,9 @@ IN_SWAP = "the model has the page in a slot"
 NO_FRAME = "the model has no frame for it, or its device failed"
 LIMIT = "the model has as many processes as it takes"
 LOST = "its process went another way before, in line {}"
-LEFT_OUT = "a copy of its process lacks pages, by their advice"
 CHANGES = "and other pages are mapped then"
+# the flag of an area whose pages a copy doesn't get, in smaps
+LEFT_OUT = "dc"
 # how often frames are looked at, which the kernel may move meanwhile
 TRIES = 3
 
@@ -202,6 +203,8 @@ class Beside:
     def ask_carefully(self, line: Line, rows: list[Row]) -> Difference | None:
         """A line that Linux may answer otherwise: of a copy of its process first."""
         process = self.kernel.process(line.process)
+        if any(LEFT_OUT in it.flags for it in self.kernel.areas(process, "smaps")):
+            return self.ask_itself(process, line, rows)
         linux, changes = self.ask_copy(process, line)
         if linux != line.said:
             row = next((it for it in rows if it.says(line, linux)), None)
@@ -214,6 +217,18 @@ class Beside:
         linux = self.kernel.call(process, line.words, line.said)
         return None if linux == line.said else Difference(line, [line.said], [linux], None)
 
+    def ask_itself(self, process: Stub, line: Line, rows: list[Row]) -> Difference | None:
+        """A line of a process of which a copy wouldn't have all pages. Where Linux answers
+        otherwise, or may have changed something, it goes another way from then on.
+        """
+        linux = self.kernel.call(process, line.words, line.said)
+        row = next((it for it in rows if it.says(line, linux)), None)
+        if linux != line.said and line.place >= 0 and linux.startswith("err "):
+            self.mend(line, process, row)
+        elif linux != line.said or line.place < 0 and any(it.changes for it in rows):
+            self.lost[line.process] = line.number
+        return Difference(line, [line.said], [linux], row) if linux != line.said else None
+
     def ask_copy(self, process: Stub, line: Line) -> tuple[str, bool]:
         """What a copy of a process answers, and whether other pages are mapped then."""
         copy = process.fork()
@@ -221,8 +236,6 @@ class Beside:
             raise Refused(f"a process can't be forked: error {-copy} (see ulimit -u)")
         before = maps_of(self.kernel.areas(copy))
         try:
-            if before != maps_of(self.kernel.areas(process)):
-                raise NotAsked(LEFT_OUT)
             linux = self.kernel.call(copy, line.words, line.said)
             return linux, maps_of(self.kernel.areas(copy)) != before
         except Gone:
@@ -244,7 +257,7 @@ class Beside:
         self.passed.setdefault(why, collections.Counter())[line.name] += 1
         changes = line.name in ("write", "mmap", "munmap", "mprotect", "mremap", "madvise")
         is_refused = line.said.startswith("err ") and line.name not in ("mprotect", "madvise")
-        if why in (GAP, WIDE, LEFT_OUT) and changes and not is_refused:
+        if why in (GAP, WIDE) and changes and not is_refused:
             self.lost[line.process] = line.number
 
     def follow(self, line: Line) -> None:

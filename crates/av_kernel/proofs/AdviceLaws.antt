@@ -6,6 +6,7 @@ use Rattle.std.specs.Prelude.{MatchOption}
 use Rattle.av_base.specs.Page.{page_of, pages_of}
 use Rattle.av_base.specs.Words.{with_at, within}
 use Rattle.av_base.specs.declared.flags.Flag.{Flag}
+use Rattle.av_base.specs.declared.flags.Flags.{Flags}
 use Rattle.av_vma.specs.declared.area.Area.{Area}
 use Rattle.av_vma.specs.Pages.{to_flag}
 use Rattle.av_anon.specs.declared.anons.Anons.{Anons as AnonSet}
@@ -117,18 +118,18 @@ locked-leads q from (suc n) (suc k) most unlocked ends =
 -- a page is locked as its area is
 unlocked_is : {d : Device} (k : Mem) (s : State) (p page : ℕ) → Keeps d k s
     → is_locked_page (pages s.world p page) ≡ not (is_unlocked k.spaces.processes p page)
-unlocked_is k s p page keeps = by (areas_on k.spaces.processes p page) (pages s.world p page) (marks_kept k s keeps p page)
+unlocked_is k s p page keeps = by (areas_on k.spaces.processes p page) (pages s.world p page) (keeps.stands.parts.areas.flags p page)
   where
     twice : (b : Bool) → b ≡ not (not b)
     twice true = refl
     twice false = refl
 
-    by : (o : Option Area) (x : Option Page) → option_map (λ (area : Area). (area.prot, area.flags)) o ≡ option_map page_marks x
+    by : (o : Option Area) (x : Option Page) → option_map (λ (area : Area). area.flags) o ≡ option_map (λ (x : Page). x.flags) x
         → is_locked_page x ≡ not (option_map_or (λ (area : Area). not area.flags.locked) o true)
     by None None e = refl
     by None (Some x) e = cc
     by (Some area) None e = cc
-    by (Some area) (Some x) e = let same : area.flags ≡ x.flags = cc in ap (λ flags. flags.locked) (sym same) ∙ twice area.flags.locked
+    by (Some area) (Some x) e = let same : area.flags ≡ x.flags = cc in ap (λ (flags : Flags). flags.locked) (sym same) ∙ twice area.flags.locked
 
 unlocked-leads : {d : Device} (k : Mem) (s : State) (p from n locked : ℕ) → Keeps d k s
     → GoesTo (is_unlocked k.spaces.processes p) from (from + n) locked → pages_to_locked (pages s.world p) from n ≡ locked - from
