@@ -41,7 +41,7 @@ use Rattle.av_access.specs.declared.access.Piece.{Piece}
 use Rattle.av_access.proofs.AccessPages.{touches, touched-one, touched-more}
 use Rattle.av_access.proofs.AccessLoads.{AreOwnLoads, IsApart, loads-shows, loads-stored, own-events, with_loads-append}
 use Rattle.av_access.proofs.AccessBytes.{reads-more, stored_twice, allowed-stored, lives-stored, locked-stored}
-use Rattle.av_plain.proofs.Wrote.{same-on, wrote-notes}
+use Rattle.av_plain.proofs.Wrote.{device-on, wrote-notes}
 
 -- ---- the memories after a part of an access
 
@@ -236,7 +236,7 @@ module _ {d d' : Device} (s : State) (mid new : Mem) (write : Bool) (p a k page 
         setting-same g.free
 
     device-same : IsSameDevice d d''
-    device-same = same-on d d' d'' h.same g.same
+    device-same = device-on d d' d'' h.same g.same
 
     wrote-both : Wrote (pages_written (notes_of (h.events ++ here))) d.history d''.history
     wrote-both = subst (λ ns. Wrote (pages_written ns) d.history d''.history) (sym (notes_of-append h.events here))

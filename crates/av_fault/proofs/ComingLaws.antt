@@ -62,7 +62,7 @@ use Rattle.av_fault.proofs.Between.{SaysAsMuch, between-some, bytes-move, fit-st
 use Rattle.av_fault.proofs.Done.{done-by, done-none, done-then, rose-none, rose-then}
 use Rattle.av_fault.proofs.Run.{run-done, run-none, run-then}
 use Rattle.av_fault.proofs.SeekLaws.{free-some}
-use Rattle.av_plain.proofs.Wrote.{same-itself, same-on, wrote-none}
+use Rattle.av_plain.proofs.Wrote.{device-itself, device-on, wrote-none}
 
 -- ---- notes that are no failed write
 
@@ -203,7 +203,7 @@ module _ (d d1 : Device) (old mid : Mem) (w : World) (r : Rmap) (l : Ledger) (q 
         })
 
     lost-done : HasDone d d2 old new w r l sought_events
-    lost-done = done-by d d2 old new w w1 r r1 l l1 sought_events refl refl refl (same-on d d1 d2 sought.done.same same)
+    lost-done = done-by d d2 old new w w1 r r1 l l1 sought_events refl refl refl (device-on d d1 d2 sought.done.same same)
         (subst (λ h. Wrote (pages_written (notes_of sought_events)) d.history h) (sym asked) sought.done.wrote)
         (parts.count ∙ sought.done.count)
         (subst (λ m. Amid m (held_by d2 new w1 r1 l1)) (setting-stays d d1 old mid sought.done.same sought.done.count) moved)
@@ -259,7 +259,7 @@ module _ (d d1 : Device) (old mid : Mem) (w : World) (r : Rmap) (l : Ledger) (q 
         (load-sound m1 no_excuse l1 between.sound f s (uncached-may_load m1 no_excuse l1 between.sound f s out_now first.free)
         (named-slot l1 q s at_now) first.below))
         (seen-loaded d1 None mid w1 r1 l1 no_excuse between.sound between.serves q s at_now out_now home home_now new pages f homed is_home load got)
-        refl refl refl refl (same-itself d1) (wrote-none d1.history) parts.count (fit-stays d1 d1 mid new (same-itself d1) parts (to-fit d1 mid w1 r1 l1 between))
+        refl refl refl refl (device-itself d1) (wrote-none d1.history) parts.count (fit-stays d1 d1 mid new (device-itself d1) parts (to-fit d1 mid w1 r1 l1 between))
 
     abbrev added : List Note
     added = sought.added ++ Loaded s f ∷ []
@@ -438,7 +438,7 @@ module _ (d d1 : Device) (old mid : Mem) (w : World) (r : Rmap) (l : Ledger) (q 
         (map-sound mf no_excuse lf fetched.sound q.0 (address_of q.1) f s at_address is_there.cached))
         (seen-mapped d1 None mid wf rf lf no_excuse fetched.sound fetched.serves q s is_there.at f is_there.cached new now_seen) refl refl
         (sym (without-loads mf wf lf (Noted note ∷ []) refl)) refl
-        (same-itself d1) (wrote-none d1.history) parts.count (fit-stays d1 d1 mid new (same-itself d1) parts (to-fit d1 mid wf rf lf fetched))
+        (device-itself d1) (wrote-none d1.history) parts.count (fit-stays d1 d1 mid new (device-itself d1) parts (to-fit d1 mid wf rf lf fetched))
 
     comes_in : ComesIn (setting_by d old) (sparing w) l q (need_of_slot s (frame_at l s)) (came.added ++ note ∷ [])
     comes_in = by (frame_at l s) came.comes

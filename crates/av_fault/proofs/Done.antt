@@ -9,14 +9,14 @@ use Rattle.av_plain.specs.Ledger.{Ledger, Setting}
 use Rattle.av_plain.specs.Load.{after_load, after_loads, with_loads}
 use Rattle.av_plain.specs.Stands.{free_of}
 use Rattle.av_plain.specs.World.{World}
-use Rattle.av_plain.proofs.Access.{after_all-append, chooses-append}
+use Rattle.av_plain.proofs.Access.{after_all-append, chooses-append, notes_of-append}
 use Rattle.av_plain.proofs.AreasLeft.{rmap_after_all-append}
 use Rattle.av_mem.specs.declared.mem.Mem.{Mem}
 use Rattle.av_mem.specs.Mem.{frame_count, held_by, setting_by, view}
 use Rattle.av_mem.specs.Between.{HasDone, KeepsBetween}
 use Rattle.av_fault.proofs.Amid.{Amid}
 use Rattle.av_fault.proofs.Between.{PartsFit, of-amid, setting-stays}
-use Rattle.av_plain.proofs.Wrote.{same-itself, same-on, wrote-none, wrote-notes}
+use Rattle.av_plain.proofs.Wrote.{device-itself, device-on, wrote-none, wrote-notes}
 use Rattle.av_plain.specs.Pass.{pages_written}
 
 -- ---- the memories
@@ -57,7 +57,7 @@ pub done-none : (d : Device) (k : Mem) (w : World) (r : Rmap) (l : Ledger) → K
 done-none d k w r l h = record {
   between = subst (λ x. KeepsBetween d k x r l) (sym (by (is_some (setting_by d k).headers))) h;
   free = refl;
-  same = same-itself d;
+  same = device-itself d;
   wrote = wrote-none d.history;
   count = refl;
 }
@@ -84,7 +84,7 @@ module _ (d d' d'' : Device) (old mid new : Mem) (w : World) (r : Rmap) (l : Led
         (sym (after_all-append l es fs)) b.between));
     free = chooses-append (setting_by d old) None l es fs (free_of (view old)) (free_of (view mid)) (free_of (view new)) a.free
         (subst (λ m. ChoosesAll m None (after_all l es) fs (free_of (view mid)) (free_of (view new))) same-setting b.free);
-    same = same-on d d' d'' a.same b.same;
+    same = device-on d d' d'' a.same b.same;
     wrote = subst (λ ns. Wrote (pages_written ns) d.history d''.history) (sym (notes_of-append es fs))
         (wrote-notes d.history d'.history d''.history (notes_of es) (notes_of fs) a.wrote b.wrote);
     count = b.count ∙ a.count;

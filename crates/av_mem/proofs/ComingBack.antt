@@ -10,7 +10,7 @@ use Rattle.av_trace.specs.declared.note.Note.TheVariants.{Loaded, Mapped}
 use Rattle.av_vma.specs.Pages.{home_of}
 use Rattle.av_plain.specs.Areas.{Rmap, home_for, rmap_after_note}
 use Rattle.av_plain.specs.Choice.{ListsFree}
-use Rattle.av_plain.proofs.Wrote.{same-told, some-same}
+use Rattle.av_plain.proofs.Wrote.{device-told, some-same}
 use Rattle.av_plain.specs.Device.{Device, IsSameDevice, as_told}
 use Rattle.av_plain.specs.Event.{Noted, after_note, key_at}
 use Rattle.av_plain.specs.Ledger.{InSlot, Key, Ledger, Setting, entry, frame_at, keys_of_slot, map_count}
@@ -47,7 +47,7 @@ got-told true d s page holds = by d.pages holds
 -- after a call that changes nothing of it but how often it failed
 pub seen-same : (told : Bool) (d d' : Device) → d'.sizes ≡ d.sizes → d'.pages ≡ d.pages → d.failures ≤ d'.failures → d'.history ≡ d.history
     → IsSameDevice (as_told told d) (as_told told d')
-seen-same told d d' sizes pages failures asked = same-told told d d' (record {
+seen-same told d d' sizes pages failures asked = device-told told d d' (record {
   sizes = sizes;
   first = ap (option_map {U = ℕ → List ℕ} (λ (t : ℕ → ℕ → List ℕ) k. t k 0)) pages;
   failures = failures;

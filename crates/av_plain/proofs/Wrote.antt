@@ -49,11 +49,11 @@ some-one a b s low is = record { pages = s ∷ []; wrote = wrote-one a b s is; b
 
 -- ---- one device
 
-pub same-itself : (d : Device) → IsSameDevice d d
-same-itself d = record { sizes = refl; first = refl; failures = omega arith; history = some-none d.history }
+pub device-itself : (d : Device) → IsSameDevice d d
+device-itself d = record { sizes = refl; first = refl; failures = omega arith; history = some-none d.history }
 
-pub same-on : (a b c : Device) → IsSameDevice a b → IsSameDevice b c → IsSameDevice a c
-same-on a b c p q = record {
+pub device-on : (a b c : Device) → IsSameDevice a b → IsSameDevice b c → IsSameDevice a c
+device-on a b c p q = record {
   sizes = q.sizes ∙ p.sizes;
   first = q.first ∙ p.first;
   failures = let x = p.failures in let y = q.failures in omega (arith, x, y);
@@ -61,9 +61,9 @@ same-on a b c p q = record {
 }
 
 -- so it is of one that doesn't tell its pages
-pub same-told : (told : Bool) (d d' : Device) → IsSameDevice d d' → IsSameDevice (as_told told d) (as_told told d')
-same-told true d d' same = same
-same-told false d d' same = record { sizes = same.sizes; first = refl; failures = same.failures; history = same.history }
+pub device-told : (told : Bool) (d d' : Device) → IsSameDevice d d' → IsSameDevice (as_told told d) (as_told told d')
+device-told true d d' same = same
+device-told false d d' same = record { sizes = same.sizes; first = refl; failures = same.failures; history = same.history }
 
 -- ---- what notes tell
 

@@ -28,7 +28,7 @@ use Rattle.av_mem.proofs.ServesLaws.{anons-fit, lists-fit, setting-stays, swap-f
 use Rattle.av_reclaim.specs.Driver.{closing_of, end_of, view_of}
 use Rattle.av_reclaim.proofs.OneNote.{one-still, step-stays}
 use Rattle.av_reclaim.proofs.StepMakes.{by-view, same-world}
-use Rattle.av_plain.proofs.Wrote.{some-same, wrote-none, wrote-one, same-itself}
+use Rattle.av_plain.proofs.Wrote.{some-same, wrote-none, wrote-one, device-itself}
 
 abbrev pub ends_of : Option Finished → Option WriteEnd
 ends_of None = None
@@ -89,7 +89,7 @@ serves-same : (d : Device) (old new : Mem) (w : World) (r : Rmap) (l : Ledger) �
     → Serves d (closing_of old) old w r l → Serves d (closing_of new) new w r l
 serves-same d old new w r l is parts h =
     let m = setting_by d old in
-    let same : setting_by d new ≡ m = setting-stays old new parts d d (same-itself d) in
+    let same : setting_by d new ≡ m = setting-stays old new parts d d (device-itself d) in
     subst (λ c. Serves d c new w r l) (sym parts.swap.closing) (record {
       held = subst (λ m. IsHeld m (held_by d new w r l)) (sym same)
           (subst (λ (v : View). IsHeld m (record { view = v; device = d; world = w; ledger = l; rmap = r })) (sym is) h.held);
@@ -105,7 +105,7 @@ serves-same d old new w r l is parts h =
       items = parts.items ∙ h.items ∙ sym parts.count;
       tables = tables-fit old new parts h.tables;
       fit = anons-fit old new parts h.fit;
-      swap = swap-fits old new parts d d (closing_of old) (same-itself d) h.swap;
+      swap = swap-fits old new parts d d (closing_of old) (device-itself d) h.swap;
     })
 
 -- nor does what the device does that only makes it fail oftener
@@ -128,7 +128,7 @@ none-moved names d d' old new Ready same wrote move is parts = λ l sound stood 
 pub none-makes : (names : List ℕ) (d d' : Device) (old new : Mem) (Ready : Ledger → Type 0) → d' ≡ d → view new ≡ view old → KeepsParts old new
     → Makes (view_of names d old) (view_of names d' new) Ready []
 none-makes names d d' old new Ready same is parts = subst (λ d'. Makes (view_of names d old) (view_of names d' new) Ready []) (sym same)
-    (none-moved names d d old new Ready (same-itself d) (wrote-none d.history) (λ w r l c. c) is parts)
+    (none-moved names d d old new Ready (device-itself d) (wrote-none d.history) (λ w r l c. c) is parts)
 
 -- ---- the first write in flight ends, if there is one
 

@@ -37,7 +37,7 @@ use Rattle.av_reclaim.specs.Driver.{closing_of, view_of}
 use Rattle.av_reclaim.proofs.FinishMakes.{none-makes}
 use Rattle.av_reclaim.proofs.OneNote.{one-still}
 use Rattle.av_reclaim.proofs.StepMakes.{by-view, same-world, stands-still}
-use Rattle.av_plain.proofs.Wrote.{wrote-none, same-itself}
+use Rattle.av_plain.proofs.Wrote.{wrote-none, device-itself}
 
 -- ---- the swap area that gives
 
@@ -192,7 +192,7 @@ put-makes names d old new f (Some s) h parts = λ l sound stood may.
     let gives = may-be-given d old stood.0 stood.1 l stood.2 s h.rest h.area h.slot in
     one-still names d d old new l (Put f s) (record { sound = sound; world = stood.0; rmap = stood.1; serves = stood.2 }) (record {
       parts = parts;
-      same = same-itself d;
+      same = device-itself d;
       lawful = (gives, used);
       brings = λ w r c. tt;
       still = tt;

@@ -33,7 +33,7 @@ use Rattle.av_mem.specs.Steps.{KeepsParts}
 use Rattle.av_mem.specs.declared.mem.Mem.{Mem}
 use Rattle.av_reclaim.specs.Driver.{closing_of, view_of}
 use Rattle.av_reclaim.proofs.OneNote.{one-still, step-stays}
-use Rattle.av_plain.proofs.Wrote.{wrote-none, same-itself}
+use Rattle.av_plain.proofs.Wrote.{wrote-none, device-itself}
 
 -- ---- words on a step
 
@@ -43,7 +43,7 @@ same-world false w = refl
 
 -- a step of the memory system alone changes none of what stays
 pub mem-stays : (names : List ℕ) (d : Device) (old new : Mem) → KeepsParts old new → Stays (view_of names d old) (view_of names d new)
-mem-stays names d old new parts = step-stays names d d old new parts (same-itself d)
+mem-stays names d old new parts = step-stays names d d old new parts (device-itself d)
 
 pub stands-still : (a : ℕ) → min (a + 0) (2 ^ 64 - 1) ≤ a
 stands-still a = omega arith
@@ -110,7 +110,7 @@ pub keep-makes : (names : List ℕ) (d : Device) (old new : Mem) (f : ℕ) (caus
 keep-makes names d old new f cause is parts = λ l sound stood may. one-still names d d old new l (Kept f cause)
     (record { sound = sound; world = stood.0; rmap = stood.1; serves = stood.2 }) (record {
       parts = parts;
-      same = same-itself d;
+      same = device-itself d;
       lawful = (tt, tt);
       brings = λ w r c. tt;
       still = tt;
@@ -124,7 +124,7 @@ pub age-makes : (names : List ℕ) (d : Device) (old new : Mem) (f : ℕ) → vi
 age-makes names d old new f is parts = λ l sound stood may. one-still names d d old new l (Aged f)
     (record { sound = sound; world = stood.0; rmap = stood.1; serves = stood.2 }) (record {
       parts = parts;
-      same = same-itself d;
+      same = device-itself d;
       lawful = (tt, tt);
       brings = λ w r c. tt;
       still = tt;
@@ -141,7 +141,7 @@ pub start-makes : (names : List ℕ) (d : Device) (old new : Mem) (s : Slot) →
 start-makes names d old new s is parts = λ l sound stood may. let at = frame-of s l may.cached in
     one-still names d d old new l (Started s) (record { sound = sound; world = stood.0; rmap = stood.1; serves = stood.2 }) (record {
       parts = parts;
-      same = same-itself d;
+      same = device-itself d;
       lawful = (tt, tt);
       brings = λ w r c. tt;
       still = tt;
@@ -166,7 +166,7 @@ pub drop-makes : (names : List ℕ) (d : Device) (old new : Mem) (s : Slot) → 
 drop-makes names d old new s is parts = λ l sound stood may. let at = frame-of s l may.cached in
     one-still names d d old new l (Dropped s) (record { sound = sound; world = stood.0; rmap = stood.1; serves = stood.2 }) (record {
       parts = parts;
-      same = same-itself d;
+      same = device-itself d;
       lawful = (tt, tt);
       brings = λ w r c. tt;
       still = tt;
@@ -199,7 +199,7 @@ pub unmap-makes : (names : List ℕ) (d : Device) (old new : Mem) (f : ℕ) (s :
 unmap-makes names d old new f s at is parts = λ l sound stood may.
     one-still names d d old new l (Unmapped f) (record { sound = sound; world = stood.0; rmap = stood.1; serves = stood.2 }) (record {
       parts = parts;
-      same = same-itself d;
+      same = device-itself d;
       lawful = (tt, tt);
       brings = λ w r c. tt;
       still = tt;

@@ -87,17 +87,20 @@ module _ (names : List (List ℕ)) (k : ℕ) (old mid new : History) (begun : Be
     attached = ap (λ (h : History). h.attached) is ∙ ap (λ l. l ++ one k name true ∷ []) begun.attached
         ∙ append_assoc old.attached (attached_from 0 (take k names)) (one k name true ∷ [])
         ∙ ap (λ l. old.attached ++ l) (sym (ap (attached_from 0) (take-next names k name at) ∙ from-push 0 (take k names) name
-        ∙ ap (λ n. attached_from 0 (take k names) ++ one n name true ∷ []) (take-long names k few)));
+        ∙ ap (λ n. attached_from 0 (take k names) ++ one n name true ∷ []) so_many));
     written = ap (λ (h : History). h.written) is ∙ begun.written;
   }
+    where
+      so_many : 0 + length (take k names) ≡ k
+      so_many = let long = take-long names k few in omega (arith, long)
 
   -- all so far went well
   pub tries-well : new ≡ mid → Tries names k None old new
   tries-well is = record {
     well = take k names;
     rest = drop k names;
-    names = sym (take-append-drop k names);
-    count = take-long names k few;
+    tried = sym (take-append-drop k names);
+    many = take-long names k few;
     attached = ap (λ (h : History). h.attached) is ∙ begun.attached ∙ ap (λ l. old.attached ++ l) (sym (append-nil (attached_from 0 (take k names))));
     written = ap (λ (h : History). h.written) is ∙ begun.written;
   }
@@ -107,8 +110,8 @@ module _ (names : List (List ℕ)) (k : ℕ) (old mid new : History) (begun : Be
   tries-failed name at is = record {
     well = take k names;
     rest = drop (suc k) names;
-    names = cut-at names k name at;
-    count = take-long names k few;
+    tried = cut-at names k name at;
+    many = take-long names k few;
     attached = ap (λ (h : History). h.attached) is ∙ ap (λ l. l ++ one k name false ∷ []) begun.attached
         ∙ append_assoc old.attached (attached_from 0 (take k names)) (one k name false ∷ []);
     written = ap (λ (h : History). h.written) is ∙ begun.written;

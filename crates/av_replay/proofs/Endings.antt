@@ -21,7 +21,7 @@ use Rattle.av_ports.proofs.Bytes.{Took-none, Took-ahead, Gained-none}
 use Rattle.av_ports.proofs.Times.{failed_since, read_fault_since, flushed_none, only_sink}
 use Rattle.av_replay.proofs.Calls.{handed_on}
 use Rattle.av_replay.proofs.Runs.{rose_none, rose_on, Past, whole, SoFar, longer, next_answers, read_more, wrote_more, device_more, failures_more, legal_more, kernel_more, text_more, all_push, Transcribes-push, joined-push, asked_more}
-use Rattle.av_plain.proofs.Wrote.{same-itself, same-on, wrote-none, wrote-same, wrote-then}
+use Rattle.av_plain.proofs.Wrote.{device-itself, device-on, wrote-none, wrote-same, wrote-then}
 use Rattle.av_base.specs.declared.slot.Slot.{Slot}
 use Rattle.av_swapdev.specs.Device.{History}
 
@@ -88,7 +88,7 @@ waited n past ahead rest old now new k so_far few reads = record {
   asked = wrote-then old.device.history now.device.history new.device.history (pages_of_run past.transcript) reads.device.history.pages
       so_far.asked reads.device.history.wrote;
   wrote = subst (λ (h : Option (List ℕ)). Gained old.sink.held h (text_of_run past.transcript)) (sym reads.held) so_far.wrote;
-  device = same-on old.device now.device new.device so_far.device reads.device;
+  device = device-on old.device now.device new.device so_far.device reads.device;
 }
 
 pub stops : (n : ℕ) (past : Past) (ahead rest : List ℕ) (old now new : PortsView) (k k' : Machine) → SoFar n past ahead old now k →
@@ -374,7 +374,7 @@ nothing_done n ports = record {
       untold = [];
       asked = wrote-none ports.device.history;
       wrote = Gained-none ports.sink.held;
-      device = same-itself ports.device;
+      device = device-itself ports.device;
     };
     ends = inl refl;
     told = λ other. refl;

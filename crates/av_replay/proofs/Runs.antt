@@ -23,7 +23,7 @@ use Rattle.av_replay.specs.Replay.{all_lines, Transcribes, Run, IsHandedBack, Is
 use Rattle.av_ports.proofs.Bytes.{Took-then, Took-none, Gained-then, Gained-none}
 use Rattle.av_plain.proofs.Device.{setting_same}
 use Rattle.av_ports.proofs.Times.{unfailed_then}
-use Rattle.av_plain.proofs.Wrote.{same-itself, same-on, wrote-none, wrote-then}
+use Rattle.av_plain.proofs.Wrote.{device-itself, device-on, wrote-none, wrote-then}
 use Rattle.av_plain.specs.Pass.{pages_written}
 use Rattle.av_base.specs.declared.slot.Slot.{Slot}
 
@@ -121,7 +121,7 @@ starts ahead now kernel none start = record {
     unspent = start.unspent;
     attached = start.attached;
   };
-  device = same-itself now.device;
+  device = device-itself now.device;
   unfailed = record { source = refl; sink = refl };
   stays_open = λ untold. untold;
 }
@@ -145,7 +145,7 @@ module _ (n : ℕ) (past : Past) (ahead : List ℕ) (old now new : PortsView) (k
   wrote_more = Gained-then _ _ _ _ _ so_far.wrote takes.gained
 
   pub device_more : IsSameDevice old.device new.device
-  device_more = same-on old.device now.device new.device so_far.device takes.device
+  device_more = device-on old.device now.device new.device so_far.device takes.device
 
   pub legal_more : IsRun (setting_of n old.device) (at_first (setting_of n old.device)) (past.transcript ++ option_to_list next_answers.did)
       next_answers.next

@@ -35,8 +35,8 @@ pub record Tries (names : List (List ℕ)) (count : ℕ) (failed : Option (List 
     : Type 0 where
   pub well : List (List ℕ)
   pub rest : List (List ℕ)
-  pub names : names ≡ well ++ (option_to_list failed ++ rest)
-  pub count : length well ≡ count
+  pub tried : names ≡ well ++ (option_to_list failed ++ rest)
+  pub many : length well ≡ count
   pub attached : new.attached
       ≡ old.attached ++ (attached_from 0 well ++ not_attached count failed)
   pub written : new.written ≡ old.written

@@ -60,7 +60,7 @@ use Rattle.av_mem.proofs.KeepsLaws.{fits-kept}
 use Rattle.av_mem.proofs.MemLaws.{alive_is, lives_is}
 use Rattle.av_mem.proofs.SwapAreas.{areas-kept}
 use Rattle.av_step.proofs.CacheLeft.{KeepsCached, bytes-left}
-use Rattle.av_plain.proofs.Wrote.{same-itself, wrote-none}
+use Rattle.av_plain.proofs.Wrote.{device-itself, wrote-none}
 
 pub at_number : (q p : ℕ) → eq_by_cmp nat_cmp q p ≡ (q == p)
 at_number q p = grind (arith, nat_tests)
@@ -177,7 +177,7 @@ beside old new command result unused does d = record {
     next = h.next;
     step = h.step;
     keeps = h.keeps;
-    same = same-itself d;
+    same = device-itself d;
     wrote = subst (λ ps. Wrote ps d.history d.history)
         (sym (unused-writes (setting_by d old) s.world s.ledger command reply h.step.events unused h.step.legal)) (wrote-none d.history);
     failures = none_rose (causes reply) d.failures
@@ -186,7 +186,7 @@ beside old new command result unused does d = record {
   steady = λ steady. let untold = device_by d.sizes None steady.0 in
       reply-so (reply_of result) (StepsBeside untold old new steady.1 command) (λ reply. IsSteadyAt d.sizes new)
       (λ reply h. (steady.0, h.next, h.keeps)) (does.step untold steady.1 steady.2);
-  same = same-itself d;
+  same = device-itself d;
   count = does.count;
 }
 
@@ -200,12 +200,12 @@ refused-over k command error mild is d = record {
     next = h.next;
     step = h.step;
     keeps = h.keeps;
-    same = same-itself d;
+    same = device-itself d;
     wrote = wrote-none d.history;
     failures = none_rose (causes (answer_only (Refused error))) d.failures (ap (λ n. max (fails []) 0 + n) mild);
   };
   steady = λ steady. steady;
-  same = same-itself d;
+  same = device-itself d;
   count = refl;
 }
 

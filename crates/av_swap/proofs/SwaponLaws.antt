@@ -51,7 +51,7 @@ use Rattle.av_step.specs.declared.refusal.Refusal.TheVariants as refusals
 use Rattle.av_step.proofs.Loads.{world_as}
 use Rattle.av_swapoff.proofs.CloseLaws.{on-shown, with_swap}
 use Rattle.av_step.proofs.StepLaws.{is_number, refused, rmap_kept}
-use Rattle.av_plain.proofs.Wrote.{same-itself, some-same, wrote-none, wrote-same}
+use Rattle.av_plain.proofs.Wrote.{device-itself, some-same, wrote-none, wrote-same}
 
 -- ---- the tests
 
@@ -89,12 +89,12 @@ refused-none k area priority d none = record {
     next = h.next;
     step = h.step;
     keeps = h.keeps;
-    same = same-itself d;
+    same = device-itself d;
     wrote = wrote-none d.history;
     failures = still d.failures;
   };
   steady = λ steady. steady;
-  same = same-itself d;
+  same = device-itself d;
   count = refl;
 }
   where

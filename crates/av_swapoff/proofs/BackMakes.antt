@@ -35,7 +35,7 @@ use Rattle.av_reclaim.proofs.OneNote.{one-does, one-still, world_with}
 use Rattle.av_reclaim.proofs.ReadLaws.{free-first}
 use Rattle.av_reclaim.proofs.StepMakes.{by-view, frame-found, same-world, stands-still}
 use Rattle.av_swapoff.specs.System.{MayLoad, MayMap, load_notes}
-use Rattle.av_plain.proofs.Wrote.{wrote-none, wrote-same, same-itself}
+use Rattle.av_plain.proofs.Wrote.{wrote-none, wrote-same, device-itself}
 
 -- ---- what is in use
 
@@ -52,7 +52,7 @@ map-makes names d old new q s f is parts = λ l sound stood may.
     one-still names d d old new l (Mapped q.0 (address_of q.1) f)
     (record { sound = sound; world = stood.0; rmap = stood.1; serves = stood.2 }) (record {
       parts = parts;
-      same = same-itself d;
+      same = device-itself d;
       lawful = (tt, back-used d (closing_of old) old stood.0 stood.1 l any_slot sound stood.2 q s may.named f may.cached);
       brings = λ w r c. c.at_pages q.0 (page_of (address_of q.1))
           (ap is_some (back-at d (closing_of old) old w r l any_slot sound c q s may.named f may.cached));
@@ -87,7 +87,7 @@ loaded-makes : (names : List ℕ) (d : Device) (old new : Mem) (q : Key) (s : Sl
 loaded-makes names d old new q s f home homed pages at is load got parts = λ l sound stood may.
     one-does names d d old new l (Loaded s f) (record { sound = sound; world = stood.0; rmap = stood.1; serves = stood.2 }) (record {
       parts = parts;
-      same = same-itself d;
+      same = device-itself d;
       lawful = (named-slot l q s may.named, tt);
       brings = λ w r c. tt;
       still = tt;

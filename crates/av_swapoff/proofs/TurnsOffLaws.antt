@@ -13,7 +13,7 @@ use Rattle.av_trace.specs.declared.note.Note.TheVariants.{Aged, Copied, Dropped,
 use Rattle.av_plain.specs.Areas.{Rmap, rmap_after_all}
 use Rattle.av_plain.specs.Choice.{Chooses, ChoosesAll}
 use Rattle.av_plain.specs.Device.{Device, as_told, setting_of, Wrote}
-use Rattle.av_plain.specs.Event.{Event, TurnedOff, after, after_all, after_note, after_notes, change_entries, if_some, key_at, note_events, off_cache, off_flight, to_inactive_tail}
+use Rattle.av_plain.specs.Event.{Event, TurnedOff, after, after_all, after_note, after_notes, change_entries, if_some, key_at, note_events, off_cache, off_flight, to_inactive_tail, notes_of}
 use Rattle.av_plain.specs.Ledger.{InSlot, Ledger, Setting, SwapArea, frame_at, slot_count, slot_entries, slot_of, slots_in_use}
 use Rattle.av_plain.specs.Load.{after_load, after_loads, with_loads}
 use Rattle.av_plain.specs.Sound.{AllSound, IsSound, count}

@@ -5,7 +5,7 @@ use Rattle.av_access.specs.Access.{IsRead}
 use Rattle.av_step.specs.Step.{IsSteadyFor}
 use Rattle.av_access.proofs.AccessParts.{none_left, piece-within, piece-ends, read-served, read-stopped}
 use Rattle.av_access.proofs.access.read_pieces.Goals as goal
-use Rattle.av_plain.proofs.Wrote.{same-on}
+use Rattle.av_plain.proofs.Wrote.{device-on}
 
 pub read_page-requires-clause-steady : goal.read_page-requires-clause-steady
 read_page-requires-clause-steady g c = subst (λ sizes. IsSteadyFor sizes c.args.process c.loop-done.mem) (sym c.loop-done.invariant.same.sizes)
@@ -35,7 +35,7 @@ loop-done-preserved g c =
           c.read_page.ensures.count c.next_piece-piece.ensures c.loop-done-test.true c.loop-done.invariant.begins h
           (rw (none_left c.in_ok-stop.field-0 c.in_default.not-Some) at (c.in_ok-stop.ensures.step h.access.next h.access.keeps));
       steady = subst (λ sizes. IsSteadyFor sizes c.args.process c.read_page.new.mem) c.loop-done.invariant.same.sizes c.in_ok-stop.ensures.steady;
-      same = same-on _ _ _ c.loop-done.invariant.same c.read_page.ensures.same;
+      same = device-on _ _ _ c.loop-done.invariant.same c.read_page.ensures.same;
       count = c.read_page.ensures.count ∙ c.loop-done.invariant.count;
     }
 

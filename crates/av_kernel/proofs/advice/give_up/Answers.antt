@@ -27,7 +27,7 @@ returns c = λ advice about. record {
       let hole = c.first_hole-hole.result in
       let before = c.args.reply.now.notes in
       let notes = c.zap_range.new.notes in
-      let taken = c.zap_range.ensures.zapped d s.ledger (orderly k s keeps) in
+      let taken = c.in_ok-zap_range.ensures.zapped d s.ledger (orderly k s keeps) in
       answers-noted c.args.reply.now c.answer_with.new.reply notes _ c.requires.cleared
       (c.answer_with.ensures ∙ ap (λ answer. record c.args.reply.now { answer = answer; notes = notes })
       (c.answer_to.ensures ∙ ap (λ n. answer_at locked hole (page + n)) size)) taken.notes
