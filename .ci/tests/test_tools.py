@@ -41,7 +41,8 @@ class Labels(unittest.TestCase):
     """Comments that name something."""
 
     def test_processes_and_mappings(self) -> None:
-        self.assertEqual(process_of("process 6: redis-cli (thread 7, a child of 1)"), (6, "redis-cli"))
+        comment = "process 6: redis-cli (thread 7, a child of 1)"
+        self.assertEqual(process_of(comment), (6, "redis-cli"))
         self.assertEqual(process_of("process 6: a (b)"), (6, "a"))
         self.assertEqual(mapping_of("mapping: libc.so.6"), "libc.so.6")
         for it in ("process 6 has two pages", "a mapping: x", "", "process 6:"):
