@@ -14,13 +14,16 @@ from typing import Iterator, TextIO
 from faults import ON_CLOCK, TAIL
 from ranges import PAGE, Ranges, up
 
-# so many pages are remembered: an access to one of them isn't told again, until it has made way
+# so many pages are remembered, where nobody says otherwise: an access to one of them isn't told
+# again, until it has made way
 NEAR = 8
 CALL = re.compile(
     r"SYSCALL\[\d+,(\d+)\]\( *(\d+)\) (?:sys_)?(\w+) \( ?(.*?) ?\)"
     r"(?: -->)? ?\[(\w+(?:-\w+)?)\](?: -->)?(?: Success\(0x([0-9a-f]+)\))?.*"
 )
-RETURNS = re.compile(r"SYSCALL\[\d+,(\d+)\]\( *\d+\) \.\.\. \[async\] --> Success\(0x([0-9a-f]+)\).*")
+RETURNS = re.compile(
+    r"SYSCALL\[\d+,(\d+)\]\( *\d+\) \.\.\. \[async\] --> Success\(0x([0-9a-f]+)\).*"
+)
 PATH = re.compile(r"0x[0-9a-f]+\((.*)\), \S+(?:, \S+)?")
 PROTECTIONS = {1: "PROT_READ", 2: "PROT_WRITE", 4: "PROT_EXEC"}
 MAP = {1: "MAP_SHARED", 2: "MAP_PRIVATE", 16: "MAP_FIXED", 32: "MAP_ANONYMOUS"}
@@ -40,8 +43,8 @@ class Lackey:
     where it is left.
     """
 
-    def __init__(self, program: str, log: str, faults: str):
-        self.program, self.files_left = program, contextlib.ExitStack()
+    def __init__(self, program: str, log: str, faults: str, most_near: int):
+        self.program, self.most_near, self.files_left = program, most_near, contextlib.ExitStack()
         self.log, self.faults = self.opened(log), self.opened(faults)
         self.time = self.accesses = self.forks = 0
         self.mapped, self.heap = Ranges(), 0
@@ -106,7 +109,7 @@ class Lackey:
             self.outside.add(page)
             return
         self.near[page] = self.near.pop(page, False) or is_write
-        if len(self.near) > NEAR:
+        if len(self.near) > self.most_near:
             self.near.popitem(last=False)
         code = 6 if is_write else 4
         event = f"exceptions:page_fault_user: address=0x{at:x} ip=0x0 error_code=0x{code:x}"

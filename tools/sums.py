@@ -93,5 +93,5 @@ def sums_of(steps: Iterable[Step]) -> dict[str, Sums]:
     for process, most in held.most.items():
         found.setdefault(str(process), Sums()).frames = most
     order = sorted((it for it in found if it.isdigit()), key=int)
-    rest = [it for it in (NONE, ALL) if it in found]
+    rest = [NONE, ALL] if found.get(NONE, Sums()) != Sums() else [ALL]
     return {it: found[it] for it in [*order, *rest]}

@@ -127,8 +127,8 @@ function show(place) {
   window.onstep?.(n);
 }
 
-// The steps whose replies were asked for, where the others are hidden; null where none is. At a step
-// whose reply is hidden the state before it is drawn.
+// The steps whose replies were asked for, where the others are hidden; null where none is. At a
+// step whose reply is hidden the state before it is drawn.
 let revealed = null;
 const isHidden = n => revealed !== null && n > 0 && !revealed.has(n);
 const goThere = () => (isHidden(here) ? moveBefore(here) : moveTo(here));
@@ -294,8 +294,8 @@ function hashed() {
   }
 }
 
-at("title").textContent =
-  `${data.title}, ${many(data.frames, "frame")}, ${data.most.toLocaleString("en")} in use at most`;
+at("title").textContent = `${data.title}, ${many(data.frames, "frame")}`;
+at("most").textContent = `${data.most.toLocaleString("en")} in use at most`;
 at("slider").max = last;
 at("slider").addEventListener("input", () => go(Number(at("slider").value)));
 at("first").onclick = () => go(0);

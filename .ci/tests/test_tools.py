@@ -8,11 +8,14 @@ from shared.saying import Refused, count_of, lines_of, printable
 import swapfile
 from calls import Mapped, address_of, kind_of, protection_of
 from faults import most_common, read_faults
+from labels import is_label, mapping_of, process_of
+from lackey import names_of, number_of
 from peak import Peak
 from ranges import Ranges, up
 from shift import SPLIT, TOP, NotAsked, Shift
 from spaces import Space, runs_of
 from strace import Reader, time_of
+from transcript import answer_of, forms, note_of, replies_of, row_of
 
 PAGE = 4096
 
@@ -32,6 +35,51 @@ class InFolder(unittest.TestCase):
         self.addCleanup(room.cleanup)
         self.addCleanup(os.chdir, os.getcwd())
         os.chdir(room.name)
+
+
+class Labels(unittest.TestCase):
+    """Comments that name something."""
+
+    def test_processes_and_mappings(self) -> None:
+        comment = "process 6: redis-cli (thread 7, a child of 1)"
+        self.assertEqual(process_of(comment), (6, "redis-cli"))
+        self.assertEqual(process_of("process 6: a (b)"), (6, "a"))
+        self.assertEqual(mapping_of("mapping: libc.so.6"), "libc.so.6")
+        for it in ("process 6 has two pages", "a mapping: x", "", "process 6:"):
+            self.assertFalse(is_label(it))
+
+
+class Lackey(unittest.TestCase):
+    """The words of calls, as valgrind prints them."""
+
+    def test_numbers_and_flags(self) -> None:
+        self.assertEqual([number_of(it) for it in ("0x10", "12", "0x9(/lib)", "?")], [16, 12, 9, 0])
+        self.assertEqual(names_of(3, {1: "A", 2: "B", 4: "C"}), "A|B")
+
+
+class Transcript(unittest.TestCase):
+    """Replies in fields."""
+
+    def test_each_note_of_the_reference_has_its_fields(self) -> None:
+        self.assertEqual(forms()["map"], ["process", "address", "frame"])
+        self.assertEqual(forms()["load"], ["slot", "frame"])
+        self.assertEqual(forms()["keep"], ["frame", "cause"])
+        self.assertEqual(note_of("age 3"), {"what": "age", "frame": 3})
+        self.assertIsNone(note_of("age"))
+        self.assertIsNone(note_of("1 20000"))
+
+    def test_rows_and_answers(self) -> None:
+        row = row_of("20000-21000 rw- off=20 own=- chain=0,1 locked")
+        wanted = {"start": "20000", "end": "21000", "prot": "rw-", "off": "20", "own": "-"}
+        self.assertEqual(row, wanted | {"chain": "0,1", "flags": ["locked"]})
+        self.assertEqual(row_of("1 20000"), {"process": 1, "address": "20000"})
+        answer = answer_of("oom 1 pinned=1 noslot=0 fault=0 41")
+        wanted = {"what": "oom", "at": 1, "bytes": "41", "pinned": 1, "noslot": 0, "fault": 0}
+        self.assertEqual(answer, wanted)
+
+    def test_lines_are_cut_into_replies(self) -> None:
+        lines = iter([b"ok\n", b" new 1 2 3\n", b"data 00\n"])
+        self.assertEqual(list(replies_of(lines)), [["ok", "new 1 2 3"], ["data 00"]])
 
 
 class Saying(InFolder):

@@ -3,6 +3,8 @@ import types
 import unittest
 
 import making
+import sizes
+from names import Names
 from told import Told, code_of, frame_of
 from text import side_by_side, some_of
 
@@ -13,6 +15,37 @@ def told_of(*pairs: tuple[str, str]) -> Told:
     for command, reply in pairs:
         told.tell(command.split(" "), reply.split(" / "))
     return told
+
+
+class Marks(unittest.TestCase):
+    """The axes of a picture."""
+
+    def test_marks_are_1_2_or_5_by_tens(self) -> None:
+        found = [sizes.step_of(it) for it in (1, 8, 9, 17, 41, 80, 765, 16384)]
+        self.assertEqual(found, [1, 1, 2, 5, 10, 10, 100, 5000])
+
+
+class Named(unittest.TestCase):
+    """Names of processes and mappings."""
+
+    def test_names_go_with_their_pages(self) -> None:
+        names, found = Names(), []
+        for comment, line, reply in (
+            ("process 1: one", "spawn 1", "ok"),
+            ("mapping: a", "mmap 1 8192 rw-", "map 20000"),
+            ("", "mremap 1 20000 8192 4096 fixed 50000", "map 50000"),
+            ("", "munmap 1 20000 8192", "ok"),
+            ("", "munmap 1 50000 4096", "err EINVAL"),
+            ("", "fork 1 2", "ok"),
+            ("", "mmap 2 4096 rw- fixed 50000", "map 50000"),
+        ):
+            found.append(names.take(comment, line.split(" "), [reply]))
+        wanted = [[["n", 1, "one"]], [["b", 1, 32, 2, "a"]]]
+        wanted += [[["b", 1, 32, 2, ""], ["b", 1, 80, 1, "a"]], [], [], [], [["b", 2, 80, 1, ""]]]
+        self.assertEqual(found, wanted)
+        wanted = [["n", 1, "one"], ["n", 2, "one"], ["b", 1, 80, 1, "a"]]
+        self.assertEqual(names.all_ops({1, 2}), wanted)
+        self.assertEqual(names.all_ops({2}), [["n", 2, "one"]])
 
 
 class Entries(unittest.TestCase):
