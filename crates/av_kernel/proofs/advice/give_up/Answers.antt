@@ -8,9 +8,6 @@ use Rattle.av_step.proofs.StepLaws.{answers-noted, orderly, wants-by}
 use Rattle.av_kernel.proofs.AdviceLaws.{answer_at, give_up-steps}
 use Rattle.av_kernel.proofs.advice.give_up.Goals as goal
 
-pub zap_range-requires : goal.zap_range-requires
-zap_range-requires c = c.requires.steady
-
 pub returns-in_err-zap_range : goal.returns-in_err-zap_range
 returns-in_err-zap_range c = λ advice about.
     wants-by c.args.mem.now c.zap_range.new.mem (Madvise c.args.process c.args.address c.args.len advice)
