@@ -1,4 +1,3 @@
-use Rattle.av_plain.specs.Device.{as_told, device_by}
 use Rattle.av_reclaim.proofs.PutMakes.{slot-told}
 use Rattle.av_reclaim.proofs.driver.DriverSystem.has_slot.Goals as goal
 
