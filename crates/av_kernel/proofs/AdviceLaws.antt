@@ -137,8 +137,8 @@ unlocked-leads k s p from n locked keeps goes = locked-leads (pages s.world p) f
     (let high = goes.highest in omega (arith, high))
     (λ o low high. unlocked_is k s p o keeps ∙ ap not (goes.all o low (let least = goes.lowest in omega (arith, high, least))))
     (λ less. let least = goes.lowest in
-        let end : from + (locked - from) ≡ locked = omega (arith, least) in
-        ap (λ o. is_locked_page (pages s.world p o)) end ∙ unlocked_is k s p locked keeps ∙ ap not (goes.end (omega (arith, less, least))))
+    let end : from + (locked - from) ≡ locked = omega (arith, least) in
+    ap (λ o. is_locked_page (pages s.world p o)) end ∙ unlocked_is k s p locked keeps ∙ ap not (goes.end (omega (arith, less, least))))
 
 -- ---- a flag is set, or cleared
 
@@ -188,12 +188,12 @@ module _ {d : Device} (old : Mem) (spaces : AllSpaces) (anons : AnonSet) (s : St
         );
         rmap = next-plain _ s.world (Madvise p a len advice) answer _ refl
             (record {
-          areas = refl;
-          anons = anons_left old spaces anons s p from n (to_flag flag set) (with_page_flag flag set) keeps (alive_is old.spaces.processes p ∙ alive)
-              (flag_effect flag set) are;
-          homes = refl;
-          items = refl;
-        });
+              areas = refl;
+              anons = anons_left old spaces anons s p from n (to_flag flag set) (with_page_flag flag set) keeps (alive_is old.spaces.processes p ∙ alive)
+                  (flag_effect flag set) are;
+              homes = refl;
+              items = refl;
+            });
         shows = tt;
       })
 
@@ -309,11 +309,11 @@ module _ {d : Device} (old new : Mem) (s : State) (p a len locked hole : ℕ) (a
             (rmap_of (state_after s p given_up (s.areas p) (after_all s.ledger zapped_events) (free_of (view new)) new.anons)))
             (sym (rmap_after_all-zaps s.ledger ks s.ledger (rmap_of s)))
             (next-plain (rmap_of s) s.world (Madvise p a len advice) answer _ refl (record {
-          areas = put_back s p;
-          anons = are_left d old s keeps new.spaces new.anons stay (with_at p (s.areas p) s.areas) areas;
-          homes = refl;
-          items = refl;
-        }));
+              areas = put_back s p;
+              anons = are_left d old s keeps new.spaces new.anons stay (with_at p (s.areas p) s.areas) areas;
+              homes = refl;
+              items = refl;
+            }));
         shows = tt;
       })
       areas (areas_changed old new s p given_up marks keeps ranges spaces covered)

@@ -558,11 +558,11 @@ module _ {d : Device} (old : Mem) (spaces : AllSpaces) (anons : AnonSet) (s : St
         free = keeps.stands.free;
         rmap = next-plain (rmap_of s) s.world (Mprotect p a len prot) answer _ refl
             (record {
-          areas = areas_next;
-          anons = anons_left old spaces anons s p (page_of a) (reached - page_of a) (to_prot prot) (with_prot prot) keeps alive (prot_effect prot) are;
-          homes = refl;
-          items = refl;
-        });
+              areas = areas_next;
+              anons = anons_left old spaces anons s p (page_of a) (reached - page_of a) (to_prot prot) (with_prot prot) keeps alive (prot_effect prot) are;
+              homes = refl;
+              items = refl;
+            });
         shows = tt;
       })
 

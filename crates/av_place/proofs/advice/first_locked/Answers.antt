@@ -28,9 +28,9 @@ loop-page-preserved c =
       each = λ o first most. elim (cases_lt o page) [
         | inl before ↦ c.loop-page.invariant.each o first before
         | inr after ↦ elim (cases_lt o c.min-end.result) [
-            | inl inside ↦ unlocked_on s a.process page c.in-Some.area c.in-Some.ensures.laid c.in-Some.ensures.area c.if-area.false o after
-                (omega (arith, inside))
-            | inr beyond ↦ free_unlocked s a.process c.min-end.result next.result next.ensures.free o beyond most
-          ]
+          | inl inside ↦ unlocked_on s a.process page c.in-Some.area c.in-Some.ensures.laid c.in-Some.ensures.area c.if-area.false o after
+              (omega (arith, inside))
+          | inr beyond ↦ free_unlocked s a.process c.min-end.result next.result next.ensures.free o beyond most
+        ]
       ];
     }
