@@ -3,19 +3,15 @@ docs/LINUX.md others aren't.
 """
 import collections
 import enum
-import os
 import re
-import sys
 from typing import Iterator, NamedTuple
 
-ROOT = os.path.dirname(os.path.dirname(os.path.realpath(__file__)))
-sys.path.insert(0, f"{ROOT}/view")
+from shared.saying import Refused
 
-import making  # pylint: disable=wrong-import-position
+import making
 from kernel import NOBODY, Kernel, maps_of
 from proc import Area
 from rows import BOUNDS, KEYS, Line, Row, careful, mending, other_bounds, row_of
-from saying import Refused
 from shift import GAP, WIDE, NotAsked
 from stubs import Gone, Stub
 
@@ -76,10 +72,7 @@ def model_of(program: str, machine: list[str], trace: str) -> list[Asked]:
         lines.append(it)
         if it.line.startswith("rmap "):
             lines.append(it._replace(comment=None, line=f"entry {it.line[5:]}"))
-    try:
-        found = making.Run(program, machine, lines)
-    except making.Refused as why:
-        raise Refused(str(why)) from None
+    found = making.Run(program, machine, lines)
     if len(found) < len(lines):
         raise Refused(found.said)
     asked: list[Asked] = []

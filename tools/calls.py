@@ -5,7 +5,8 @@ from typing import NamedTuple
 AT, COUNT, FLAGS = r"(NULL|0x[0-9a-f]+)", r"(\d+)", r"([A-Z0-9a-fx_|<]+)"
 # what stands between the brackets of each call
 FORMS = {
-    "mmap": rf"{AT}, {COUNT}, {FLAGS}, {FLAGS}, (-?\d+)(?:<.*>)?, (?:0x[0-9a-f]+|\d+)",
+    "mmap": rf"{AT}, {COUNT}, {FLAGS}, {FLAGS}, (-?\d+)(?:<(.*)>)?(?:\(deleted\))?, "
+    r"(?:0x[0-9a-f]+|\d+)",
     "munmap": rf"{AT}, {COUNT}",
     "mprotect": rf"{AT}, {COUNT}, {FLAGS}",
     "pkey_mprotect": rf"{AT}, {COUNT}, {FLAGS}, (-?\d+)",

@@ -10,9 +10,10 @@ import os
 import signal
 from typing import Callable, Iterator
 
+from shared.saying import Refused
+
 from proc import Area, Pagemap, areas_of, row_of
 from ranges import PAGE, Range, Ranges, up
-from saying import Refused
 from shift import GAP, SPLIT, TOP, NotAsked, Shift
 from stubs import ANONYMOUS, FIXED, MADVISE, MMAP, MUNMAP, NORESERVE, PRIVATE
 from stubs import Gone, Mother, Stub

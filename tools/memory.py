@@ -8,6 +8,8 @@ import dataclasses
 import re
 from typing import NoReturn
 
+from shared.saying import Refused, name_of, printable
+
 from calls import (
     ADVICE,
     ANSWER,
@@ -21,11 +23,13 @@ from calls import (
     kind_of,
     protection_of,
 )
+from labels import MAPPING
 from ranges import PAGE, Range, up
-from saying import Refused, printable
 from spaces import Space, runs_of
 from strace import Call
 
+# the name of what brk maps
+HEAP = "[heap]"
 # kinds of what is left out
 SHARED = "shared (its place is kept, as ---)"
 OF_FILE = "of a file"
@@ -135,20 +139,22 @@ class Memory:
             self.refuse("an answer that no such call has")
         for flag in set(flags) & set(PASSED_OVER):
             self.tally.flags[flag] += 1
+        name = name_of(words[6] or "")
         if kind == "shared":
             self.tally.left_out[f"mmap, {SHARED}"] += 1
-            self.map(space, at, length, "---")
+            self.map(space, at, length, "---", name)
         elif not self.has(kind):
             self.tally.left_out[f"mmap {OF_FILE}"] += 1
             self.clear(space, at, length)
         else:
             self.tally.kept[f"mmap {OF_FILE}" if kind == "file" else "mmap"] += 1
-            self.map(space, at, length, prot)
+            self.map(space, at, length, prot, name)
         space.map(at, end, Mapped(prot, kind), self.call.time)
         self.touch(space, at, end)
 
-    def map(self, space: Space, at: int, length: int, prot: str) -> None:
-        self.add(f"mmap {space.number} {length} {prot} fixed {at:x}", f"map {at:x}")
+    def map(self, space: Space, at: int, length: int, prot: str, name: str = "") -> None:
+        line = f"mmap {space.number} {length} {prot} fixed {at:x}"
+        self.add(line, f"map {at:x}", f"{MAPPING}{name}" if name else "")
 
     def clear(self, space: Space, at: int, length: int) -> None:
         """Something comes that isn't in the trace: what it replaces goes."""
@@ -253,7 +259,7 @@ class Memory:
             return
         self.tally.kept["brk"] += 1
         if new > old:
-            self.map(space, old, new - old, "rw-")
+            self.map(space, old, new - old, "rw-", HEAP)
             space.map(old, new, Mapped("rw-", "anonymous"), self.call.time)
             self.touch(space, old, new)
         else:

@@ -6,8 +6,8 @@ use Rattle.av_trace.specs.declared.note.Note.{Note}
 use Rattle.std.specs.List.{range_with_len}
 use Rattle.av_base.specs.Words.{within}
 use Rattle.av_io.specs.Count.{RoseBy}
-use Rattle.av_plain.specs.Device.{Device, IsSameDevice, device_by, setting_of}
-use Rattle.av_plain.specs.Pass.{fails, is_fail}
+use Rattle.av_plain.specs.Device.{Device, IsSameDevice, device_by, setting_of, Calls, Wrote}
+use Rattle.av_plain.specs.Pass.{fails, is_fail, pages_written}
 use Rattle.av_plain.specs.Step.{failed_frames, failure_answers}
 use Rattle.av_plain.proofs.Device.{setting_same}
 use Rattle.av_plain.proofs.Ledger.{how_many-append}
@@ -38,10 +38,10 @@ use Rattle.av_access.specs.Access.{IsAccess, IsPiece, IsRead, answer_at, causes_
 use Rattle.av_fault.specs.Fault.{stop_of}
 use Rattle.av_fault.proofs.CameLaws.{locked-loads}
 use Rattle.av_access.specs.declared.access.Piece.{Piece}
-use Rattle.av_step.proofs.StepLaws.{same_then}
 use Rattle.av_access.proofs.AccessPages.{touches, touched-one, touched-more}
 use Rattle.av_access.proofs.AccessLoads.{AreOwnLoads, IsApart, loads-shows, loads-stored, own-events, with_loads-append}
 use Rattle.av_access.proofs.AccessBytes.{reads-more, stored_twice, allowed-stored, lives-stored, locked-stored}
+use Rattle.av_plain.proofs.Wrote.{device-on, wrote-notes}
 
 -- ---- the memories after a part of an access
 
@@ -94,18 +94,18 @@ page-lives w false p page at ys end h = h
 -- ---- what is there of the memory system
 
 -- over some device that doesn't tell its pages there is a state in which the process lives
-pub record Lives (sizes : ℕ → Option ℕ) (failures : ℕ) (k : Mem) (p : ℕ) : Type 0 where
+pub record Lives (sizes : ℕ → Option ℕ) (calls : Calls) (k : Mem) (p : ℕ) : Type 0 where
   pub state : State
-  pub keeps : Keeps (device_by sizes None failures) k state
+  pub keeps : Keeps (device_by sizes None calls) k state
   pub lives : lives state.world p ≡ true
 
--- however often it failed
-pub steady-lives : (sizes : ℕ → Option ℕ) (failures : ℕ) (k : Mem) (p : ℕ) → IsSteadyFor sizes p k → Lives sizes failures k p
-steady-lives sizes failures k p steady = let h = steady.0 in let keeps = keeps-whenever sizes None h.0 failures k h.1 h.2 in
+-- whatever it tells of its calls
+pub steady-lives : (sizes : ℕ → Option ℕ) (calls : Calls) (k : Mem) (p : ℕ) → IsSteadyFor sizes p k → Lives sizes calls k p
+steady-lives sizes calls k p steady = let h = steady.0 in let keeps = keeps-whenever sizes None h.0 calls k h.1 h.2 in
     record { state = h.1; keeps = keeps; lives = sym (lives_is _ k h.1 keeps p) ∙ steady.1 }
 
 -- so it is after a page
-pub page-steady : (sizes sizes' : ℕ → Option ℕ) (n n' : ℕ) (s : State) (new : Mem) (write : Bool) (p page at : ℕ) (ys : List ℕ)
+pub page-steady : (sizes sizes' : ℕ → Option ℕ) (n n' : Calls) (s : State) (new : Mem) (write : Bool) (p page at : ℕ) (ys : List ℕ)
     (before now : List Note)
     (end : Option Stop) → lives s.world p ≡ true →
     IsPageStep (device_by sizes None n) (device_by sizes' None n') s new write p page at ys before now end → IsSteadyFor sizes p new
@@ -236,7 +236,11 @@ module _ {d d' : Device} (s : State) (mid new : Mem) (write : Bool) (p a k page 
         setting-same g.free
 
     device-same : IsSameDevice d d''
-    device-same = same_then d d' d'' h.same g.same
+    device-same = device-on d d' d'' h.same g.same
+
+    wrote-both : Wrote (pages_written (notes_of (h.events ++ here))) d.history d''.history
+    wrote-both = subst (λ ns. Wrote (pages_written ns) d.history d''.history) (sym (notes_of-append h.events here))
+        (wrote-notes d.history d'.history d''.history (notes_of h.events) (notes_of here) h.wrote g.wrote)
 
     failures-both : RoseBy (causes_of_access (notes_of (h.events ++ page_events write (p, page) g.added (option_map stop_of end))) end) d.failures
         d''.failures
@@ -264,6 +268,7 @@ module _ {d d' : Device} (s : State) (mid new : Mem) (write : Bool) (p a k page 
     rmap = rmap-both _ _ g.rmap;
     keeps = g.keeps;
     same = device-same None g;
+    wrote = wrote-both None g;
     failures = failures-both None g;
   }
 
@@ -287,6 +292,7 @@ module _ {d d' : Device} (s : State) (mid new : Mem) (write : Bool) (p a k page 
     rmap = rmap-both _ _ g.rmap;
     keeps = g.keeps;
     same = device-same (Some stop) g;
+    wrote = wrote-both (Some stop) g;
     failures = failures-both (Some stop) g;
   }
     where

@@ -9,12 +9,12 @@ use Rattle.av_trace.specs.declared.reply.Errno.TheVariants.{Esrch}
 use Rattle.av_trace.specs.declared.reply.Answer.{Answer}
 use Rattle.av_trace.specs.declared.reply.Answer.TheVariants as answers
 use Rattle.av_trace.specs.declared.command.Command.TheVariants.{Read, Write}
-use Rattle.av_plain.specs.Device.{Device, setting_of}
+use Rattle.av_plain.specs.Device.{Device, setting_of, Wrote}
 use Rattle.av_plain.specs.Fork.{IsRmapNext}
 use Rattle.av_plain.specs.World.{World, lives, pages}
 use Rattle.av_plain.specs.Access.{Accesses, Whole, Stopped, pages_of_access, bytes_before, stop_answer, Reads, after_write}
 use Rattle.av_io.specs.Count.{RoseBy}
-use Rattle.av_plain.specs.Pass.{fails}
+use Rattle.av_plain.specs.Pass.{fails, pages_written}
 use Rattle.av_plain.specs.Step.{causes, failed_frames, failure_answers, next}
 use Rattle.av_plain.specs.Choice.{ChoosesAll}
 use Rattle.av_plain.specs.Transcript.{State, rmap_of}
@@ -85,7 +85,7 @@ module _ {d : Device} (s : State) (old new : Mem) (p a : ℕ) (before notes : Li
       → answer ≡ answers.Data shown
       → RoseBy (causes (record { answer = answer; notes = notes; rows = rows })) d.failures d'.failures
       → MemSteps d d' old new s (Read p a n) (record { answer = answer; notes = notes; rows = rows })
-  read-done n shown answer read is rose = let h = read.access in record {
+  read-done {d'} n shown answer read is rose = let h = read.access in record {
     next = h.next;
     step = record {
       events = h.events;
@@ -110,6 +110,7 @@ module _ {d : Device} (s : State) (old new : Mem) (p a : ℕ) (before notes : Li
     };
     keeps = h.keeps;
     same = h.same;
+    wrote = subst (λ ns. Wrote (pages_written ns) d.history d'.history) (sym (alone h.events h.notes)) h.wrote;
     failures = rose;
   }
 
@@ -117,7 +118,7 @@ module _ {d : Device} (s : State) (old new : Mem) (p a : ℕ) (before notes : Li
       answer ≡ answer_of stop k shown
       → RoseBy (causes (record { answer = answer; notes = notes; rows = rows })) d.failures d'.failures
       → MemSteps d d' old new s (Read p a n) (record { answer = answer; notes = notes; rows = rows })
-  read-stopped n shown answer stop read is rose = let h = read.access in record {
+  read-stopped {d'} n shown answer stop read is rose = let h = read.access in record {
     next = h.next;
     step = record {
       events = h.events;
@@ -142,6 +143,7 @@ module _ {d : Device} (s : State) (old new : Mem) (p a : ℕ) (before notes : Li
     };
     keeps = h.keeps;
     same = h.same;
+    wrote = subst (λ ns. Wrote (pages_written ns) d.history d'.history) (sym (alone h.events h.notes)) h.wrote;
     failures = rose;
   }
 
@@ -149,7 +151,7 @@ module _ {d : Device} (s : State) (old new : Mem) (p a : ℕ) (before notes : Li
       → answer ≡ answers.Done
       → RoseBy (causes (record { answer = answer; notes = notes; rows = rows })) d.failures d'.failures
       → MemSteps d d' old new s (Write p a bytes) (record { answer = answer; notes = notes; rows = rows })
-  write-done bytes answer h is rose = record {
+  write-done {d'} bytes answer h is rose = record {
     next = h.next;
     step = record {
       events = h.events;
@@ -172,6 +174,7 @@ module _ {d : Device} (s : State) (old new : Mem) (p a : ℕ) (before notes : Li
     };
     keeps = h.keeps;
     same = h.same;
+    wrote = subst (λ ns. Wrote (pages_written ns) d.history d'.history) (sym (alone h.events h.notes)) h.wrote;
     failures = rose;
   }
 
@@ -180,7 +183,7 @@ module _ {d : Device} (s : State) (old new : Mem) (p a : ℕ) (before notes : Li
       answer ≡ answer_of stop k []
       → RoseBy (causes (record { answer = answer; notes = notes; rows = rows })) d.failures d'.failures
       → MemSteps d d' old new s (Write p a bytes) (record { answer = answer; notes = notes; rows = rows })
-  write-stopped bytes answer stop h is rose = record {
+  write-stopped {d'} bytes answer stop h is rose = record {
     next = h.next;
     step = record {
       events = h.events;
@@ -204,6 +207,7 @@ module _ {d : Device} (s : State) (old new : Mem) (p a : ℕ) (before notes : Li
     };
     keeps = h.keeps;
     same = h.same;
+    wrote = subst (λ ns. Wrote (pages_written ns) d.history d'.history) (sym (alone h.events h.notes)) h.wrote;
     failures = rose;
   }
 

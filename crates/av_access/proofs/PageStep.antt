@@ -93,6 +93,7 @@ module _ {d d' : Device} (s : State) (p page at : ℕ) (piece : List ℕ) (befor
         keeps = serves-keeps d' new w (rmap_after_all s.ledger events (rmap_of s)) (after_all s.ledger events)
             (subst (λ m. IsSound m (after_all s.ledger events)) (sym (setting_same (frame_count new) d d' same)) served.sound) served.serves;
         same = same;
+        wrote = served.wrote;
         failures = rose;
       }
 
@@ -227,6 +228,7 @@ module _ {d d' : Device} (s : State) (p page at : ℕ) (piece : List ℕ) (befor
           };
         });
         same = same;
+        wrote = t.served.wrote;
         failures = rose-served t.added d.failures d'.failures t.failures;
       }
     where

@@ -5,7 +5,7 @@ use Rattle.av_trace.specs.declared.note.Note.{Note}
 use Rattle.av_trace.specs.declared.reply.Answer.{Answer}
 use Rattle.av_trace.specs.declared.reply.Answer.TheVariants as answers
 use Rattle.av_io.specs.Count.{RoseBy}
-use Rattle.av_plain.specs.Device.{Device, IsSameDevice}
+use Rattle.av_plain.specs.Device.{Device, IsSameDevice, Wrote}
 use Rattle.av_plain.specs.Step.{causes}
 use Rattle.av_plain.specs.Load.{with_loads}
 use Rattle.av_plain.specs.World.{World, pages}
@@ -22,6 +22,7 @@ use Rattle.av_fault.specs.declared.fault.Stop.{Stop}
 use Rattle.av_fault.specs.declared.fault.Stop.TheVariants.{Bus, Oom, Segv}
 use Rattle.av_mem.specs.Mem.{setting_by, Keeps}
 use Rattle.av_fault.specs.Fault.{stop_of}
+use Rattle.av_plain.specs.Pass.{pages_written}
 
 -- ---- what it answers
 
@@ -79,6 +80,7 @@ pub record IsAccess (d d' : Device) (s : State) (new : Mem) (write : Bool) (p a 
   pub rmap : rmap_of next ≡ rmap_after_all s.ledger events (rmap_of s)
   pub keeps : Keeps d' new next
   pub same : IsSameDevice d d'
+  pub wrote : Wrote (pages_written (notes_of events)) d.history d'.history
   pub failures : RoseBy (causes_of_access (notes_of events) stop) d.failures d'.failures
 
 -- a read of n bytes, which shows the k that were served as they are after all its loads

@@ -5,9 +5,9 @@ use Rattle.std.specs.List.{AllByRecursion}
 use Rattle.av_base.specs.Page.{address_of}
 use Rattle.av_trace.specs.declared.note.Note.{Note}
 use Rattle.av_io.specs.Count.{RoseBy}
-use Rattle.av_plain.specs.Device.{Device, IsSameDevice}
+use Rattle.av_plain.specs.Device.{Device, IsSameDevice, Wrote}
 use Rattle.av_plain.specs.World.{World, pages, Shows}
-use Rattle.av_plain.specs.Event.{after_all}
+use Rattle.av_plain.specs.Event.{after_all, notes_of}
 use Rattle.av_plain.specs.Fault.{Touches}
 use Rattle.av_plain.specs.Access.{page_events, after_write}
 use Rattle.av_plain.specs.Choice.{ChoosesAll}
@@ -19,6 +19,7 @@ use Rattle.av_mem.specs.Mem.{setting_by, Keeps}
 use Rattle.av_fault.specs.declared.fault.Stop.{Stop}
 use Rattle.av_fault.specs.Fault.{stop_of}
 use Rattle.av_access.specs.Access.{causes_of_access}
+use Rattle.av_plain.specs.Pass.{pages_written}
 
 -- the memories after a write that was served, and after all else, where these are after the loads
 abbrev pub world_after : Bool → ℕ → ℕ → ℕ → List ℕ → Option Stop → World → World
@@ -46,6 +47,8 @@ pub record IsPageStep (d d' : Device) (s : State) (new : Mem) (write : Bool) (p 
       (rmap_of s)
   pub keeps : Keeps d' new next
   pub same : IsSameDevice d d'
+  pub wrote : Wrote (pages_written
+      (notes_of (page_events write (p, page) added (option_map stop_of end)))) d.history d'.history
   pub failures : RoseBy (causes_of_access added end) d.failures d'.failures
 
 -- what a read of n bytes shows of a page that was served

@@ -1,10 +1,10 @@
 //! Reads and writes, page by page.
 
 ghost use Rattle.std.specs.Prelude.{◌≡◌, ◌<◌, [], true, length, take, IfOk};
-ghost use Rattle.av_plain.specs.Device.{IsSameDevice};
+ghost use Rattle.av_plain.specs.Device.{IsSameDevice, seen_by};
 ghost use Rattle.av_plain.specs.Transcript.{State};
 ghost use Rattle.av_mem.specs.Mem.{frame_count, Keeps, IsSteadyAt};
-ghost use Rattle.av_step.specs.Step.{Does, IsSteadyFor, reply_in, seen_by};
+ghost use Rattle.av_step.specs.Step.{Does, IsSteadyFor, reply_in};
 ghost use Rattle.av_access.specs.Access.{IsPiece, IsAccess, IsRead, answer_at, answer_of};
 ghost use Rattle.av_trace.specs.Reply.{IsCleared};
 ghost use Rattle.av_trace.specs.declared.command.Command.TheVariants as commands;
@@ -53,7 +53,7 @@ pub fn read<D: SwapDev>(
 ) -> Result<(), Refusal>
     requires steady { IsSteadyAt (D.sizes dev.old) mem.old }
     requires cleared { IsCleared reply.old }
-    ensures { let d = seen_by D.sizes D.pages D.failures in Does (d dev.old) (d dev.new)
+    ensures { let d = seen_by D.sizes D.pages D.failures D.history in Does (d dev.old) (d dev.new)
         mem.old mem.new (commands.Read process address len) (reply_in reply.new result) }
 {
     check_lives(mem, process)?;
@@ -77,7 +77,7 @@ pub fn write<D: SwapDev>(
 ) -> Result<(), Refusal>
     requires steady { IsSteadyAt (D.sizes dev.old) mem.old }
     requires cleared { IsCleared reply.old }
-    ensures { let d = seen_by D.sizes D.pages D.failures in Does (d dev.old) (d dev.new)
+    ensures { let d = seen_by D.sizes D.pages D.failures D.history in Does (d dev.old) (d dev.new)
         mem.old mem.new (commands.Write process address bytes.now) (reply_in reply.new result) }
 {
     check_lives(mem, process)?;
@@ -98,12 +98,12 @@ fn read_pieces<D: SwapDev>(
 ) -> Result<AccessEnd, AllocError>
     requires steady { IsSteadyFor (D.sizes dev.old) process mem.old }
     requires fresh { shown.old ≡ [] }
-    ensures access { let d = seen_by D.sizes D.pages D.failures in (s : State)
+    ensures access { let d = seen_by D.sizes D.pages D.failures D.history in (s : State)
         → Keeps (d dev.old) mem.old s → IfOk result (λ ended.
         IsRead (d dev.old) (d dev.new) s mem.new process address len
         notes.old notes.new ended.stop ended.served shown.new) }
     ensures steady { IfOk result (λ ended. IsSteadyFor (D.sizes dev.old) process mem.new) }
-    ensures same { let d = seen_by D.sizes D.pages D.failures in
+    ensures same { let d = seen_by D.sizes D.pages D.failures D.history in
         IsSameDevice (d dev.old) (d dev.new) }
     ensures count { frame_count mem.new ≡ frame_count mem.old }
 {
@@ -136,12 +136,12 @@ fn write_pieces<D: SwapDev>(
     notes: &mut Notes,
 ) -> Result<AccessEnd, AllocError>
     requires steady { IsSteadyFor (D.sizes dev.old) process mem.old }
-    ensures access { let d = seen_by D.sizes D.pages D.failures in (s : State)
+    ensures access { let d = seen_by D.sizes D.pages D.failures D.history in (s : State)
         → Keeps (d dev.old) mem.old s → IfOk result (λ ended.
         IsAccess (d dev.old) (d dev.new) s mem.new true process address (length bytes.now)
         (take ended.served bytes.now) notes.old notes.new ended.stop ended.served) }
     ensures steady { IfOk result (λ ended. IsSteadyFor (D.sizes dev.old) process mem.new) }
-    ensures same { let d = seen_by D.sizes D.pages D.failures in
+    ensures same { let d = seen_by D.sizes D.pages D.failures D.history in
         IsSameDevice (d dev.old) (d dev.new) }
     ensures count { frame_count mem.new ≡ frame_count mem.old }
 {

@@ -4,11 +4,11 @@ ghost use Rattle.std.specs.Prelude.{◌≡◌, ◌+◌, ◌^◌, ◌<◌, ◌≤
 ghost use Rattle.std.specs.Prelude.{OnOk};
 ghost use Rattle.std.specs.List.{AllByRecursion};
 ghost use Rattle.av_base.specs.Page.{page_size};
-ghost use Rattle.av_plain.specs.Device.{IsSameDevice};
+ghost use Rattle.av_plain.specs.Device.{IsSameDevice, seen_by};
 ghost use Rattle.av_plain.specs.Transcript.{State};
 ghost use Rattle.av_mem.specs.Mem.{frame_count, Keeps};
 ghost use Rattle.av_access.specs.Page.{IsPageStep, IsPageRead};
-ghost use Rattle.av_step.specs.Step.{IsSteadyFor, seen_by};
+ghost use Rattle.av_step.specs.Step.{IsSteadyFor};
 
 use av_base::PAGE_SIZE;
 use av_fault::{Stop, Touched, touch};
@@ -31,12 +31,12 @@ pub fn write_page<D: SwapDev>(
     requires steady { IsSteadyFor (D.sizes dev.old) process mem.old }
     requires some { 1 ≤ length piece.now }
     requires fits { at + length piece.now ≤ page_size }
-    ensures step { let d = seen_by D.sizes D.pages D.failures in (s : State)
+    ensures step { let d = seen_by D.sizes D.pages D.failures D.history in (s : State)
         → Keeps (d dev.old) mem.old s → IfOk result
         (IsPageStep (d dev.old) (d dev.new) s mem.new true process page at piece.now
         notes.old notes.new) }
     ensures steady { IfOk result (λ stop. IsSteadyFor (D.sizes dev.old) process mem.new) }
-    ensures same { let d = seen_by D.sizes D.pages D.failures in
+    ensures same { let d = seen_by D.sizes D.pages D.failures D.history in
         IsSameDevice (d dev.old) (d dev.new) }
     ensures count { frame_count mem.new ≡ frame_count mem.old }
 {
@@ -64,12 +64,12 @@ pub fn read_page<D: SwapDev>(
     requires steady { IsSteadyFor (D.sizes dev.old) process mem.old }
     requires some { 1 ≤ len }
     requires fits { at + len ≤ page_size }
-    ensures step { let d = seen_by D.sizes D.pages D.failures in (s : State)
+    ensures step { let d = seen_by D.sizes D.pages D.failures D.history in (s : State)
         → Keeps (d dev.old) mem.old s → IfOk result
         (IsPageRead (d dev.old) (d dev.new) s mem.new process page at len
         notes.old notes.new shown.old shown.new) }
     ensures steady { IfOk result (λ stop. IsSteadyFor (D.sizes dev.old) process mem.new) }
-    ensures same { let d = seen_by D.sizes D.pages D.failures in
+    ensures same { let d = seen_by D.sizes D.pages D.failures D.history in
         IsSameDevice (d dev.old) (d dev.new) }
     ensures count { frame_count mem.new ≡ frame_count mem.old }
 {

@@ -4,6 +4,7 @@ use Rattle.std.proofs.lemmas.List.{append-nil, append_assoc}
 use Rattle.av_base.specs.declared.slot.Slot.{Slot}
 use Rattle.av_trace.specs.declared.note.Note.{Note}
 use Rattle.av_io.specs.Count.{RoseBy}
+use Rattle.av_plain.proofs.Wrote.{some-none, some-then, wrote-none, wrote-notes}
 use Rattle.av_plain.specs.Areas.{Rmap, rmap_after_all}
 use Rattle.av_plain.specs.Choice.{ChoosesAll}
 use Rattle.av_plain.specs.Event.{Event, after, after_all, after_notes, note_events}
@@ -67,15 +68,16 @@ rose-then : (n k top a b c : ℕ) → min (a + n) top ≤ b → min (b + k) top 
 rose-then n k top a b c h i = omega (arith, h, i)
 
 pub stays_so : (a : SystemView) → Stays a a
-stays_so a = record { setting = refl; closing = refl; names = refl; first = refl; never_falls = omega arith }
+stays_so a = record { setting = refl; closing = refl; names = refl; first = refl; never_falls = omega arith; history = some-none a.history }
 
 pub stays_then : {a b c : SystemView} → Stays a b → Stays b c → Stays a c
-stays_then d e = record {
+stays_then {a} {b} {c} d e = record {
   setting = e.setting ∙ d.setting;
   closing = e.closing ∙ d.closing;
   names = e.names ∙ d.names;
   first = e.first ∙ d.first;
   never_falls = omega (arith, d.never_falls, e.never_falls);
+  history = some-then a.history b.history c.history d.history e.history;
 }
 
 pub left_so : (a : SystemView) → Leaves a a
@@ -103,6 +105,7 @@ does-then a b c l ns ms d e = record {
       (e.claims (with_loads a.setting w l (note_events ns)) (rmap_after_all l (note_events ns) r) (d.claims w r h)));
   failures = subst (λ n. RoseBy n a.failures c.failures) (sym (how_many-append is_fail ns ms))
       (rose-then (fails ns) (fails ms) (2 ^ 64 - 1) a.failures b.failures c.failures d.failures e.failures);
+  wrote = wrote-notes a.history b.history c.history ns ms d.wrote e.wrote;
 }
 
 pub goes-then : (a b c : SystemView) (l : Ledger) (ns ms : List Note) → Goes a b l ns → Goes b c (after_notes l ns) ms → Goes a c l (ns ++ ms)
@@ -127,6 +130,7 @@ does-none a l h = record {
   stays = stays_so a;
   chooses = refl;
   failures = rose-none a.failures (2 ^ 64 - 1) a.failures a.failures refl (omega arith);
+  wrote = wrote-none a.history;
 }
 
 -- ---- calls put together

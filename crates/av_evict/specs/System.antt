@@ -4,11 +4,13 @@ use Rattle.av_base.specs.declared.slot.Slot.{Slot}
 use Rattle.av_io.specs.Count.{RoseBy}
 use Rattle.av_trace.specs.declared.note.Note.{Note}
 use Rattle.av_plain.specs.Areas.{Rmap, rmap_after_all}
+use Rattle.av_swapdev.specs.Device.{History}
 use Rattle.av_plain.specs.Choice.{ChoosesAll, Free}
+use Rattle.av_plain.specs.Device.{Wrote, WroteSome}
 use Rattle.av_plain.specs.Event.{after_notes, note_events}
 use Rattle.av_plain.specs.Ledger.{Ledger, Setting}
 use Rattle.av_plain.specs.Load.{with_loads}
-use Rattle.av_plain.specs.Pass.{Spared, fails}
+use Rattle.av_plain.specs.Pass.{Spared, fails, pages_written}
 use Rattle.av_plain.specs.World.{World}
 use Rattle.av_plain.specs.Sound.{IsSound, IsSoundBut}
 
@@ -20,8 +22,9 @@ pub record SystemView : Type 1 where
   pub free : Free
   -- page 0 of each swap area, where its device tells its pages
   pub first : Option (ℕ → List ℕ)
-  -- how often its device failed
+  -- how often its device failed, and what that was asked
   pub failures : ℕ
+  pub history : History
   -- the ghost names of the references that it holds
   pub names : List ℕ
   -- the frames of locked pages
@@ -48,13 +51,15 @@ Knows k P = (l : Ledger) × IsSoundBut k.setting any_slot l × k.stands l × P l
 abbrev pub Tells : SystemView → (Ledger → Type 0) → Type 0
 Tells k P = (l : Ledger) → IsSoundBut k.setting any_slot l → k.stands l → P l
 
--- what no step changes, and a count of failures that never falls
+-- what no step changes; a count of failures that never falls; and a device that was only asked to
+-- write, and no header
 pub record Stays (old new : SystemView) : Type 0 where
   pub setting : new.setting ≡ old.setting
   pub closing : new.closing ≡ old.closing
   pub names : new.names ≡ old.names
   pub first : new.first ≡ old.first
   pub never_falls : old.failures ≤ new.failures
+  pub history : WroteSome old.history new.history
 
 -- and the same frames are locked: so it is where no page is mapped, locked or unlocked
 pub record Leaves (old new : SystemView) : Type 0 where
@@ -68,6 +73,7 @@ pub record Does (old new : SystemView) (l : Ledger) (notes : List Note) : Type 0
   pub stays : Stays old new
   pub chooses : ChoosesAll old.setting old.closing l (note_events notes) old.free new.free
   pub failures : RoseBy (fails notes) old.failures new.failures
+  pub wrote : Wrote (pages_written notes) old.history new.history
   pub claims : (w : World) (r : Rmap) → old.claims w r l
       → new.claims (with_loads old.setting w l (note_events notes))
       (rmap_after_all l (note_events notes) r) (after_notes l notes)

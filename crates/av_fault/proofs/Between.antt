@@ -8,7 +8,7 @@ use Rattle.av_base.specs.declared.slot.Slot.{Slot}
 use Rattle.av_spaces.specs.Kin.{AnonsFit}
 use Rattle.av_swapdev.specs.Header.{Layout}
 use Rattle.av_plain.specs.Areas.{Rmap}
-use Rattle.av_plain.specs.Device.{Device, IsSameDevice, as_told, device_by, headers_of, setting_of}
+use Rattle.av_plain.specs.Device.{Device, IsSameDevice, as_told, device_by, headers_of, setting_of, Calls}
 use Rattle.av_plain.specs.Ledger.{Entry, InFrame, InSlot, Ledger, Setting, Zero, entry, frame_at, SwapArea, is_on, may_be_slot, size_of, slot_count}
 use Rattle.av_plain.specs.Sound.{count}
 use Rattle.av_plain.specs.Stands.{BytesStand, IsClean, IsKept, IsKeptAt, View}
@@ -79,20 +79,6 @@ between-of d k s h = record { sound = h.stands.sound.ledger; serves = keeps-serv
 
 -- ---- the device
 
-pub same-still : (d : Device) → IsSameDevice d d
-same-still d = record { sizes = refl; first = refl; failures = omega arith }
-
-pub told-same : (told : Bool) (d d' : Device) → IsSameDevice d d' → IsSameDevice (as_told told d) (as_told told d')
-told-same true d d' same = same
-told-same false d d' same = record { sizes = same.sizes; first = refl; failures = same.failures }
-
-pub same-then : (a b c : Device) → IsSameDevice a b → IsSameDevice b c → IsSameDevice a c
-same-then a b c ab bc = record {
-  sizes = bc.sizes ∙ ab.sizes;
-  first = bc.first ∙ ab.first;
-  failures = let x = ab.failures in let y = bc.failures in omega (arith, x, y);
-}
-
 pub setting-stays : (d d' : Device) (old new : Mem) → IsSameDevice d d' → frame_count new ≡ frame_count old → setting_by d' new ≡ setting_by d old
 setting-stays d d' old new same count = ap (λ n. setting_of n d') count ∙ setting_same (frame_count old) d d' same
 
@@ -142,7 +128,7 @@ usable o true true false e s is = cc
 usable o true false c e s is = cc
 usable o false b c e s is = cc
 
-module _ (d : Device) (k : Mem) (w : World) (r : Rmap) (l : Ledger) (n : ℕ) (h : KeepsBetween d k w r l) where
+module _ (d : Device) (k : Mem) (w : World) (r : Rmap) (l : Ledger) (n : Calls) (h : KeepsBetween d k w r l) where
   abbrev m : Setting
   m = setting_by (device_by d.sizes None n) k
 
@@ -215,8 +201,8 @@ module _ (d : Device) (k : Mem) (w : World) (r : Rmap) (l : Ledger) (n : ℕ) (h
       unsaid None = tt
       unsaid (Some area) = tt
 
--- the count of failures is nothing that is stood for
-pub between-some : (sizes : ℕ → Option ℕ) (k : Mem) (n : ℕ) → IsBetween sizes k
+-- what the device tells of its calls is nothing that is stood for
+pub between-some : (sizes : ℕ → Option ℕ) (k : Mem) (n : Calls) → IsBetween sizes k
     → (w : World) × (r : Rmap) × (l : Ledger) × KeepsBetween (device_by sizes None n) k w r l
 between-some sizes k n h = (h.1, h.2, h.3, between-untold (device_by sizes None h.0) k h.1 h.2 h.3 n h.4)
 

@@ -247,14 +247,14 @@ pub is-in : (d d1 : Device) (old mid : Mem) (k : Key) (s : Slot) (home : Option 
     → Does d d1 old (λ d d' w r l. HasCome (λ m w l added came. Comes m w l k s added came) d d' old mid w r l before amid end) → end ≡ Ok f
     → IsIn d1.sizes mid k home
 is-in d d1 old mid k s home before amid f end between there is does ok =
-    let b = between-some d.sizes old d.failures between in
+    let b = between-some d.sizes old (d.failures, d.history) between in
     let d0 = as_told false d in
     let d2 = as_told false d1 in
     let came = subst (HasCome (λ m w l added came. Comes m w l k s added came) d0 d2 old mid b.0 b.1 b.2 before amid) ok
     (does false b.0 b.1 b.2 b.3) in
     let at = entry-away d0 None old b.0 b.1 b.2 b.3.serves k s there in
     record {
-      between = (d1.failures, _, _, _, came.done.between);
+      between = ((d1.failures, d1.history), _, _, _, came.done.between);
       is_home = is ∙ ap (home_of k.1) (sym (pages-come d0 d2 old mid b.0 b.1 b.2 k s before amid f at came b.3 k.0 k.1));
     }
 

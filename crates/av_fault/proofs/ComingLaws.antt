@@ -19,12 +19,12 @@ use Rattle.av_vma.specs.Pages.{home_of}
 use Rattle.av_vma.specs.declared.area.Area.{Area}
 use Rattle.av_plain.specs.Areas.{Rmap, rmap_after_all, rmap_after_note}
 use Rattle.av_plain.specs.Choice.{ChoosesAll}
-use Rattle.av_plain.specs.Device.{Device, IsSameDevice, as_told}
-use Rattle.av_plain.specs.Event.{Event, Noted, after_all, after_note, after_notes, key_at, note_events, set_entry}
+use Rattle.av_plain.specs.Device.{Device, IsSameDevice, as_told, Wrote}
+use Rattle.av_plain.specs.Event.{Event, Noted, after_all, after_note, after_notes, key_at, note_events, set_entry, notes_of}
 use Rattle.av_plain.specs.Fault.{ComesIn, need_of_slot, sparing}
 use Rattle.av_plain.specs.Ledger.{InFrame, InSlot, Key, Ledger, Setting, entry, frame_at, has_free, is_free}
 use Rattle.av_plain.specs.Load.{with_loads}
-use Rattle.av_plain.specs.Pass.{TakesFor, fails, is_fail, is_spared}
+use Rattle.av_plain.specs.Pass.{TakesFor, fails, is_fail, is_spared, pages_written}
 use Rattle.av_plain.specs.Sound.{no_excuse, slots}
 use Rattle.av_plain.specs.Stands.{Pte as Plain, View, entry_of, free_of}
 use Rattle.av_plain.specs.World.{World}
@@ -58,10 +58,11 @@ use Rattle.av_fault.specs.declared.fault.Stop.TheVariants.{Bus, Oom}
 use Rattle.av_fault.specs.declared.seek.Got.{Got}
 use Rattle.av_fault.specs.declared.seek.Got.TheVariants.{Frame, Out}
 use Rattle.av_fault.proofs.Amid.{Amid}
-use Rattle.av_fault.proofs.Between.{SaysAsMuch, between-some, bytes-move, fit-stays, same-still, same-then, setting-stays, to-amid, to-fit}
+use Rattle.av_fault.proofs.Between.{SaysAsMuch, between-some, bytes-move, fit-stays, setting-stays, to-amid, to-fit}
 use Rattle.av_fault.proofs.Done.{done-by, done-none, done-then, rose-none, rose-then}
 use Rattle.av_fault.proofs.Run.{run-done, run-none, run-then}
 use Rattle.av_fault.proofs.SeekLaws.{free-some}
+use Rattle.av_plain.proofs.Wrote.{device-itself, device-on, wrote-none}
 
 -- ---- notes that are no failed write
 
@@ -176,7 +177,7 @@ module _ (d d1 : Device) (old mid : Mem) (w : World) (r : Rmap) (l : Ledger) (q 
 
   -- ---- the device did not give the page
 
-  module _ (d2 : Device) (new : Mem) (same : IsSameDevice d1 d2) (says : SaysAsMuch d1 d2) (seen : view new ≡ view mid)
+  module _ (d2 : Device) (new : Mem) (same : IsSameDevice d1 d2) (asked : d2.history ≡ d1.history) (says : SaysAsMuch d1 d2) (seen : view new ≡ view mid)
       (parts : KeepsParts mid new) where
     moved : Amid m1 (held_by d2 new w1 r1 l1)
     moved =
@@ -202,7 +203,8 @@ module _ (d d1 : Device) (old mid : Mem) (w : World) (r : Rmap) (l : Ledger) (q 
         })
 
     lost-done : HasDone d d2 old new w r l sought_events
-    lost-done = done-by d d2 old new w w1 r r1 l l1 sought_events refl refl refl (same-then d d1 d2 sought.done.same same)
+    lost-done = done-by d d2 old new w w1 r r1 l l1 sought_events refl refl refl (device-on d d1 d2 sought.done.same same)
+        (subst (λ h. Wrote (pages_written (notes_of sought_events)) d.history h) (sym asked) sought.done.wrote)
         (parts.count ∙ sought.done.count)
         (subst (λ m. Amid m (held_by d2 new w1 r1 l1)) (setting-stays d d1 old mid sought.done.same sought.done.count) moved)
         (fit-stays d1 d2 mid new same parts (to-fit d1 mid w1 r1 l1 between))
@@ -257,7 +259,7 @@ module _ (d d1 : Device) (old mid : Mem) (w : World) (r : Rmap) (l : Ledger) (q 
         (load-sound m1 no_excuse l1 between.sound f s (uncached-may_load m1 no_excuse l1 between.sound f s out_now first.free)
         (named-slot l1 q s at_now) first.below))
         (seen-loaded d1 None mid w1 r1 l1 no_excuse between.sound between.serves q s at_now out_now home home_now new pages f homed is_home load got)
-        refl refl refl refl (same-still d1) parts.count (fit-stays d1 d1 mid new (same-still d1) parts (to-fit d1 mid w1 r1 l1 between))
+        refl refl refl refl (device-itself d1) (wrote-none d1.history) parts.count (fit-stays d1 d1 mid new (device-itself d1) parts (to-fit d1 mid w1 r1 l1 between))
 
     abbrev added : List Note
     added = sought.added ++ Loaded s f ∷ []
@@ -295,6 +297,11 @@ pub told-rose : (told : Bool) (n : ℕ) (d d' : Device) → RoseBy n d.failures 
 told-rose true n d d' rose = rose
 told-rose false n d d' rose = rose
 
+-- and of what it was asked
+pub told-asked : (told : Bool) (d d' : Device) → d'.history ≡ d.history → (as_told told d').history ≡ (as_told told d).history
+told-asked true d d' asked = asked
+told-asked false d d' asked = asked
+
 -- what the load asks for, whatever the device tells
 pub record IsToLoad (sizes : ℕ → Option ℕ) (mid : Mem) (s : Slot) (home : Option (ℕ × ℕ)) : Type 0 where
   pub anon : (x : ℕ × ℕ) → home ≡ Some x → IsSome (info_of mid.anons x.0)
@@ -311,7 +318,7 @@ pub to-load : (d d1 : Device) (old mid : Mem) (q : Key) (s : Slot) (home : Optio
     → entry_at old.tables q.0 q.1 ≡ Away s → home ≡ home_of q.1 (pages_of old.spaces.processes q.0 q.1) → (view old).find s ≡ None
     → Does d d1 old (λ d d' w r l. HasSought d d' old mid w r l None before now found) → found ≡ Frame → IsToLoad d1.sizes mid s home
 to-load d d1 old mid q s home before now found between there is absent does frame =
-    let b = between-some d.sizes old d.failures between in
+    let b = between-some d.sizes old (d.failures, d.history) between in
     let d0 = as_told false d in
     let d2 = as_told false d1 in
     let sought = subst (HasSought d0 d2 old mid b.0 b.1 b.2 None before now) frame (does false b.0 b.1 b.2 b.3) in
@@ -431,7 +438,7 @@ module _ (d d1 : Device) (old mid : Mem) (w : World) (r : Rmap) (l : Ledger) (q 
         (map-sound mf no_excuse lf fetched.sound q.0 (address_of q.1) f s at_address is_there.cached))
         (seen-mapped d1 None mid wf rf lf no_excuse fetched.sound fetched.serves q s is_there.at f is_there.cached new now_seen) refl refl
         (sym (without-loads mf wf lf (Noted note ∷ []) refl)) refl
-        (same-still d1) parts.count (fit-stays d1 d1 mid new (same-still d1) parts (to-fit d1 mid wf rf lf fetched))
+        (device-itself d1) (wrote-none d1.history) parts.count (fit-stays d1 d1 mid new (device-itself d1) parts (to-fit d1 mid wf rf lf fetched))
 
     comes_in : ComesIn (setting_by d old) (sparing w) l q (need_of_slot s (frame_at l s)) (came.added ++ note ∷ [])
     comes_in = by (frame_at l s) came.comes
@@ -490,7 +497,7 @@ pub to-map : (d d1 : Device) (old mid : Mem) (q : Key) (s : Slot) (before now : 
     → Does d d1 old (λ d d' w r l. HasCome (λ m w l added came. Fetches m w l s added came) d d' old mid w r l before now end) → end ≡ Ok f
     → IsToMap mid q s f
 to-map d d1 old mid q s before now f end between there does is =
-    let b = between-some d.sizes old d.failures between in
+    let b = between-some d.sizes old (d.failures, d.history) between in
     let d0 = as_told false d in
     let d2 = as_told false d1 in
     let came = subst (HasCome (λ m w l added came. Fetches m w l s added came) d0 d2 old mid b.0 b.1 b.2 before now) is

@@ -47,13 +47,14 @@ use Rattle.av_fault.specs.declared.fault.Touched.TheVariants.{Ready}
 use Rattle.av_fault.specs.declared.seek.Got.{Got}
 use Rattle.av_fault.specs.declared.seek.Got.TheVariants.{Frame}
 use Rattle.av_fault.proofs.Amid.{Amid}
-use Rattle.av_fault.proofs.Between.{fit-stays, same-still, to-amid, to-fit}
+use Rattle.av_fault.proofs.Between.{fit-stays, to-amid, to-fit}
 use Rattle.av_fault.proofs.EntryLaws.{page-back}
 use Rattle.av_fault.proofs.Run.{Run, run-done, run-none, run-then}
 use Rattle.av_fault.proofs.SharedLaws.{is_last, keeps-use, loses-use, shared-by}
 use Rattle.av_fault.proofs.SoughtLaws.{entry-sought, ledger_now, pages-sought, passed, rmap_now, world_now}
 use Rattle.av_fault.proofs.TakenLaws.{home-twice, taken-made, used-run}
 use Rattle.av_fault.proofs.UsingLaws.{entry-here}
+use Rattle.av_plain.proofs.Wrote.{device-itself, wrote-none}
 
 -- the entry after the note
 copy-there : (p a f : ℕ) (l : Ledger) → entry (after_note (Copied p a f) l) (p, page_of a) ≡ Some (InFrame f false)
@@ -167,7 +168,7 @@ module _ (d : Device) (mid new : Mem) (w : World) (r : Rmap) (l : Ledger) (p f g
       (copy-run m here (to-amid d mid w r l h) p a f g left first seen at shared mapped) now refl refl
       (sym (without-loads m w l (Noted (Copied p a f) ∷ Used true k ∷ []) refl))
       (sym (ap (λ o. rmap_after_use true k o (at_home f k r)) (copy-there p a f l) ∙ (λ i. record r { homes = home-twice f home r.homes i })))
-      (same-still d) parts.count (fit-stays d d mid new (same-still d) parts (to-fit d mid w r l h))
+      (device-itself d) (wrote-none d.history) parts.count (fit-stays d d mid new (device-itself d) parts (to-fit d mid w r l h))
 
   pub copy-done-at : (page : ℕ) → CopyDone (address_of page) page
   copy-done-at page = subst (CopyDone (address_of page)) (page-back page) (copy-done (address_of page))

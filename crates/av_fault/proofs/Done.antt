@@ -3,19 +3,21 @@ use Rattle.std.proofs.Common.{◌≡◌, ℕ, ◌+◌, Bool, true, false, cond, 
 use Rattle.av_io.specs.Count.{RoseBy}
 use Rattle.av_plain.specs.Areas.{Rmap, rmap_after_all}
 use Rattle.av_plain.specs.Choice.{ChoosesAll}
-use Rattle.av_plain.specs.Device.{Device, IsSameDevice}
-use Rattle.av_plain.specs.Event.{Event, after, after_all}
+use Rattle.av_plain.specs.Device.{Device, IsSameDevice, Wrote}
+use Rattle.av_plain.specs.Event.{Event, after, after_all, notes_of}
 use Rattle.av_plain.specs.Ledger.{Ledger, Setting}
 use Rattle.av_plain.specs.Load.{after_load, after_loads, with_loads}
 use Rattle.av_plain.specs.Stands.{free_of}
 use Rattle.av_plain.specs.World.{World}
-use Rattle.av_plain.proofs.Access.{after_all-append, chooses-append}
+use Rattle.av_plain.proofs.Access.{after_all-append, chooses-append, notes_of-append}
 use Rattle.av_plain.proofs.AreasLeft.{rmap_after_all-append}
 use Rattle.av_mem.specs.declared.mem.Mem.{Mem}
 use Rattle.av_mem.specs.Mem.{frame_count, held_by, setting_by, view}
 use Rattle.av_mem.specs.Between.{HasDone, KeepsBetween}
 use Rattle.av_fault.proofs.Amid.{Amid}
-use Rattle.av_fault.proofs.Between.{PartsFit, of-amid, same-still, same-then, setting-stays}
+use Rattle.av_fault.proofs.Between.{PartsFit, of-amid, setting-stays}
+use Rattle.av_plain.proofs.Wrote.{device-itself, device-on, wrote-none, wrote-notes}
+use Rattle.av_plain.specs.Pass.{pages_written}
 
 -- ---- the memories
 
@@ -37,14 +39,16 @@ loads-append m w l es fs = by (is_some m.headers)
 -- what stands afterwards, and what was chosen, make it
 pub done-by : (d d' : Device) (old new : Mem) (w w' : World) (r r' : Rmap) (l l' : Ledger) (events : List Event)
     → w' ≡ with_loads (setting_by d old) w l events → r' ≡ rmap_after_all l events r → l' ≡ after_all l events
-    → IsSameDevice d d' → frame_count new ≡ frame_count old → Amid (setting_by d old) (held_by d' new w' r' l') → PartsFit d' new
+    → IsSameDevice d d' → Wrote (pages_written (notes_of events)) d.history d'.history
+    → frame_count new ≡ frame_count old → Amid (setting_by d old) (held_by d' new w' r' l') → PartsFit d' new
     → ChoosesAll (setting_by d old) None l events (free_of (view old)) (free_of (view new)) → HasDone d d' old new w r l events
-done-by d d' old new w w' r r' l l' events world rmap ledger same count amid fit chosen = record {
+done-by d d' old new w w' r r' l l' events world rmap ledger same wrote count amid fit chosen = record {
   between = subst (λ x. KeepsBetween d' new x (rmap_after_all l events r) (after_all l events)) world
       (subst (λ x. KeepsBetween d' new w' x (after_all l events)) rmap (subst (KeepsBetween d' new w' r') ledger
       (of-amid d' new w' r' l' (subst (λ m. Amid m (held_by d' new w' r' l')) (sym (setting-stays d d' old new same count)) amid) fit)));
   free = chosen;
   same = same;
+  wrote = wrote;
   count = count;
 }
 
@@ -53,7 +57,8 @@ pub done-none : (d : Device) (k : Mem) (w : World) (r : Rmap) (l : Ledger) → K
 done-none d k w r l h = record {
   between = subst (λ x. KeepsBetween d k x r l) (sym (by (is_some (setting_by d k).headers))) h;
   free = refl;
-  same = same-still d;
+  same = device-itself d;
+  wrote = wrote-none d.history;
   count = refl;
 }
   where
@@ -79,7 +84,9 @@ module _ (d d' d'' : Device) (old mid new : Mem) (w : World) (r : Rmap) (l : Led
         (sym (after_all-append l es fs)) b.between));
     free = chooses-append (setting_by d old) None l es fs (free_of (view old)) (free_of (view mid)) (free_of (view new)) a.free
         (subst (λ m. ChoosesAll m None (after_all l es) fs (free_of (view mid)) (free_of (view new))) same-setting b.free);
-    same = same-then d d' d'' a.same b.same;
+    same = device-on d d' d'' a.same b.same;
+    wrote = subst (λ ns. Wrote (pages_written ns) d.history d''.history) (sym (notes_of-append es fs))
+        (wrote-notes d.history d'.history d''.history (notes_of es) (notes_of fs) a.wrote b.wrote);
     count = b.count ∙ a.count;
   }
     where

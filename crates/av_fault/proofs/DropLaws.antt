@@ -34,10 +34,11 @@ use Rattle.av_mem.specs.Mem.{held_by, plain, setting_by, view}
 use Rattle.av_mem.specs.Steps.{KeepsParts}
 use Rattle.av_mem.specs.Between.{HasDone, KeepsBetween}
 use Rattle.av_fault.specs.Using.{HasDropped, HasDroppedFull}
-use Rattle.av_fault.proofs.Between.{fit-stays, same-still, to-amid, to-fit}
+use Rattle.av_fault.proofs.Between.{fit-stays, to-amid, to-fit}
 use Rattle.av_fault.proofs.Done.{done-none}
 use Rattle.av_fault.proofs.Run.{run-done, run-none, run-then}
 use Rattle.av_fault.proofs.SoughtLaws.{free-unmapped}
+use Rattle.av_plain.proofs.Wrote.{device-itself, wrote-none}
 
 -- ---- the view
 
@@ -242,8 +243,8 @@ module _ (d : Device) (old : Mem) (w : World) (r : Rmap) (l : Ledger) (h : Keeps
           anons = refl;
         })
         (drop-sound setting l s h.sound no_flight))
-        now refl refl (sym (without-loads setting w l (Noted (Dropped s) ∷ []) refl)) refl (same-still d) parts.count
-        (fit-stays d d old new (same-still d) parts (to-fit d old w r l h))
+        now refl refl (sym (without-loads setting w l (Noted (Dropped s) ∷ []) refl)) refl (device-itself d) (wrote-none d.history) parts.count
+        (fit-stays d d old new (device-itself d) parts (to-fit d old w r l h))
 
     pub has-dropped : (before after : List Note) → after ≡ before ++ Dropped s ∷ [] → HasDropped d old new w r l f before after false
     has-dropped before after notes = record {

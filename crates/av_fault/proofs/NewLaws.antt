@@ -43,12 +43,13 @@ use Rattle.av_fault.specs.Seek.{HasSought}
 use Rattle.av_fault.specs.declared.fault.Touched.TheVariants.{Ready}
 use Rattle.av_fault.specs.declared.seek.Got.TheVariants.{Frame}
 use Rattle.av_fault.proofs.Amid.{Amid}
-use Rattle.av_fault.proofs.Between.{fit-stays, same-still, to-amid, to-fit}
+use Rattle.av_fault.proofs.Between.{fit-stays, to-amid, to-fit}
 use Rattle.av_fault.proofs.EntryLaws.{entry-is, mapped-is, page-back}
 use Rattle.av_fault.proofs.Prepared.{prepared, prepared-owns}
 use Rattle.av_fault.proofs.Run.{Run, run-done, run-none, run-then}
 use Rattle.av_fault.proofs.SoughtLaws.{entry-sought, free-sought, ledger_now, lives-sought, mapped-sought, rmap_now, world_now}
 use Rattle.av_fault.proofs.TakenLaws.{home-twice, taken-made, used-run}
+use Rattle.av_plain.proofs.Wrote.{device-itself, wrote-none}
 
 -- a page without a frame or slot has no entry, or that of zeros
 pub bare-blank : (e : Pte) (o : Option Entry) → IsBare e → o ≡ entry_of (plain e) → IsBlank o
@@ -140,7 +141,7 @@ module _ (d : Device) (mid new : Mem) (spaces : AllSpaces) (anons : AnonSet) (w 
         (new-run m here (to-amid d prep w r' l h) p a f left first blank owns mapped) now refl refl
         (sym (without-loads m w l (Noted (New p a f) ∷ Used true k ∷ []) refl))
         (sym (ap (λ o. rmap_after_use true k o (at_home f k r')) (new-there p a f l) ∙ (λ i. record r' { homes = home-twice f home r'.homes i })))
-        (same-still d) parts.count (fit-stays d d prep new (same-still d) parts (to-fit d prep w r' l h))
+        (device-itself d) (wrote-none d.history) parts.count (fit-stays d d prep new (device-itself d) parts (to-fit d prep w r' l h))
 
     pub new-done-at : (page : ℕ) → NewDone (address_of page) page
     new-done-at page = subst (NewDone (address_of page)) (page-back page) (new-done (address_of page))

@@ -2,8 +2,8 @@
 use Rattle.std.proofs.Common.{◌≡◌, ◌++◌, List, [], ◌∷◌, None, refl, sym, ap, subst, ◌∙◌}
 use Rattle.av_plain.specs.Areas.{Rmap, rmap_after_all}
 use Rattle.av_plain.specs.Choice.{ChoosesAll, Free}
-use Rattle.av_plain.specs.Device.{Device, IsSameDevice}
-use Rattle.av_plain.specs.Event.{Event, after, after_all}
+use Rattle.av_plain.specs.Device.{Device, IsSameDevice, Wrote}
+use Rattle.av_plain.specs.Event.{Event, after, after_all, notes_of}
 use Rattle.av_plain.specs.Ledger.{Ledger, Setting}
 use Rattle.av_plain.specs.Load.{with_loads}
 use Rattle.av_plain.specs.Sound.{IsSound}
@@ -17,6 +17,7 @@ use Rattle.av_mem.specs.Between.{HasDone}
 use Rattle.av_fault.proofs.Amid.{Amid, Beside, IsOfAccess, amid-after}
 use Rattle.av_fault.proofs.Between.{PartsFit}
 use Rattle.av_fault.proofs.Done.{done-by}
+use Rattle.av_plain.specs.Pass.{pages_written}
 
 -- these events lead from what stands to what stands
 pub record Run (m : Setting) (h h' : Held) (events : List Event) : Type 0 where
@@ -42,9 +43,10 @@ run-then m h h1 h2 events e run of steps beside sound = record {
 pub run-done : (d d' : Device) (old new : Mem) (w w' : World) (r r' : Rmap) (l l' : Ledger) (events : List Event) (h : Held) (v : View)
     → Run (setting_by d old) h (record { view = v; device = d'; world = w'; ledger = l'; rmap = r' }) events → view new ≡ v
     → h.ledger ≡ l → free_of h.view ≡ free_of (view old) → w' ≡ with_loads (setting_by d old) w l events → r' ≡ rmap_after_all l events r
-    → IsSameDevice d d' → frame_count new ≡ frame_count old → PartsFit d' new → HasDone d d' old new w r l events
-run-done d d' old new w w' r r' l l' events h v run seen ledger free world rmap same count fit =
-    done-by d d' old new w w' r r' l l' events world rmap (run.ledger ∙ ap (λ x. after_all x events) ledger) same count
+    → IsSameDevice d d' → Wrote (pages_written (notes_of events)) d.history d'.history
+    → frame_count new ≡ frame_count old → PartsFit d' new → HasDone d d' old new w r l events
+run-done d d' old new w w' r r' l l' events h v run seen ledger free world rmap same wrote count fit =
+    done-by d d' old new w w' r r' l l' events world rmap (run.ledger ∙ ap (λ x. after_all x events) ledger) same wrote count
     (subst (λ x. Amid (setting_by d old) (record { view = x; device = d'; world = w'; ledger = l'; rmap = r' })) (sym seen) run.amid) fit
     (subst (λ x. ChoosesAll (setting_by d old) None l events (free_of (view old)) (free_of x)) (sym seen)
     (subst (λ (x : Free). ChoosesAll (setting_by d old) None l events x (free_of v)) free

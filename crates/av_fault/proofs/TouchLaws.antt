@@ -38,11 +38,12 @@ use Rattle.av_fault.specs.Making.{HasMade, IsMadeBy, Makes}
 use Rattle.av_fault.specs.declared.fault.Stop.TheVariants.{Bus, Oom, Segv}
 use Rattle.av_fault.specs.declared.fault.Touched.{Touched}
 use Rattle.av_fault.specs.declared.fault.Touched.TheVariants.{Ready, Stopped, Zeros}
-use Rattle.av_fault.proofs.Between.{between-of, fit-stays, same-still, to-amid, to-fit, told-same}
+use Rattle.av_fault.proofs.Between.{between-of, fit-stays, to-amid, to-fit}
 use Rattle.av_fault.proofs.Done.{rose-none}
 use Rattle.av_fault.proofs.EntryLaws.{entry-is}
 use Rattle.av_fault.proofs.Run.{run-done, run-none, run-then}
 use Rattle.av_fault.proofs.UsingLaws.{entry-here}
+use Rattle.av_plain.proofs.Wrote.{device-itself, device-told, wrote-none}
 
 -- ---- areas
 
@@ -197,8 +198,8 @@ zeros-touched d old w r l k notes h allowed there =
           (blank-steps m None here h.serves.held k.0 k.1 (subst IsBlank (sym at) tt))
           (record { world = sym (without-loads m w l (Used false k ∷ []) refl); view_areas = refl; view_anons = refl; areas = refl; anons = refl })
           h.sound)
-          refl refl refl (sym (without-loads m w l (Used false k ∷ []) refl)) refl (same-still d) refl
-          (fit-stays d d old old (same-still d) (rest-none old).parts (to-fit d old w r l h));
+          refl refl refl (sym (without-loads m w l (Used false k ∷ []) refl)) refl (device-itself d) (wrote-none d.history) refl
+          (fit-stays d d old old (device-itself d) (rest-none old).parts (to-fit d old w r l h));
       failures = rose-none d.failures;
       failed = omega arith;
     })
@@ -222,6 +223,7 @@ module _ (d d' : Device) (s : State) (old new : Mem) (write : Bool) (k : Key) (b
               (after_all s.ledger events)) same h.done.between.serves;
           free = subst (λ m. ChoosesAll m None s.ledger events s.free (free_of (view new))) same
               (subst (λ (x : Free). ChoosesAll (setting_by d old) None s.ledger events x (free_of (view new))) keeps.stands.free h.done.free);
+          wrote = h.done.wrote;
         };
         failures = h.failures;
         failed = h.failed;
@@ -233,7 +235,7 @@ pub is-ready : (told : Bool) (d d' : Device) (old new : Mem) (write : Bool) (k :
     → IsSameDevice d d' → frame_count new ≡ frame_count old → MakesReady (as_told told d) (as_told told d') old new write k before now result
 is-ready told d d' old new write k before now result done same count = record {
   step = λ s keeps. by result done s keeps;
-  same = told-same told d d' same;
+  same = device-told told d d' same;
   count = count;
 }
   where

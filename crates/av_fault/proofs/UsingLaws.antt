@@ -37,8 +37,9 @@ use Rattle.av_mem.specs.Steps.{KeepsParts}
 use Rattle.av_mem.specs.Between.{HasDone, KeepsBetween}
 use Rattle.av_fault.specs.Using.{IsHere}
 use Rattle.av_fault.proofs.Amid.{Amid}
-use Rattle.av_fault.proofs.Between.{fit-stays, same-still, to-amid, to-fit}
+use Rattle.av_fault.proofs.Between.{fit-stays, to-amid, to-fit}
 use Rattle.av_fault.proofs.Run.{run-done, run-none, run-then}
+use Rattle.av_plain.proofs.Wrote.{device-itself, wrote-none}
 
 -- ---- an entry that is a frame
 
@@ -101,8 +102,8 @@ module _ (d : Device) (old new : Mem) (w : World) (r : Rmap) (l : Ledger) (h : K
       (own-here d old w r l h q f write seen there))
       (record { world = sym (without-loads m w l (Used false q ∷ []) refl); view_areas = refl; view_anons = refl; areas = refl; anons = refl })
       (after_use-kept m no_excuse l false q h.sound))
-      now refl refl (sym (without-loads m w l (Used false q ∷ []) refl)) refl (same-still d) parts.count
-      (fit-stays d d old new (same-still d) parts (to-fit d old w r l h))
+      now refl refl (sym (without-loads m w l (Used false q ∷ []) refl)) refl (device-itself d) (wrote-none d.history) parts.count
+      (fit-stays d d old new (device-itself d) parts (to-fit d old w r l h))
 
 -- ---- a write in place
 
@@ -226,7 +227,7 @@ module _ (d : Device) (old new : Mem) (w : World) (r : Rmap) (l : Ledger) (h : K
       (record { world = sym (without-loads m w l (Used true q ∷ []) refl); view_areas = refl; view_anons = refl; areas = refl; anons = refl })
       (after_use-kept m no_excuse l true q h.sound))
       (now ∙ ap (λ x. view_own q.0 q.1 f x dirty (view old)) is) refl refl (sym (without-loads m w l (Used true q ∷ []) refl))
-      (ap (λ o. rmap_after_use true q o r) (sym at)) (same-still d) parts.count (fit-stays d d old new (same-still d) parts (to-fit d old w r l h))
+      (ap (λ o. rmap_after_use true q o r) (sym at)) (device-itself d) (wrote-none d.history) parts.count (fit-stays d d old new (device-itself d) parts (to-fit d old w r l h))
 
 -- ---- an entry is marked as written, if it wasn't
 

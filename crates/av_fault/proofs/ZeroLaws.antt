@@ -24,10 +24,11 @@ use Rattle.av_mem.specs.Steps.{KeepsParts}
 use Rattle.av_mem.specs.Between.{HasDone, KeepsBetween}
 use Rattle.av_fault.specs.Making.{HasMade, IsMapped}
 use Rattle.av_fault.specs.declared.fault.Touched.TheVariants.{Zeros}
-use Rattle.av_fault.proofs.Between.{fit-stays, same-still, to-amid, to-fit}
+use Rattle.av_fault.proofs.Between.{fit-stays, to-amid, to-fit}
 use Rattle.av_fault.proofs.Done.{rose-none}
 use Rattle.av_fault.proofs.EntryLaws.{entry-is, mapped-is, page-back}
 use Rattle.av_fault.proofs.Run.{run-done, run-none, run-then}
+use Rattle.av_plain.proofs.Wrote.{device-itself, wrote-none}
 
 -- the entry after the note
 zero-there : (p a : ℕ) (l : Ledger) → entry (after_note (Zeroed p a) l) (p, page_of a) ≡ Some Zero
@@ -61,8 +62,8 @@ module _ (d : Device) (old new : Mem) (w : World) (r : Rmap) (l : Ledger) (h : K
         anons = refl;
       })
       run.amid.sound)
-      now refl refl (sym (without-loads m w l (Noted (Zeroed p a) ∷ Used false (p, page_of a) ∷ []) refl)) refl (same-still d) parts.count
-      (fit-stays d d old new (same-still d) parts (to-fit d old w r l h))
+      now refl refl (sym (without-loads m w l (Noted (Zeroed p a) ∷ Used false (p, page_of a) ∷ []) refl)) refl (device-itself d) (wrote-none d.history) parts.count
+      (fit-stays d d old new (device-itself d) parts (to-fit d old w r l h))
 
 -- what the page has then
 pub zero-made : (d : Device) (old new : Mem) (w : World) (r : Rmap) (l : Ledger) (k : Key) (before now : List Note) → KeepsBetween d old w r l

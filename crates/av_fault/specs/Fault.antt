@@ -5,8 +5,8 @@ use Rattle.std.specs.declared.alloc.AllocError.{AllocError}
 use Rattle.av_io.specs.Count.{RoseBy}
 use Rattle.av_trace.specs.declared.note.Note.{Note}
 use Rattle.av_plain.specs.Ledger.{Ledger, Key, Zero, InFrame, entry}
-use Rattle.av_plain.specs.Device.{Device, IsSameDevice}
-use Rattle.av_plain.specs.Event.{Event, after_all}
+use Rattle.av_plain.specs.Device.{Device, IsSameDevice, Wrote}
+use Rattle.av_plain.specs.Event.{Event, after_all, notes_of}
 use Rattle.av_plain.specs.Fault as served
 use Rattle.av_plain.specs.Fault.{Touches, Denied, Lost, Starved, asks_copy}
 use Rattle.av_plain.specs.Access.{page_events}
@@ -16,7 +16,7 @@ use Rattle.av_plain.specs.World.{World, allows}
 use Rattle.av_base.specs.declared.prot.Prot.{Prot}
 use Rattle.av_mem.specs.Between.{HasDone}
 use Rattle.av_plain.specs.Load.{with_loads}
-use Rattle.av_plain.specs.Pass.{fails}
+use Rattle.av_plain.specs.Pass.{fails, pages_written}
 use Rattle.av_plain.specs.Sound.{IsSound}
 use Rattle.av_plain.specs.Stands.{free_of}
 use Rattle.av_plain.specs.Transcript.{State, rmap_of}
@@ -69,12 +69,14 @@ IsReady write l k Zeros = (entry l k ≡ Some Zero) × (write ≡ false)
 IsReady write l k (Stopped stop) = Unit {0}
 
 -- what a page's events leave: the ledger is sound, kernel and device stand for it, for the memories
--- after the loads, and for the areas, anon_vmas and homes; but a write has stored no byte yet
+-- after the loads, and for the areas, anon_vmas and homes; but a write has stored no byte yet. The
+-- device was asked to write what the notes tell
 pub record IsServed (d d' : Device) (s : State) (new : Mem) (events : List Event) : Type 0 where
   pub sound : IsSound (setting_by d new) (after_all s.ledger events)
   pub serves : Serves d' None new (with_loads (setting_by d new) s.world s.ledger events)
       (rmap_after_all s.ledger events (rmap_of s)) (after_all s.ledger events)
   pub free : ChoosesAll (setting_by d new) None s.ledger events s.free (free_of (view new))
+  pub wrote : Wrote (pages_written (notes_of events)) d.history d'.history
 
 -- these notes were added, and they make the page ready or say why not; the device failed as often
 -- as the notes and the end tell, at the least, and the writes of all frames that an out-of-memory

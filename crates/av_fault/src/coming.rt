@@ -3,7 +3,7 @@
 ghost use Rattle.std.specs.Prelude.{◌≡◌, false, IfOk};
 ghost use Rattle.av_pagetable.specs.Entries.{entry_at};
 ghost use Rattle.av_pagetable.specs.declared.pte.Pte.TheVariants as Pte;
-ghost use Rattle.av_plain.specs.Device.{IsSameDevice, device_by};
+ghost use Rattle.av_plain.specs.Device.{IsSameDevice, seen_by};
 ghost use Rattle.av_spaces.specs.Spaces.{pages_of};
 ghost use Rattle.av_vma.specs.Pages.{home_of};
 ghost use Rattle.av_mem.specs.Mem.{frame_count};
@@ -32,14 +32,14 @@ pub(crate) fn come_in<D: SwapDev>(
     requires away { entry_at mem.old.tables key.0 key.1 ≡ Pte.Away slot }
     requires home { home ≡ home_of key.1 (pages_of mem.old.spaces.processes key.0 key.1) }
     ensures come { IfOk result (λ came. Does
-        (device_by (D.sizes dev.old) (D.pages dev.old) (D.failures dev.old))
-        (device_by (D.sizes dev.new) (D.pages dev.new) (D.failures dev.new)) mem.old (λ d d' w r l.
+        (seen_by D.sizes D.pages D.failures D.history dev.old)
+        (seen_by D.sizes D.pages D.failures D.history dev.new) mem.old (λ d d' w r l.
         HasCome (λ m w l added came. Comes m w l key slot added came)
         d d' mem.old mem.new w r l notes.old notes.new came)) }
     ensures here { IfOk result (λ came. IfOk came (λ f.
         entry_at mem.new.tables key.0 key.1 ≡ Pte.Here f false false)) }
-    ensures same { IsSameDevice (device_by (D.sizes dev.old) (D.pages dev.old) (D.failures dev.old))
-        (device_by (D.sizes dev.new) (D.pages dev.new) (D.failures dev.new)) }
+    ensures same { IsSameDevice (seen_by D.sizes D.pages D.failures D.history dev.old)
+        (seen_by D.sizes D.pages D.failures D.history dev.new) }
     ensures count { frame_count mem.new ≡ frame_count mem.old }
 {
     match fetch(mem, dev, key, slot, home, notes)? {
@@ -69,12 +69,12 @@ fn fetch<D: SwapDev>(
     requires away { entry_at mem.old.tables key.0 key.1 ≡ Pte.Away slot }
     requires home { home ≡ home_of key.1 (pages_of mem.old.spaces.processes key.0 key.1) }
     ensures fetched { IfOk result (λ came. Does
-        (device_by (D.sizes dev.old) (D.pages dev.old) (D.failures dev.old))
-        (device_by (D.sizes dev.new) (D.pages dev.new) (D.failures dev.new)) mem.old (λ d d' w r l.
+        (seen_by D.sizes D.pages D.failures D.history dev.old)
+        (seen_by D.sizes D.pages D.failures D.history dev.new) mem.old (λ d d' w r l.
         HasCome (λ m w l added came. Fetches m w l slot added came)
         d d' mem.old mem.new w r l notes.old notes.new came)) }
-    ensures same { IsSameDevice (device_by (D.sizes dev.old) (D.pages dev.old) (D.failures dev.old))
-        (device_by (D.sizes dev.new) (D.pages dev.new) (D.failures dev.new)) }
+    ensures same { IsSameDevice (seen_by D.sizes D.pages D.failures D.history dev.old)
+        (seen_by D.sizes D.pages D.failures D.history dev.new) }
     ensures count { frame_count mem.new ≡ frame_count mem.old }
 {
     if let Some(frame) = mem.swap.find(slot) {

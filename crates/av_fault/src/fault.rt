@@ -3,7 +3,7 @@
 ghost use Rattle.std.specs.Prelude.{◌≡◌, ◌<◌, Bool, true, false, is_some, IfOk, IfSome, IsSome};
 ghost use Rattle.av_base.specs.Limits.{top_page};
 ghost use Rattle.av_mem.specs.Mem.{frame_count, ranges_of, IsSteadyAt};
-ghost use Rattle.av_plain.specs.Device.{as_told, device_by, IsSameDevice};
+ghost use Rattle.av_plain.specs.Device.{as_told, IsSameDevice, seen_by};
 ghost use Rattle.av_plain.specs.Stands.{prot_of};
 ghost use Rattle.av_plain.specs.World.{allows};
 ghost use Rattle.av_spaces.specs.Spaces.{pages_of};
@@ -58,8 +58,8 @@ pub fn touch<D: SwapDev>(
 ) -> Result<Touched, AllocError>
     requires { IsSteadyAt (D.sizes dev.old) mem.old }
     ensures ready { (told : Bool) → MakesReady
-        (as_told told (device_by (D.sizes dev.old) (D.pages dev.old) (D.failures dev.old)))
-        (as_told told (device_by (D.sizes dev.new) (D.pages dev.new) (D.failures dev.new)))
+        (as_told told (seen_by D.sizes D.pages D.failures D.history dev.old))
+        (as_told told (seen_by D.sizes D.pages D.failures D.history dev.new))
         mem.old mem.new write (process, page) notes.old notes.new result }
 {
     let Some(area) = area_for(mem, process, page, write) else {
@@ -115,11 +115,11 @@ fn touch_to_read<D: SwapDev>(
         (prot_of (ranges_of mem.old.spaces.processes key.0) key.1) ≡ true }
     requires home { home ≡ home_of key.1 (pages_of mem.old.spaces.processes key.0 key.1) }
     ensures touched { IfOk result (λ touched. Does
-        (device_by (D.sizes dev.old) (D.pages dev.old) (D.failures dev.old))
-        (device_by (D.sizes dev.new) (D.pages dev.new) (D.failures dev.new)) mem.old (λ d d' w r l.
+        (seen_by D.sizes D.pages D.failures D.history dev.old)
+        (seen_by D.sizes D.pages D.failures D.history dev.new) mem.old (λ d d' w r l.
         HasTouched d d' mem.old mem.new w r l false key notes.old notes.new touched)) }
-    ensures same { IsSameDevice (device_by (D.sizes dev.old) (D.pages dev.old) (D.failures dev.old))
-        (device_by (D.sizes dev.new) (D.pages dev.new) (D.failures dev.new)) }
+    ensures same { IsSameDevice (seen_by D.sizes D.pages D.failures D.history dev.old)
+        (seen_by D.sizes D.pages D.failures D.history dev.new) }
     ensures count { frame_count mem.new ≡ frame_count mem.old }
 {
     match mem.tables.get(key.0, key.1) {
@@ -151,11 +151,11 @@ fn touch_to_write<D: SwapDev>(
         (prot_of (ranges_of mem.old.spaces.processes key.0) key.1) ≡ true }
     requires home { home ≡ home_of key.1 (pages_of mem.old.spaces.processes key.0 key.1) }
     ensures touched { IfOk result (λ touched. Does
-        (device_by (D.sizes dev.old) (D.pages dev.old) (D.failures dev.old))
-        (device_by (D.sizes dev.new) (D.pages dev.new) (D.failures dev.new)) mem.old (λ d d' w r l.
+        (seen_by D.sizes D.pages D.failures D.history dev.old)
+        (seen_by D.sizes D.pages D.failures D.history dev.new) mem.old (λ d d' w r l.
         HasTouched d d' mem.old mem.new w r l true key notes.old notes.new touched)) }
-    ensures same { IsSameDevice (device_by (D.sizes dev.old) (D.pages dev.old) (D.failures dev.old))
-        (device_by (D.sizes dev.new) (D.pages dev.new) (D.failures dev.new)) }
+    ensures same { IsSameDevice (seen_by D.sizes D.pages D.failures D.history dev.old)
+        (seen_by D.sizes D.pages D.failures D.history dev.new) }
     ensures count { frame_count mem.new ≡ frame_count mem.old }
 {
     match mem.tables.get(key.0, key.1) {

@@ -4,7 +4,7 @@ ghost use Rattle.std.specs.Prelude.{◌≡◌, Bool, true, false, IfOk};
 ghost use Rattle.av_pagetable.specs.Entries.{entry_at};
 ghost use Rattle.av_pagetable.specs.declared.pte.Pte.TheVariants as Pte;
 ghost use Rattle.av_plain.specs.Areas.{Rmap};
-ghost use Rattle.av_plain.specs.Device.{Device, IsSameDevice, device_by};
+ghost use Rattle.av_plain.specs.Device.{Device, IsSameDevice, seen_by};
 ghost use Rattle.av_plain.specs.Ledger.{Ledger};
 ghost use Rattle.av_plain.specs.World.{World};
 ghost use Rattle.av_spaces.specs.Spaces.{pages_of};
@@ -56,11 +56,11 @@ pub(crate) fn make_new<D: SwapDev>(
     requires mapped { IsMapped mem.old key }
     requires bare { IsBare (entry_at mem.old.tables key.0 key.1) }
     ensures made { IfOk result (λ touched. Does
-        (device_by (D.sizes dev.old) (D.pages dev.old) (D.failures dev.old))
-        (device_by (D.sizes dev.new) (D.pages dev.new) (D.failures dev.new)) mem.old (λ d d' w r l.
+        (seen_by D.sizes D.pages D.failures D.history dev.old)
+        (seen_by D.sizes D.pages D.failures D.history dev.new) mem.old (λ d d' w r l.
         HasMade d d' mem.old mem.new w r l true false key notes.old notes.new touched)) }
-    ensures same { IsSameDevice (device_by (D.sizes dev.old) (D.pages dev.old) (D.failures dev.old))
-        (device_by (D.sizes dev.new) (D.pages dev.new) (D.failures dev.new)) }
+    ensures same { IsSameDevice (seen_by D.sizes D.pages D.failures D.history dev.old)
+        (seen_by D.sizes D.pages D.failures D.history dev.new) }
     ensures count { frame_count mem.new ≡ frame_count mem.old }
 {
     if let Got::Out(out) = seek(mem, dev, None, notes)? {
@@ -90,12 +90,12 @@ pub(crate) fn make_copy<D: SwapDev>(
     requires shared { asks_copy_in (view mem.old) from ≡ true }
     requires home { home ≡ home_of key.1 (pages_of mem.old.spaces.processes key.0 key.1) }
     ensures made { IfOk result (λ touched. Does
-        (device_by (D.sizes dev.old) (D.pages dev.old) (D.failures dev.old))
-        (device_by (D.sizes dev.new) (D.pages dev.new) (D.failures dev.new)) mem.old (λ d d' w r l.
+        (seen_by D.sizes D.pages D.failures D.history dev.old)
+        (seen_by D.sizes D.pages D.failures D.history dev.new) mem.old (λ d d' w r l.
         (came : Bool)
         → HasMade d d' mem.old mem.new w r l true came key notes.old notes.new touched)) }
-    ensures same { IsSameDevice (device_by (D.sizes dev.old) (D.pages dev.old) (D.failures dev.old))
-        (device_by (D.sizes dev.new) (D.pages dev.new) (D.failures dev.new)) }
+    ensures same { IsSameDevice (seen_by D.sizes D.pages D.failures D.history dev.old)
+        (seen_by D.sizes D.pages D.failures D.history dev.new) }
     ensures count { frame_count mem.new ≡ frame_count mem.old }
 {
     if let Got::Out(out) = seek(mem, dev, Some(from), notes)? {

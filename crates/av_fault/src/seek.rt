@@ -1,7 +1,7 @@
 //! What comes before a frame is taken.
 
 ghost use Rattle.std.specs.Prelude.{◌≡◌, IfOk};
-ghost use Rattle.av_plain.specs.Device.{IsSameDevice, device_by};
+ghost use Rattle.av_plain.specs.Device.{IsSameDevice, seen_by};
 ghost use Rattle.av_mem.specs.Between.{Does, IsBetween};
 ghost use Rattle.av_mem.specs.Mem.{frame_count};
 ghost use Rattle.av_fault.specs.Seek.{HasSought};
@@ -31,11 +31,11 @@ pub(crate) fn seek<D: SwapDev>(
 ) -> Result<Got, AllocError>
     requires between { IsBetween (D.sizes dev.old) mem.old }
     ensures sought { IfOk result (λ got. Does
-        (device_by (D.sizes dev.old) (D.pages dev.old) (D.failures dev.old))
-        (device_by (D.sizes dev.new) (D.pages dev.new) (D.failures dev.new)) mem.old
+        (seen_by D.sizes D.pages D.failures D.history dev.old)
+        (seen_by D.sizes D.pages D.failures D.history dev.new) mem.old
         (λ d d' w r l. HasSought d d' mem.old mem.new w r l pinned notes.old notes.new got)) }
-    ensures same { IsSameDevice (device_by (D.sizes dev.old) (D.pages dev.old) (D.failures dev.old))
-        (device_by (D.sizes dev.new) (D.pages dev.new) (D.failures dev.new)) }
+    ensures same { IsSameDevice (seen_by D.sizes D.pages D.failures D.history dev.old)
+        (seen_by D.sizes D.pages D.failures D.history dev.new) }
     ensures count { frame_count mem.new ≡ frame_count mem.old }
 {
     match av_reclaim::seek(mem, dev, pinned, notes)? {

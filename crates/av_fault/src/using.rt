@@ -4,7 +4,7 @@ ghost use Rattle.std.specs.Prelude.{◌≡◌, ◌<◌, ◌∷◌, [], Bool, tru
 ghost use Rattle.av_pagetable.specs.Entries.{entry_at};
 ghost use Rattle.av_pagetable.specs.declared.pte.Pte.TheVariants as Pte;
 ghost use Rattle.av_plain.specs.Areas.{Rmap};
-ghost use Rattle.av_plain.specs.Device.{Device, IsSameDevice, device_by};
+ghost use Rattle.av_plain.specs.Device.{Device, IsSameDevice, seen_by};
 ghost use Rattle.av_plain.specs.Event.{Used};
 ghost use Rattle.av_plain.specs.Fault.{asks_copy as asks_copy_by};
 ghost use Rattle.av_plain.specs.Ledger.{Ledger, slot_of};
@@ -60,8 +60,8 @@ pub(crate) fn read_in(
 }
 
 /// Makes a page ready that may be written and has this frame: a copy where others have the frame or
-/// its slot or it is merged, else its own, whose slot is dropped where it is needed no more. What it has is at home
-/// there then. Where the entry is settled, it is marked as written already.
+/// its slot or it is merged, else its own, whose slot is dropped where it is needed no more. What
+/// it has is at home there then. Where the entry is settled, it is marked as written already.
 pub(crate) fn write_frame<D: SwapDev>(
     mem: &mut Mem,
     dev: &mut D,
@@ -75,12 +75,12 @@ pub(crate) fn write_frame<D: SwapDev>(
     requires here { IsHere mem.old key frame settled }
     requires home { home ≡ home_of key.1 (pages_of mem.old.spaces.processes key.0 key.1) }
     ensures made { IfOk result (λ touched. Does
-        (device_by (D.sizes dev.old) (D.pages dev.old) (D.failures dev.old))
-        (device_by (D.sizes dev.new) (D.pages dev.new) (D.failures dev.new)) mem.old (λ d d' w r l.
+        (seen_by D.sizes D.pages D.failures D.history dev.old)
+        (seen_by D.sizes D.pages D.failures D.history dev.new) mem.old (λ d d' w r l.
         (came : Bool)
         → HasMade d d' mem.old mem.new w r l true came key notes.old notes.new touched)) }
-    ensures same { IsSameDevice (device_by (D.sizes dev.old) (D.pages dev.old) (D.failures dev.old))
-        (device_by (D.sizes dev.new) (D.pages dev.new) (D.failures dev.new)) }
+    ensures same { IsSameDevice (seen_by D.sizes D.pages D.failures D.history dev.old)
+        (seen_by D.sizes D.pages D.failures D.history dev.new) }
     ensures count { frame_count mem.new ≡ frame_count mem.old }
 {
     if !settled && asks_copy(mem, frame) {

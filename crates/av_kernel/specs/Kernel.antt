@@ -3,12 +3,13 @@ use Rattle.std.specs.Prelude.{◌≡◌, ℕ, ◌+◌, List, true, false}
 use Rattle.av_trace.specs.declared.command.Command.{Command}
 use Rattle.av_trace.specs.declared.reply.Reply.{Reply}
 use Rattle.av_io.specs.Count.{RoseBy}
-use Rattle.av_plain.specs.Device.{Device, IsSameDevice, setting_of}
-use Rattle.av_plain.specs.Step.{causes}
+use Rattle.av_plain.specs.Device.{Device, IsSameDevice, setting_of, Wrote}
+use Rattle.av_plain.specs.Step.{causes, uses_device}
 use Rattle.av_plain.specs.Transcript.{State, IsStep}
 use Rattle.av_mem.specs.Mem.{Keeps}
 use Rattle.av_kernel.specs.Machine.{Machine}
 use Rattle.av_kernel.specs.Tally.{tally_with, none_counted}
+use Rattle.av_plain.specs.Pass.{pages_written}
 
 -- the kernel and the device, as it is now, stand for the memories, the ledger, what is free, the
 -- areas and the anon_vmas, among which there is chain order, and the homes and items
@@ -16,14 +17,17 @@ abbrev pub Stands : Machine → Device → State → Type 0
 Stands k device s = Keeps device k.mem s
 
 -- a command's reply is a step over the device as it was; it is the same device then, and kernel and
--- device stand for what the step leaves; what only failures of the device explain is within what it
--- failed
+-- device stand for what the step leaves; the device was asked to write exactly what the notes tell,
+-- so nothing where the command doesn't use it; what only failures of the device explain is within
+-- what it failed
 pub record Steps (old new : Machine) (device device' : Device) (s : State) (command : Command)
     (reply : Reply) : Type 0 where
   pub next : State
   pub step : IsStep (setting_of old.frames device) s command reply next
   pub same : IsSameDevice device device'
   pub stands : Stands new device' next
+  pub wrote : Wrote (pages_written reply.notes) device.history device'.history
+  pub unused : uses_device command ≡ false → device'.history ≡ device.history
   pub failures : RoseBy (causes reply) device.failures device'.failures
 
 -- so many frames, swap areas with so many pages each, and no command yet

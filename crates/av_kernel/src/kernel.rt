@@ -2,12 +2,12 @@
 
 ghost use Rattle.std.specs.Prelude.{◌≡◌, ◌⊎◌, ◌<◌, ◌≤◌, ◌^◌, IfOk, OnOk, OnErr, length, true, false};
 ghost use Rattle.av_base.specs.Limits.{most_commands};
-ghost use Rattle.av_plain.specs.Device.{Device, IsSameDevice, setting_of};
+ghost use Rattle.av_plain.specs.Device.{Device, IsSameDevice, setting_of, seen_by};
 ghost use Rattle.av_plain.specs.Report.{totals as totals_of};
 ghost use Rattle.av_plain.specs.Transcript.{State, at_first};
 ghost use Rattle.av_swapdev.specs.Device.{most_areas};
 ghost use Rattle.av_kernel.specs.Kernel.{Stands, Steps, Counts, IsNew, IsSpent};
-ghost use Rattle.av_step.specs.Step.{seen_by, sizes_of};
+ghost use Rattle.av_step.specs.Step.{sizes_of};
 ghost use Rattle.av_trace.specs.Command.{is_in_grammar};
 ghost use Rattle.av_kernel.specs.Step.{has_device};
 
@@ -92,12 +92,12 @@ impl Kernel {
         requires grammar { is_in_grammar command.now ≡ true }
         requires few { self.old.steps < most_commands }
         requires attached { D.sizes dev.old ≡ sizes_of self.old.sizes }
-        ensures stands { let d = seen_by D.sizes D.pages D.failures in (s : State)
+        ensures stands { let d = seen_by D.sizes D.pages D.failures D.history in (s : State)
             → Stands self.old (d dev.old) s → IfOk result
             (Steps self.old self.new (d dev.old) (d dev.new) s command.now) }
         ensures counts { IfOk result (Counts self.old self.new) }
         ensures spent { OnErr result (IsSpent self.old self.new) }
-        ensures same { let d = seen_by D.sizes D.pages D.failures in
+        ensures same { let d = seen_by D.sizes D.pages D.failures D.history in
             IsSameDevice (d dev.old) (d dev.new) }
         ensures leaves_device { (self.old.spent ≡ true) ⊎ (has_device command.now ≡ false)
             → dev.new ≡ dev.old }
@@ -121,12 +121,12 @@ impl Kernel {
         requires grammar { is_in_grammar command.now ≡ true }
         requires few { self.old.steps < most_commands }
         requires attached { D.sizes dev.old ≡ sizes_of self.old.sizes }
-        ensures stands { let d = seen_by D.sizes D.pages D.failures in (s : State)
+        ensures stands { let d = seen_by D.sizes D.pages D.failures D.history in (s : State)
             → Stands self.old (d dev.old) s → OnOk result
             (Steps self.old self.new (d dev.old) (d dev.new) s command.now reply.new) }
         ensures counts { OnOk result (Counts self.old self.new reply.new) }
         ensures spent { OnErr result (IsSpent self.old self.new) }
-        ensures same { let d = seen_by D.sizes D.pages D.failures in
+        ensures same { let d = seen_by D.sizes D.pages D.failures D.history in
             IsSameDevice (d dev.old) (d dev.new) }
         ensures leaves_device { (self.old.spent ≡ true) ⊎ (has_device command.now ≡ false)
             → dev.new ≡ dev.old }

@@ -4,17 +4,10 @@ ghost use Rattle.std.specs.Prelude.{◌≡◌, ◌≤◌, OnOk, false, length, t
 ghost use Rattle.av_trace.specs.Command.{is_in_grammar};
 ghost use Rattle.av_trace.specs.Reply.{IsCleared};
 ghost use Rattle.av_swapdev.specs.Device.{most_areas};
-ghost use Rattle.av_plain.specs.Device.{IsSameDevice};
+ghost use Rattle.av_plain.specs.Device.{IsSameDevice, seen_by};
 ghost use Rattle.av_plain.specs.Transcript.{State};
 ghost use Rattle.av_mem.specs.Mem.{frame_count, Keeps, IsSteady, IsSteadyAt};
-ghost use Rattle.av_step.specs.Step.{
-  Does,
-  DoesBeside,
-  MemSteps,
-  reply_in,
-  seen_by,
-  sizes_of,
-};
+ghost use Rattle.av_step.specs.Step.{Does, DoesBeside, MemSteps, reply_in, sizes_of};
 ghost use Rattle.av_kernel.specs.Step.{has_device, is_of_pages};
 
 use crate::advice::madvise;
@@ -53,11 +46,11 @@ pub fn perform<D: SwapDev>(
     requires grammar { is_in_grammar command.now ≡ true }
     requires attached { D.sizes dev.old ≡ sizes_of sizes.now }
     requires few { length sizes.now ≤ most_areas }
-    ensures step { let d = seen_by D.sizes D.pages D.failures in (s : State)
+    ensures step { let d = seen_by D.sizes D.pages D.failures D.history in (s : State)
         → Keeps (d dev.old) mem.old s → OnOk result
         (MemSteps (d dev.old) (d dev.new) mem.old mem.new s command.now reply.new) }
     ensures steady { OnOk result (IsSteadyAt (D.sizes dev.old) mem.new) }
-    ensures same { let d = seen_by D.sizes D.pages D.failures in
+    ensures same { let d = seen_by D.sizes D.pages D.failures D.history in
         IsSameDevice (d dev.old) (d dev.new) }
     ensures count { frame_count mem.new ≡ frame_count mem.old }
     ensures leaves_device { has_device command.now ≡ false → dev.new ≡ dev.old }
@@ -93,7 +86,7 @@ fn dispatch<D: SwapDev>(
     requires attached { D.sizes dev.old ≡ sizes_of sizes.now }
     requires few { length sizes.now ≤ most_areas }
     requires cleared { IsCleared reply.old }
-    ensures does { let d = seen_by D.sizes D.pages D.failures in Does (d dev.old) (d dev.new)
+    ensures does { let d = seen_by D.sizes D.pages D.failures D.history in Does (d dev.old) (d dev.new)
         mem.old mem.new command.now (reply_in reply.new result) }
     ensures leaves_device { has_device command.now ≡ false → dev.new ≡ dev.old }
 {

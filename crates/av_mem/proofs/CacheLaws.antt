@@ -13,6 +13,7 @@ use Rattle.av_swapcache.specs.Calls.{Finishes, IsFirst, IsPut, Parts}
 use Rattle.av_swapcache.specs.declared.swap.Finished.{Finished}
 use Rattle.av_swapcache.specs.declared.swap.Finished.TheVariants.{Done, Failed}
 use Rattle.av_swapcache.specs.Swap.{Shown as ShownSwap, can_give, shown as shown_swap}
+use Rattle.av_plain.specs.Device.{Calls}
 use Rattle.av_mem.specs.Cache.{Ends, GoesFirst, Puts}
 use Rattle.av_mem.specs.Mem.{view}
 use Rattle.av_mem.specs.declared.mem.Mem.{Mem}
@@ -43,8 +44,14 @@ put-view old new f same lists (Some s) h = record {
 -- ---- a write ends
 
 -- the parts that a write changes
-abbrev pub parts_of : Mem → Option (ℕ → ℕ → List ℕ) → ℕ → Parts
-parts_of k pages failures = record { swap = shown_swap k.swap; frames = shown_frames k.frames; pages = pages; failures = failures }
+abbrev pub parts_of : Mem → Option (ℕ → ℕ → List ℕ) → Calls → Parts
+parts_of k pages calls = record {
+  swap = shown_swap k.swap;
+  frames = shown_frames k.frames;
+  pages = pages;
+  failures = calls.0;
+  history = calls.1;
+}
 
 -- each slot in flight stands there once
 abbrev pub IsOnce : Mem → Type 0
@@ -68,14 +75,14 @@ flight-is old new s f page h once =
     sym (ap (without_slot s) h.first ∙ flight-first s new.flight (subst (λ flight. how_many (same_slot s) flight ≤ 1) h.first (once s)))
 
 -- a frame that was written goes to the tail
-pub ends-written : (old new : Mem) (s : Slot) (f : ℕ) (pages pages' : Option (ℕ → ℕ → List ℕ)) (failures failures' : ℕ)
+pub ends-written : (old new : Mem) (s : Slot) (f : ℕ) (pages pages' : Option (ℕ → ℕ → List ℕ)) (calls calls' : Calls)
     → SameRest old new → IsOnce old
     → new.lists ≡ record (without_frame f old.lists) { inactive = (without_frame f old.lists).inactive ++ f ∷ [] }
-    → (r : Finished) → r ≡ Done s f → Finishes (Some r) (parts_of old pages failures) (parts_of new pages' failures')
-    → Ends (Some (Done s f)) old new pages pages' failures failures'
-ends-written old new s f pages pages' failures failures' same once lists r is h =
-    let h : Finishes (Some (Done s f)) (parts_of old pages failures) (parts_of new pages' failures') =
-    subst (λ x. Finishes (Some x) (parts_of old pages failures) (parts_of new pages' failures')) is h in
+    → (r : Finished) → r ≡ Done s f → Finishes (Some r) (parts_of old pages calls) (parts_of new pages' calls')
+    → Ends (Some (Done s f)) old new pages pages' calls calls'
+ends-written old new s f pages pages' calls calls' same once lists r is h =
+    let h : Finishes (Some (Done s f)) (parts_of old pages calls) (parts_of new pages' calls') =
+    subst (λ x. Finishes (Some x) (parts_of old pages calls) (parts_of new pages' calls')) is h in
     let first = h.1 in (
       h.0,
       first-is old (shown_swap new.swap) s f h.0 first,
@@ -86,15 +93,16 @@ ends-written old new s f pages pages' failures failures' same once lists r is h 
           (lists ∙ ap (λ (ls : Lists). record ls { inactive = ls.inactive ++ f ∷ [] }) (lists-without f old.lists))
           (first.swap ∙ ap (λ flight. record (shown_swap old.swap) { flight = flight }) (flight-is old (shown_swap new.swap) s f h.0 first once)),
       h.4,
+      h.5,
     )
 
 -- one that was not is dirty
-pub ends-failed : (old new : Mem) (s : Slot) (f : ℕ) (pages pages' : Option (ℕ → ℕ → List ℕ)) (failures failures' : ℕ) → SameRest old new → IsOnce old
-    → new.lists ≡ old.lists → (r : Finished) → r ≡ Failed s f → Finishes (Some r) (parts_of old pages failures) (parts_of new pages' failures')
-    → Ends (Some (Failed s f)) old new pages pages' failures failures'
-ends-failed old new s f pages pages' failures failures' same once lists r is h =
-    let h : Finishes (Some (Failed s f)) (parts_of old pages failures) (parts_of new pages' failures') =
-    subst (λ x. Finishes (Some x) (parts_of old pages failures) (parts_of new pages' failures')) is h in
+pub ends-failed : (old new : Mem) (s : Slot) (f : ℕ) (pages pages' : Option (ℕ → ℕ → List ℕ)) (calls calls' : Calls) → SameRest old new → IsOnce old
+    → new.lists ≡ old.lists → (r : Finished) → r ≡ Failed s f → Finishes (Some r) (parts_of old pages calls) (parts_of new pages' calls')
+    → Ends (Some (Failed s f)) old new pages pages' calls calls'
+ends-failed old new s f pages pages' calls calls' same once lists r is h =
+    let h : Finishes (Some (Failed s f)) (parts_of old pages calls) (parts_of new pages' calls') =
+    subst (λ x. Finishes (Some x) (parts_of old pages calls) (parts_of new pages' calls')) is h in
     let first = h.1 in (
       h.0,
       first-is old (shown_swap new.swap) s f h.0 first,
@@ -103,4 +111,5 @@ ends-failed old new s f pages pages' failures failures' same once lists r is h =
           (record (shown_swap old.swap) { flight = without_slot s (shown_swap old.swap).flight }) same h.3 lists
           (first.swap ∙ ap (λ flight. record (shown_swap old.swap) { flight = flight }) (flight-is old (shown_swap new.swap) s f h.0 first once)),
       h.4,
+      h.5,
     )

@@ -10,6 +10,7 @@ use Rattle.av_trace.specs.declared.note.Note.TheVariants.{Loaded, Mapped}
 use Rattle.av_vma.specs.Pages.{home_of}
 use Rattle.av_plain.specs.Areas.{Rmap, home_for, rmap_after_note}
 use Rattle.av_plain.specs.Choice.{ListsFree}
+use Rattle.av_plain.proofs.Wrote.{device-told, some-same}
 use Rattle.av_plain.specs.Device.{Device, IsSameDevice, as_told}
 use Rattle.av_plain.specs.Event.{Noted, after_note, key_at}
 use Rattle.av_plain.specs.Ledger.{InSlot, Key, Ledger, Setting, entry, frame_at, keys_of_slot, map_count}
@@ -44,15 +45,20 @@ got-told true d s page holds = by d.pages holds
     by (Some kept) holds = λ i below. ap (λ bytes. slice_index bytes i) (sym holds)
 
 -- after a call that changes nothing of it but how often it failed
-pub seen-same : (told : Bool) (d d' : Device) → d'.sizes ≡ d.sizes → d'.pages ≡ d.pages → d.failures ≤ d'.failures
+pub seen-same : (told : Bool) (d d' : Device) → d'.sizes ≡ d.sizes → d'.pages ≡ d.pages → d.failures ≤ d'.failures → d'.history ≡ d.history
     → IsSameDevice (as_told told d) (as_told told d')
-seen-same true d d' sizes told failures =
-    record { sizes = sizes; first = ap (option_map {U = ℕ → List ℕ} (λ (t : ℕ → ℕ → List ℕ) k. t k 0)) told; failures = failures }
-seen-same false d d' sizes told failures = record { sizes = sizes; first = refl; failures = failures }
+seen-same told d d' sizes pages failures asked = device-told told d d' (record {
+  sizes = sizes;
+  first = ap (option_map {U = ℕ → List ℕ} (λ (t : ℕ → ℕ → List ℕ) k. t k 0)) pages;
+  failures = failures;
+  history = some-same d.history d'.history asked;
+})
 
 -- and after one that does not change that
-pub told-still : (told : Bool) (d d' : Device) → d'.sizes ≡ d.sizes → d'.pages ≡ d.pages → d'.failures ≡ d.failures → as_told told d' ≡ as_told told d
-told-still told d d' sizes pages failures = λ i. as_told told (record { sizes = sizes i; pages = pages i; failures = failures i })
+pub told-still : (told : Bool) (d d' : Device) → d'.sizes ≡ d.sizes → d'.pages ≡ d.pages → d'.failures ≡ d.failures → d'.history ≡ d.history
+    → as_told told d' ≡ as_told told d
+told-still told d d' sizes pages failures asked =
+    λ i. as_told told (record { sizes = sizes i; pages = pages i; failures = failures i; history = asked i })
 
 module _ (d : Device) (closing : Option ℕ) (k : Mem) (w : World) (r : Rmap) (l : Ledger) (x : Slot → ℕ) (sound : IsSoundBut (setting_by d k) x l)
     (h : Serves d closing k w r l) (q : Key) (s : Slot) (at : entry l q ≡ Some (InSlot s)) where

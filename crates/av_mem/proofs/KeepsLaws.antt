@@ -11,7 +11,7 @@ use Rattle.av_swapdev.specs.Header.{Layout}
 use Rattle.av_swapdev.specs.declared.header.Header.{Header}
 use Rattle.av_plain.specs.Areas.{Rmap}
 use Rattle.av_plain.specs.Choice.{Free, ListsAll}
-use Rattle.av_plain.specs.Device.{Device, device_by, headers_of}
+use Rattle.av_plain.specs.Device.{Calls, Device, device_by, headers_of}
 use Rattle.av_plain.specs.Ledger.{Ledger}
 use Rattle.av_plain.specs.Sound.{IsSound}
 use Rattle.av_plain.specs.Stands.{free_of}
@@ -75,9 +75,9 @@ serves-keeps d k w r l sound serves = record {
   swap = serves.swap;
 }
 
--- ---- how often the device failed
+-- ---- what the device tells of its calls
 
-fits-whenever : (sizes : ℕ → Option ℕ) (pages : Option (ℕ → ℕ → List ℕ)) (n n' : ℕ) (closing : Option ℕ) (k : Mem)
+fits-whenever : (sizes : ℕ → Option ℕ) (pages : Option (ℕ → ℕ → List ℕ)) (n n' : Calls) (closing : Option ℕ) (k : Mem)
     → SwapFits (device_by sizes pages n) closing k → SwapFits (device_by sizes pages n') closing k
 fits-whenever sizes pages n n' closing k h = record {
   frames = h.frames;
@@ -86,7 +86,7 @@ fits-whenever sizes pages n n' closing k h = record {
   by_headers = h.by_headers;
 }
 
-pub keeps-whenever : (sizes : ℕ → Option ℕ) (pages : Option (ℕ → ℕ → List ℕ)) (n n' : ℕ) (k : Mem) (s : State)
+pub keeps-whenever : (sizes : ℕ → Option ℕ) (pages : Option (ℕ → ℕ → List ℕ)) (n n' : Calls) (k : Mem) (s : State)
     → Keeps (device_by sizes pages n) k s → Keeps (device_by sizes pages n') k s
 keeps-whenever sizes pages n n' k s h = let stands = h.stands in record {
   stands = record {
@@ -116,7 +116,7 @@ keeps-whenever sizes pages n n' k s h = let stands = h.stands in record {
 }
 
 -- so it is within a command
-pub serves-whenever : (sizes : ℕ → Option ℕ) (pages : Option (ℕ → ℕ → List ℕ)) (n n' : ℕ) (closing : Option ℕ) (k : Mem) (w : World)
+pub serves-whenever : (sizes : ℕ → Option ℕ) (pages : Option (ℕ → ℕ → List ℕ)) (n n' : Calls) (closing : Option ℕ) (k : Mem) (w : World)
     (r : Rmap) (l : Ledger)
     → Serves (device_by sizes pages n) closing k w r l → Serves (device_by sizes pages n') closing k w r l
 serves-whenever sizes pages n n' closing k w r l h = record {

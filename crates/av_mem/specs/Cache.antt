@@ -10,7 +10,8 @@ use Rattle.av_base.specs.declared.slot.Slot.{Slot}
 use Rattle.av_clusters.specs.Clusters.{Slots, take_slot}
 use Rattle.av_io.specs.Count.{Rose}
 use Rattle.av_io.specs.declared.failures.Failed.{Failed as DeviceFailed}
-use Rattle.av_swapdev.specs.Device.{Holds, IsSpoiled, IsWritten, most_areas}
+use Rattle.av_swapdev.specs.Device.{Holds, IsSpoiled, IsWritten, after_write, most_areas}
+use Rattle.av_plain.specs.Device.{Calls}
 use Rattle.av_swap_laws.specs.Steps.{view_done, view_fail, view_load, view_put}
 use Rattle.av_swapcache.specs.Swap.{GivesFirst, can_give, count_of, shown}
 use Rattle.av_swapcache.specs.declared.swap.Finished.{Finished}
@@ -44,18 +45,19 @@ pub record GoesFirst (old : Mem) (s : Slot) (f : ℕ) (page : List ℕ) : Type 0
   pub long : length page ≡ page_size
   pub bytes : (i : ℕ) → slice_index page i ≡ (view old).bytes f i
 
--- its write has ended, well or not, on a device with these pages and failures; or none was in
--- flight
+-- its write has ended, well or not, on a device with these pages and calls; or none was in flight
 abbrev pub Ends : Option Finished → Mem → Mem → Option (ℕ → ℕ → List ℕ)
-    → Option (ℕ → ℕ → List ℕ) → ℕ → ℕ → Type 0
-Ends None old new pages pages' failures failures' =
-    ((view old).flight ≡ []) × (view new ≡ view old) × (pages' ≡ pages) × (failures' ≡ failures)
-Ends (Some (Done s f)) old new pages pages' failures failures' =
+    → Option (ℕ → ℕ → List ℕ) → Calls → Calls → Type 0
+Ends None old new pages pages' calls calls' =
+    ((view old).flight ≡ []) × (view new ≡ view old) × (pages' ≡ pages) × (calls' ≡ calls)
+Ends (Some (Done s f)) old new pages pages' calls calls' =
     (page : List ℕ) × GoesFirst old s f page × IsWritten s.area s.page page pages pages'
-    × (view new ≡ view_done f s (view old)) × (failures' ≡ failures)
-Ends (Some (Failed s f)) old new pages pages' failures failures' =
+    × (view new ≡ view_done f s (view old)) × (calls'.0 ≡ calls.0)
+    × (calls'.1 ≡ after_write s.area s.page calls.1)
+Ends (Some (Failed s f)) old new pages pages' calls calls' =
     (page : List ℕ) × GoesFirst old s f page × IsSpoiled s.area s.page pages pages'
-    × (view new ≡ view_fail f s (view old)) × Rose failures failures'
+    × (view new ≡ view_fail f s (view old)) × Rose calls.0 calls'.0
+    × (calls'.1 ≡ after_write s.area s.page calls.1)
 
 -- ---- a page comes in
 

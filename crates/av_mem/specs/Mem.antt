@@ -7,7 +7,7 @@ use Rattle.av_plain.specs.Ledger.{Ledger, Setting, SwapArea, Zero as ZeroEntry, 
 use Rattle.av_plain.specs.Ledger.{is_header_slot}
 use Rattle.av_plain.specs.Transcript.{State}
 use Rattle.av_plain.specs.Sound.{IsSound, AreThere, AreasFit, AtPages, IsTidy}
-use Rattle.av_plain.specs.Device.{Device, device_by, headers_of, setting_of}
+use Rattle.av_plain.specs.Device.{Calls, Device, device_by, headers_of, setting_of}
 use Rattle.av_anon.specs.declared.anons.Anons.{Anons as AnonSet}
 use Rattle.av_anon.specs.declared.infos.Info.{Info}
 use Rattle.av_plain.specs.Areas.{AnonVma, Anons, Rmap}
@@ -146,7 +146,7 @@ IsSteady k = (d : Device) × (s : State) × Keeps d k s
 -- over some device with these sizes that doesn't tell its pages: so much stands whatever others do
 -- to the pages
 abbrev pub IsSteadyAt : (ℕ → Option ℕ) → Mem → Type 0
-IsSteadyAt sizes k = (n : ℕ) × (s : State) × Keeps (device_by sizes None n) k s
+IsSteadyAt sizes k = (calls : Calls) × (s : State) × Keeps (device_by sizes None calls) k s
 
 -- ---- within a command
 

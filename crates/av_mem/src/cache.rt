@@ -51,7 +51,7 @@ impl Mem {
         requires listed { HasLists self.old }
         requires areas { HasAreas (D.sizes dev.old) (shown_swap self.old.swap) }
         ensures ends { Ends result self.old self.new (D.pages dev.old) (D.pages dev.new)
-            (D.failures dev.old) (D.failures dev.new) }
+            (D.failures dev.old, D.history dev.old) (D.failures dev.new, D.history dev.new) }
         ensures same_sizes { D.sizes dev.new ≡ D.sizes dev.old }
         ensures never_falls { D.failures dev.old ≤ D.failures dev.new }
         ensures parts { KeepsParts self.old self.new }
@@ -126,6 +126,7 @@ impl Mem {
         ensures same_pages { D.pages dev.new ≡ D.pages dev.old }
         ensures same_sizes { D.sizes dev.new ≡ D.sizes dev.old }
         ensures never_falls { D.failures dev.old ≤ D.failures dev.new }
+        ensures asked { D.history dev.new ≡ D.history dev.old }
         ensures parts { KeepsParts self.old self.new }
     {
         let Some(frame) = self.frames.take() else {

@@ -29,3 +29,4 @@ pub mod OneMerge
 pub mod Device
 pub mod Midway
 pub mod Items
+pub mod Wrote

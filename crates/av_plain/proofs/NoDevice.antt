@@ -20,7 +20,7 @@ use Rattle.av_plain.specs.Fault.{drop_of_slot, ComesIn, CopyOnWrite, Denied, IsM
 use Rattle.av_plain.specs.Access.{Accesses, End, Stopped, Whole, page_events}
 use Rattle.av_plain.specs.Sound.{AreasFit, count, flights, is_there, slots}
 use Rattle.av_plain.proofs.Event.{slot_entries-unseen}
-use Rattle.av_plain.proofs.Faultless.{Faultless, IsFaultless, faultless-causes, is-faultless, no-fails, unused-follows}
+use Rattle.av_plain.proofs.Faultless.{Faultless, IsFaultless, faultless-causes, is-faultless, no-ends, unused-follows}
 use Rattle.av_plain.proofs.Ledger.{how_many-found}
 use Rattle.av_plain.proofs.Ledger.NoSwap.{no_slot}
 use Rattle.av_plain.proofs.Access.{after_all-append, note_events-all, notes_of-append, notes_of-note_events}
@@ -41,7 +41,8 @@ use Rattle.av_plain.specs.Event.{after_zap}
 use Rattle.av_plain.specs.Mremap.{range_zaps, remap_events}
 use Rattle.av_plain.proofs.Mremap.{then_target}
 use Rattle.av_plain.proofs.Sound.Zap.{zaps-in}
-use Rattle.av_plain.specs.Pass.{fails, how_many_frames, is_fail}
+use Rattle.av_plain.specs.Pass.{how_many_frames}
+use Rattle.av_plain.proofs.Wrote.{ends, is_end}
 use Rattle.av_plain.specs.Reclaim.{Outcome, cause_of, leave_notes}
 use Rattle.av_trace.specs.declared.note.Cause.{Cause}
 use Rattle.av_trace.specs.declared.note.Cause.TheVariants.{Locked, NoSlot, Referenced, WriteStarted, Writeback}
@@ -564,7 +565,7 @@ no-remap-notes m l p from n to k none s = by (to == from)
 
 -- ---- a command
 
-plain-fails : (m : Setting) (k : Key) (note : Note) → IsPlainAt m k note → is_fail note ≡ false
+plain-fails : (m : Setting) (k : Key) (note : Note) → IsPlainAt m k note → is_end note ≡ false
 plain-fails m k (Zeroed p a) h = refl
 plain-fails m k (New p a f) h = refl
 plain-fails m k (Copied p a f) h = refl
@@ -582,8 +583,8 @@ plain-fails m k (Shared f) h = absurd h
 plain-fails m k (Joined p a f) h = absurd h
 plain-fails m k (Moved a b) h = absurd h
 
-pub plain-notes : (m : Setting) (k : Key) (notes : List Note) → ArePlainAt m k notes → fails notes ≡ 0
-plain-notes m k notes h = no-fails notes (all-by (IsPlainAt m k) (λ note. is_fail note ≡ false) (plain-fails m k) notes h)
+pub plain-notes : (m : Setting) (k : Key) (notes : List Note) → ArePlainAt m k notes → ends notes ≡ 0
+plain-notes m k notes h = no-ends notes (all-by (IsPlainAt m k) (λ note. is_end note ≡ false) (plain-fails m k) notes h)
 
 stop-faultless : (stop : Stop) (k : ℕ) (shown : List ℕ) → IsKept (Some stop) → IsFaultless (stop_answer stop k shown)
 stop-faultless Denied k shown h = record { told = refl; failed = refl }
@@ -662,13 +663,13 @@ follows-faultless : (m : Setting) (w : World) (l : Ledger) (command : Command) (
     (is_of_area command ≡ true → refusal (tests m w l command) ≡ None → ⊥) → InAreas m l → refusal (tests m w l command) ≡ None
     → Follows m w l command events answer rows → Faultless events answer
 follows-faultless m w l (Read p a n) events answer rows none refused s fine h =
-    let plain = accesses-plain (λ note. is_fail note ≡ false) m w p (λ page note is. plain-fails m (p, page) note) l
+    let plain = accesses-plain (λ note. is_end note ≡ false) m w p (λ page note is. plain-fails m (p, page) note) l
     (pages_of_access false a n) events h.0 none s h.2 in
-    record { notes = no-fails (notes_of events) plain.notes; answered = is-faultless answer _ h.4 (read-faultless a h.0 h.1 plain.ends) }
+    record { notes = no-ends (notes_of events) plain.notes; answered = is-faultless answer _ h.4 (read-faultless a h.0 h.1 plain.ends) }
 follows-faultless m w l (Write p a bytes) events answer rows none refused s fine h =
-    let plain = accesses-plain (λ note. is_fail note ≡ false) m w p (λ page note is. plain-fails m (p, page) note) l
+    let plain = accesses-plain (λ note. is_end note ≡ false) m w p (λ page note is. plain-fails m (p, page) note) l
     (pages_of_access true a (length bytes)) events h.0 none s h.1 in
-    record { notes = no-fails (notes_of events) plain.notes; answered = is-faultless answer _ h.2 (write-faultless a h.0 plain.ends) }
+    record { notes = no-ends (notes_of events) plain.notes; answered = is-faultless answer _ h.2 (write-faultless a h.0 plain.ends) }
 follows-faultless m w l (Mlock p a len) events answer rows none refused s fine h =
     subst (λ es. Faultless es answer) (sym h.1) (by (pages_to_hole (pages w p) (page_of a) (pages_met a len) == pages_met a len) h.3)
   where
@@ -678,19 +679,19 @@ follows-faultless m w l (Mlock p a len) events answer rows none refused s fine h
     by : (b : Bool) → MatchBool b (BringsIn m w l p (page_of a) (pages_met a len) h.0 answer) ((h.0 ≡ []) × (answer ≡ Refused Enomem))
         → Faultless (lock_event true (pages w p) p (page_of a) (pages_met a len) ∷ h.0) answer
     by true q =
-        let plain = accesses-plain (λ note. is_fail note ≡ false) m locked p (λ page note is. plain-fails m (p, page) note) l
+        let plain = accesses-plain (λ note. is_end note ≡ false) m locked p (λ page note is. plain-fails m (p, page) note) l
         (accesses_of (pages w p) (page_of a) (pages_met a len)) h.0 q.0 none s q.1 in
         record {
-          notes = no-fails (notes_of h.0) plain.notes;
+          notes = no-ends (notes_of h.0) plain.notes;
           answered = is-faultless answer _ q.2 (write-faultless (address_of (page_of a)) q.0 plain.ends);
         }
     by false q = record {
-      notes = ap (λ es. fails (notes_of es)) q.0;
+      notes = ap (λ es. ends (notes_of es)) q.0;
       answered = is-faultless answer _ q.1 (record { told = refl; failed = refl });
     }
 follows-faultless m w l (Complete n) events answer rows none refused s fine h =
     record {
-      notes = ap (λ es. fails (notes_of es)) h.3 ∙ ap fails (notes_of-note_events h.0) ∙ ap fails (by n l.flight (no-slots m l none s).flight h.1);
+      notes = ap (λ es. ends (notes_of es)) h.3 ∙ ap ends (notes_of-note_events h.0) ∙ ap ends (by n l.flight (no-slots m l none s).flight h.1);
       answered = is-faultless answer _ h.2 (record { told = refl; failed = refl });
     }
   where

@@ -2,7 +2,7 @@
 -- what an out-of-memory says.
 use Rattle.std.specs.Prelude.{◌≡◌, ℕ, ◌<◌, Bool, true, false, not, ◌&&◌, ◌||◌, ◌==◌, if◌then◌else◌}
 use Rattle.std.specs.Prelude.{IsTrue, MatchBool, List, [], ◌∷◌, ◌++◌, filter, reverse, Option}
-use Rattle.std.specs.Prelude.{Some, None, is_some, is_none, MatchOption}
+use Rattle.std.specs.Prelude.{Some, None, is_some, is_none, MatchOption, filter_map}
 use Rattle.av_base.specs.Words.{how_many}
 use Rattle.std.specs.List.{range_with_len}
 use Rattle.av_base.specs.declared.slot.Slot.{Slot}
@@ -41,6 +41,16 @@ is_fail _ = false
 -- how many writes to slots failed
 abbrev pub fails : List Note → ℕ
 fails notes = how_many is_fail notes
+
+-- the page that a note tells was to be written, well or not
+abbrev pub page_written : Note → Option Slot
+page_written (Written s) = Some s
+page_written (Failed s) = Some s
+page_written _ = None
+
+-- those of all notes, in order
+abbrev pub pages_written : List Note → List Slot
+pages_written notes = filter_map page_written notes
 
 -- ---- a frame goes to its slot
 

@@ -4,16 +4,16 @@ use Rattle.std.specs.FinMap.Entries.{is_sorted}
 use Rattle.av_trace.specs.declared.note.Note.{Note}
 use Rattle.av_plain.specs.Areas.{Rmap, rmap_after_all}
 use Rattle.av_plain.specs.Choice.{ChoosesAll}
-use Rattle.av_plain.specs.Device.{Device, IsSameDevice, as_told}
+use Rattle.av_plain.specs.Device.{Device, IsSameDevice, as_told, Wrote}
 use Rattle.av_plain.specs.Event.{after_notes, note_events}
 use Rattle.av_plain.specs.Ledger.{Ledger, Setting, key_cmp}
 use Rattle.av_plain.specs.Fault.{sparing}
 use Rattle.av_plain.specs.Load.{with_loads}
-use Rattle.av_plain.specs.Pass.{Spared}
+use Rattle.av_plain.specs.Pass.{Spared, pages_written}
 use Rattle.av_plain.specs.Sound.{IsSound}
 use Rattle.av_plain.specs.Stands.{free_of}
 use Rattle.av_plain.specs.World.{World}
-use Rattle.av_plain.proofs.Access.{note_events-all}
+use Rattle.av_plain.proofs.Access.{note_events-all, notes_of-note_events}
 use Rattle.av_evict.specs.declared.pass.SeekEnd.{SeekEnd}
 use Rattle.av_evict.specs.Pass.{IsNext}
 use Rattle.av_evict.specs.System.{Always, Gives, Goes, IsAt, Stays, spares}
@@ -39,7 +39,7 @@ is-at names d k h = (
   (
     h.1,
     h.2,
-    closing-so (as_told false d) None k h.1 h.2 h.3 (serves-whenever d.sizes None h.0 d.failures None k h.1 h.2 h.3 h.4.serves),
+    closing-so (as_told false d) None k h.1 h.2 h.3 (serves-whenever d.sizes None h.0 (d.failures, d.history) None k h.1 h.2 h.3 h.4.serves),
   ),
   tt,
 )
@@ -52,7 +52,12 @@ IsLent names names' d₁ d' k₁ new = names' ≡ names → (d' ≡ d₁) × (ne
 
 pub one-device : (names names' : List ℕ) (d d' : Device) (old new : Mem) → Stays (view_of names d old) (view_of names' d' new) → IsSameDevice d d'
 one-device names names' d d' old new stays =
-    record { sizes = ap (λ (m : Setting). m.sizes) stays.setting; first = stays.first; failures = stays.never_falls }
+    record {
+      sizes = ap (λ (m : Setting). m.sizes) stays.setting;
+      first = stays.first;
+      failures = stays.never_falls;
+      history = stays.history;
+    }
 
 -- by what stays, this is so of what was lent too
 module _ (names names' : List ℕ) (d d₁ : Device) (old k₁ : Mem) (stays : Stays (view_of names d old) (view_of names' d₁ k₁)) where
@@ -82,6 +87,7 @@ done names names' d d' old new w r l notes serves goes =
       free = subst (λ c. ChoosesAll (setting_by d old) c l (note_events notes) (free_of (view old)) (free_of (view new)))
           serves.swap.closed does.chooses;
       same = one-device names names' d d' old new stays;
+      wrote = subst (λ ns. Wrote (pages_written ns) d.history d'.history) (sym (notes_of-note_events notes)) does.wrote;
       count = ap (λ (m : Setting). m.frames) stays.setting;
     }
 

@@ -3,11 +3,11 @@ use Rattle.std.proofs.Common.{◌≡◌, ℕ, List, [], ◌∷◌, refl, sym, su
 use Rattle.av_io.specs.Count.{RoseBy}
 use Rattle.av_trace.specs.declared.note.Note.{Note}
 use Rattle.av_plain.specs.Areas.{Rmap, rmap_after_note}
-use Rattle.av_plain.specs.Device.{Device, IsSameDevice}
+use Rattle.av_plain.specs.Device.{Device, IsSameDevice, Wrote}
 use Rattle.av_plain.specs.Event.{Noted, after_note, note_events}
 use Rattle.av_plain.specs.Ledger.{Ledger}
 use Rattle.av_plain.specs.Load.{with_loads}
-use Rattle.av_plain.specs.Pass.{fails}
+use Rattle.av_plain.specs.Pass.{fails, pages_written}
 use Rattle.av_plain.specs.Sound.{IsSoundBut}
 use Rattle.av_plain.specs.World.{World}
 use Rattle.av_plain.proofs.FreeLists.{IsLawfulEvent}
@@ -35,6 +35,7 @@ pub record Owes (d d' : Device) (old new : Mem) (l : Ledger) (note : Note) : Typ
   pub brings : (w : World) (r : Rmap) → Serves d (closing_of old) old w r l → Brings (is_mapped w) note
   pub still : PreparesNone note
   pub failures : RoseBy (fails (note ∷ [])) d.failures d'.failures
+  pub wrote : Wrote (pages_written (note ∷ [])) d.history d'.history
 
 -- the memories with the note
 abbrev pub world_with : Device → Mem → World → Ledger → Note → World
@@ -60,6 +61,7 @@ step-stays names d d' old new parts same = record {
   names = refl;
   first = same.first;
   never_falls = same.failures;
+  history = same.history;
 }
 
 pub one-does : (names : List ℕ) (d d' : Device) (old new : Mem) (l : Ledger) (note : Note) → StandsBy d old l → Owes d d' old new l note
@@ -69,6 +71,7 @@ one-does names d d' old new l note stood owes law = record {
   stays = step-stays names d d' old new owes.parts owes.same;
   chooses = (_, (law stood.world stood.rmap stood.serves).chosen, refl);
   failures = owes.failures;
+  wrote = owes.wrote;
   claims = next;
 }
   where

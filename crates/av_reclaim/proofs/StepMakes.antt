@@ -33,6 +33,7 @@ use Rattle.av_mem.specs.Steps.{KeepsParts}
 use Rattle.av_mem.specs.declared.mem.Mem.{Mem}
 use Rattle.av_reclaim.specs.Driver.{closing_of, view_of}
 use Rattle.av_reclaim.proofs.OneNote.{one-still, step-stays}
+use Rattle.av_plain.proofs.Wrote.{wrote-none, device-itself}
 
 -- ---- words on a step
 
@@ -40,13 +41,9 @@ pub same-world : (b : Bool) (w : World) → cond b w w ≡ w
 same-world true w = refl
 same-world false w = refl
 
--- one device
-pub itself : (d : Device) → IsSameDevice d d
-itself d = record { sizes = refl; first = refl; failures = omega arith }
-
 -- a step of the memory system alone changes none of what stays
 pub mem-stays : (names : List ℕ) (d : Device) (old new : Mem) → KeepsParts old new → Stays (view_of names d old) (view_of names d new)
-mem-stays names d old new parts = step-stays names d d old new parts (itself d)
+mem-stays names d old new parts = step-stays names d d old new parts (device-itself d)
 
 pub stands-still : (a : ℕ) → min (a + 0) (2 ^ 64 - 1) ≤ a
 stands-still a = omega arith
@@ -113,11 +110,12 @@ pub keep-makes : (names : List ℕ) (d : Device) (old new : Mem) (f : ℕ) (caus
 keep-makes names d old new f cause is parts = λ l sound stood may. one-still names d d old new l (Kept f cause)
     (record { sound = sound; world = stood.0; rmap = stood.1; serves = stood.2 }) (record {
       parts = parts;
-      same = itself d;
+      same = device-itself d;
       lawful = (tt, tt);
       brings = λ w r c. tt;
       still = tt;
       failures = stands-still d.failures;
+      wrote = wrote-none d.history;
     }) (λ w. same-world (is_some (setting_by d old).headers) w) (λ w r h. by-view d d old new l (Kept f cause) (view_keep f cause (view old)) w r is
     (keep-steps (setting_by d old) (closing_of old) (held_by d old w r l) h.held f cause))
 
@@ -126,11 +124,12 @@ pub age-makes : (names : List ℕ) (d : Device) (old new : Mem) (f : ℕ) → vi
 age-makes names d old new f is parts = λ l sound stood may. one-still names d d old new l (Aged f)
     (record { sound = sound; world = stood.0; rmap = stood.1; serves = stood.2 }) (record {
       parts = parts;
-      same = itself d;
+      same = device-itself d;
       lawful = (tt, tt);
       brings = λ w r c. tt;
       still = tt;
       failures = stands-still d.failures;
+      wrote = wrote-none d.history;
     }) (λ w. same-world (is_some (setting_by d old).headers) w)
     (λ w r h. by-view d d old new l (Aged f) (view_to_head f (view_unseen f (view old))) w r is
     (age-steps (setting_by d old) (closing_of old) (held_by d old w r l) h.held f))
@@ -142,11 +141,12 @@ pub start-makes : (names : List ℕ) (d : Device) (old new : Mem) (s : Slot) →
 start-makes names d old new s is parts = λ l sound stood may. let at = frame-of s l may.cached in
     one-still names d d old new l (Started s) (record { sound = sound; world = stood.0; rmap = stood.1; serves = stood.2 }) (record {
       parts = parts;
-      same = itself d;
+      same = device-itself d;
       lawful = (tt, tt);
       brings = λ w r c. tt;
       still = tt;
       failures = stands-still d.failures;
+      wrote = wrote-none d.history;
     }) (λ w. same-world (is_some (setting_by d old).headers) w) (λ w r h. by-view d d old new l (Started s) (view_start at.0 s (view old)) w r
     (subst (λ o. IfSome o (λ f. view new ≡ view_start f s (view old))) (h.held.ledger.swap.finds s ∙ at.1) is)
     (start-steps (setting_by d old) (closing_of old) (held_by d old w r l) h.held at.0 s (once-of (setting_by d old) any_slot l sound) at.1))
@@ -166,11 +166,12 @@ pub drop-makes : (names : List ℕ) (d : Device) (old new : Mem) (s : Slot) → 
 drop-makes names d old new s is parts = λ l sound stood may. let at = frame-of s l may.cached in
     one-still names d d old new l (Dropped s) (record { sound = sound; world = stood.0; rmap = stood.1; serves = stood.2 }) (record {
       parts = parts;
-      same = itself d;
+      same = device-itself d;
       lawful = (tt, tt);
       brings = λ w r c. tt;
       still = tt;
       failures = stands-still d.failures;
+      wrote = wrote-none d.history;
     }) (λ w. same-world (is_some (setting_by d old).headers) w) (λ w r h. by-view d d old new l (Dropped s) (view_drop at.0 s (view old)) w r
     (subst (λ o. IfSome o (λ f. view new ≡ view_drop f s (view old))) (h.held.ledger.swap.finds s ∙ at.1) is)
     (drop-steps (setting_by d old) (closing_of old) (held_by d old w r l) h.held at.0 s (once-of (setting_by d old) any_slot l sound) at.1
@@ -198,11 +199,12 @@ pub unmap-makes : (names : List ℕ) (d : Device) (old new : Mem) (f : ℕ) (s :
 unmap-makes names d old new f s at is parts = λ l sound stood may.
     one-still names d d old new l (Unmapped f) (record { sound = sound; world = stood.0; rmap = stood.1; serves = stood.2 }) (record {
       parts = parts;
-      same = itself d;
+      same = device-itself d;
       lawful = (tt, tt);
       brings = λ w r c. tt;
       still = tt;
       failures = stands-still d.failures;
+      wrote = wrote-none d.history;
     }) (λ w. same-world (is_some (setting_by d old).headers) w) (λ w r h. by-view d d old new l (Unmapped f) (view_unmap f s (view old)) w r is
     (unmap-steps (setting_by d old) (closing_of old) (held_by d old w r l) h.held f s (once-of (setting_by d old) any_slot l sound)
     (sym (h.held.ledger.frames.slots f) ∙ at)))

@@ -26,6 +26,7 @@ view_of names d k = record {
   free = free_of (view k);
   first = first_pages d;
   failures = d.failures;
+  history = d.history;
   names = names;
   locked = locked_by k;
   stands = λ l. (w : World) × (r : Rmap) × Serves d (closing_of k) k w r l;

@@ -2,7 +2,7 @@
 
 ghost use Rattle.std.specs.Prelude.{◌≡◌, IfOk, None, OnOk, []};
 ghost use Rattle.av_trace.specs.declared.reply.Answer.TheVariants.{Done};
-ghost use Rattle.av_plain.specs.Device.{IsSameDevice, device_by};
+ghost use Rattle.av_plain.specs.Device.{IsSameDevice, seen_by};
 ghost use Rattle.av_plain.specs.Event.{note_events};
 ghost use Rattle.av_plain.specs.Fault.{sparing};
 ghost use Rattle.av_plain.specs.Pass.{Seeks};
@@ -30,12 +30,12 @@ pub fn reclaim<D: SwapDev>(
 ) -> Result<(), AllocError>
     requires { IsBetween (D.sizes dev.old) mem.old }
     ensures reclaims { OnOk result (Does
-        (device_by (D.sizes dev.old) (D.pages dev.old) (D.failures dev.old))
-        (device_by (D.sizes dev.new) (D.pages dev.new) (D.failures dev.new)) mem.old (λ d d' w r l.
+        (seen_by D.sizes D.pages D.failures D.history dev.old)
+        (seen_by D.sizes D.pages D.failures D.history dev.new) mem.old (λ d d' w r l.
         HasAdded (λ m w l added. Reclaims m w l count (note_events added) Done [])
         d d' mem.old mem.new w r l notes.old notes.new)) }
-    ensures same { IsSameDevice (device_by (D.sizes dev.old) (D.pages dev.old) (D.failures dev.old))
-        (device_by (D.sizes dev.new) (D.pages dev.new) (D.failures dev.new)) }
+    ensures same { IsSameDevice (seen_by D.sizes D.pages D.failures D.history dev.old)
+        (seen_by D.sizes D.pages D.failures D.history dev.new) }
     ensures count { frame_count mem.new ≡ frame_count mem.old }
 {
     let mut driver = Driver { mem, dev };
@@ -53,12 +53,12 @@ pub fn age<D: SwapDev>(
 ) -> Result<(), AllocError>
     requires { IsBetween (D.sizes dev.old) mem.old }
     ensures ages { OnOk result (Does
-        (device_by (D.sizes dev.old) (D.pages dev.old) (D.failures dev.old))
-        (device_by (D.sizes dev.new) (D.pages dev.new) (D.failures dev.new)) mem.old (λ d d' w r l.
+        (seen_by D.sizes D.pages D.failures D.history dev.old)
+        (seen_by D.sizes D.pages D.failures D.history dev.new) mem.old (λ d d' w r l.
         HasAdded (λ m w l added. Ages l count (note_events added) Done [])
         d d' mem.old mem.new w r l notes.old notes.new)) }
-    ensures same { IsSameDevice (device_by (D.sizes dev.old) (D.pages dev.old) (D.failures dev.old))
-        (device_by (D.sizes dev.new) (D.pages dev.new) (D.failures dev.new)) }
+    ensures same { IsSameDevice (seen_by D.sizes D.pages D.failures D.history dev.old)
+        (seen_by D.sizes D.pages D.failures D.history dev.new) }
     ensures count { frame_count mem.new ≡ frame_count mem.old }
 {
     let mut driver = Driver { mem, dev };
@@ -76,12 +76,12 @@ pub fn complete<D: SwapDev>(
 ) -> Result<(), AllocError>
     requires { IsBetween (D.sizes dev.old) mem.old }
     ensures completes { OnOk result (Does
-        (device_by (D.sizes dev.old) (D.pages dev.old) (D.failures dev.old))
-        (device_by (D.sizes dev.new) (D.pages dev.new) (D.failures dev.new)) mem.old (λ d d' w r l.
+        (seen_by D.sizes D.pages D.failures D.history dev.old)
+        (seen_by D.sizes D.pages D.failures D.history dev.new) mem.old (λ d d' w r l.
         HasAdded (λ m w l added. CompletesFirst l count (note_events added) Done [])
         d d' mem.old mem.new w r l notes.old notes.new)) }
-    ensures same { IsSameDevice (device_by (D.sizes dev.old) (D.pages dev.old) (D.failures dev.old))
-        (device_by (D.sizes dev.new) (D.pages dev.new) (D.failures dev.new)) }
+    ensures same { IsSameDevice (seen_by D.sizes D.pages D.failures D.history dev.old)
+        (seen_by D.sizes D.pages D.failures D.history dev.new) }
     ensures count { frame_count mem.new ≡ frame_count mem.old }
 {
     let mut driver = Driver { mem, dev };
@@ -99,14 +99,14 @@ pub fn seek<D: SwapDev>(
 ) -> Result<SeekEnd, AllocError>
     requires { IsBetween (D.sizes dev.old) mem.old }
     ensures seeks { IfOk result (λ end. Does
-        (device_by (D.sizes dev.old) (D.pages dev.old) (D.failures dev.old))
-        (device_by (D.sizes dev.new) (D.pages dev.new) (D.failures dev.new)) mem.old (λ d d' w r l.
+        (seen_by D.sizes D.pages D.failures D.history dev.old)
+        (seen_by D.sizes D.pages D.failures D.history dev.new) mem.old (λ d d' w r l.
         HasAdded (λ m w l added. Seeks m (sparing w l pinned) l added
         × IsEnd m (sparing w l pinned) end l added)
         d d' mem.old mem.new w r l notes.old notes.new)) }
     ensures next { IfOk result (λ end. IsNext end (view mem.new).free) }
-    ensures same { IsSameDevice (device_by (D.sizes dev.old) (D.pages dev.old) (D.failures dev.old))
-        (device_by (D.sizes dev.new) (D.pages dev.new) (D.failures dev.new)) }
+    ensures same { IsSameDevice (seen_by D.sizes D.pages D.failures D.history dev.old)
+        (seen_by D.sizes D.pages D.failures D.history dev.new) }
     ensures count { frame_count mem.new ≡ frame_count mem.old }
 {
     let mut driver = Driver { mem, dev };

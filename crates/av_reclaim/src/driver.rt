@@ -1,7 +1,7 @@
 //! The memory system with its device, in single steps.
 
 ghost use Rattle.std.specs.Prelude.{◌≡◌, ◌∷◌, []};
-ghost use Rattle.av_plain.specs.Device.{as_told, device_by};
+ghost use Rattle.av_plain.specs.Device.{as_told, seen_by};
 ghost use Rattle.av_mem.proofs.Locks.{locks as locked_so};
 ghost use Rattle.av_reclaim.specs.Driver.{closing_of, end_of, view_of};
 
@@ -24,10 +24,10 @@ pub struct Driver<'a, D: SwapDev> {
 
 impl<'a, D: SwapDev> System for Driver<'a, D> {
     ghost view = { λ s told. view_of (s.mem.ghost_name ∷ s.dev.ghost_name ∷ []) (as_told told
-        (device_by (D.sizes s.dev.now) (D.pages s.dev.now) (D.failures s.dev.now))) s.mem.now };
+        (seen_by D.sizes D.pages D.failures D.history s.dev.now)) s.mem.now };
 
     ghost locks = { λ s told l sound stood w r claims. locked_so (as_told told
-        (device_by (D.sizes s.dev.now) (D.pages s.dev.now) (D.failures s.dev.now)))
+        (seen_by D.sizes D.pages D.failures D.history s.dev.now))
         (closing_of s.mem.now) s.mem.now w r l sound.in_order claims };
 
     fn frames(&self) -> u32 {
@@ -42,12 +42,28 @@ impl<'a, D: SwapDev> System for Driver<'a, D> {
         self.mem.frames.slot(frame)
     }
 
+    fn cached_len(&self) -> u32 {
+        self.mem.frames.cached_len()
+    }
+
+    fn has_slot(&self) -> bool {
+        self.mem.swap.has_slot()
+    }
+
     fn is_locked(&self, frame: u32) -> bool {
         self.mem.is_locked(frame)
     }
 
+    fn any_locked(&self) -> bool {
+        self.mem.spaces.by_number().any_locked()
+    }
+
     fn is_merged(&self, frame: u32) -> bool {
         self.mem.is_merged(frame)
+    }
+
+    fn merged_len(&self) -> u32 {
+        self.mem.items.merged_len()
     }
 
     fn is_mapped(&self, frame: u32) -> bool {

@@ -6,7 +6,7 @@ use Rattle.std.proofs.lemmas.List.Elements.{All-nil}
 use Rattle.av_trace.specs.Print.{text_of}
 use Rattle.av_plain.specs.Transcript.{Exchange, State, at_first, causes_of, text_of_run}
 use Rattle.av_kernel.specs.Machine.{Machine}
-use Rattle.av_plain.specs.Device.{Device, IsSameDevice, setting_of}
+use Rattle.av_plain.specs.Device.{Device, IsSameDevice, setting_of, Wrote, first_pages}
 use Rattle.av_io.specs.Source.{Took}
 use Rattle.av_io.specs.Sink.{SinkView, Gained, HandsOn, HasFailed, KeepsBack}
 use Rattle.av_replay.specs.declared.status.Status.{Status}
@@ -15,19 +15,22 @@ use Rattle.av_ports.specs.declared.run_err.RunErr.{RunErr}
 use Rattle.av_ports.specs.declared.run_err.RunErr.TheVariants as errors
 use Rattle.av_ports.specs.Ports.{PortsView, OnlySink, undone, AreFlushed, AreUnfailed, ReadsOn, IsAtEnd, IsReadFault}
 use Rattle.av_ports.specs.Line.{IsLine}
-use Rattle.av_replay.specs.Turn.{Begins, Commands, IsEnding, TakesLine, Waits, CutsShort, IsUnflushed, Halts, DoesNext, FindsEnd, Finishes}
+use Rattle.av_replay.specs.Turn.{Begins, Commands, IsEnding, TakesLine, Waits, CutsShort, IsUnflushed, Halts, DoesNext, FindsEnd, Finishes, pages_of_run}
 use Rattle.av_replay.specs.Replay.{most_lines, all_lines, Transcribes, Run, done_lines, Replays, IsHandedBack, StopsAt, MayGoOn, IsCutOff, Ends, status_at, Headline, can_go_on, kernel_at, FailsOnlyAt, FailsUntold, IsFlushed, DoesTrace, FlushesLast}
 use Rattle.av_ports.proofs.Bytes.{Took-none, Took-ahead, Gained-none}
 use Rattle.av_ports.proofs.Times.{failed_since, read_fault_since, flushed_none, only_sink}
-use Rattle.av_step.proofs.StepLaws.{same_itself, same_then}
 use Rattle.av_replay.proofs.Calls.{handed_on}
-use Rattle.av_replay.proofs.Runs.{rose_none, rose_on, Past, whole, SoFar, longer, next_answers, read_more, wrote_more, device_more, failures_more, legal_more, kernel_more, text_more, all_push, Transcribes-push, joined-push}
+use Rattle.av_replay.proofs.Runs.{rose_none, rose_on, Past, whole, SoFar, longer, next_answers, read_more, wrote_more, device_more, failures_more, legal_more, kernel_more, text_more, all_push, Transcribes-push, joined-push, asked_more}
+use Rattle.av_plain.proofs.Wrote.{device-itself, device-on, wrote-none, wrote-same, wrote-then}
+use Rattle.av_base.specs.declared.slot.Slot.{Slot}
+use Rattle.av_swapdev.specs.Device.{History}
 
 -- ---- what the end of a turn leaves
 
 -- a run, the bytes that were written, and the kernel
 pub record Leaves (n : ℕ) (rest : List ℕ) (old new : PortsView) (kernel : Machine) (run : Run) (written : List ℕ) : Type 0 where
   pub replays : Replays n old new run rest written
+  pub told : replays.untold ≡ []
   pub left : IsHandedBack kernel new.device n run
 
 pub hands_if : (b : Bool) (P : Machine → Type 0) (kernel : Machine) → P kernel → IfSome (if b then Some kernel else None) P
@@ -42,18 +45,28 @@ headline n status rest old new kernel run written leaves ends = record {
   written = written;
   replays = leaves.replays;
   ends = ends;
+  told = λ any. leaves.told;
   handed_back = hands_if (can_go_on status) (λ k. IsHandedBack k new.device n run) kernel leaves.left;
 }
 
 few_whole : (lines : List (List ℕ)) → length lines ≤ most_lines → length (lines ++ []) ≤ most_lines
 few_whole lines few = omega (arith, few, ap length (append-nil lines))
 
+-- a device that is as it was
+still : (a b : Device) → b ≡ a → IsSameDevice a b
+still a b is = record {
+  sizes = ap (λ (d : Device). d.sizes) is;
+  first = ap first_pages is;
+  failures = omega (arith, ap (λ (d : Device). d.failures) is);
+  history = record { pages = []; wrote = wrote-same a.history b.history (ap (λ (d : Device). d.history) is); behind_header = tt };
+}
+
 -- where something was read, a line may have been begun
 begun_of : (ahead rest : List ℕ) (now new : PortsView) → ReadsOn ahead rest now new → Begins ahead rest now new
 begun_of ahead rest now new reads = record {
   same = reads.same;
   held = reads.held;
-  device = subst (IsSameDevice now.device) (sym reads.device) (same_itself now.device);
+  device = still now.device new.device reads.device;
   near = reads.near;
 }
 
@@ -71,19 +84,28 @@ waited n past ahead rest old now new k so_far few reads = record {
   commands = subst (λ (lines : List (List ℕ)). Transcribes lines past.transcript) (sym (append-nil past.lines)) so_far.commands;
   legal = so_far.legal;
   failures = rose_on (causes_of past.transcript) old.device.failures now.device.failures new.device.failures so_far.failures reads.device.failures;
+  untold = reads.device.history.pages;
+  asked = wrote-then old.device.history now.device.history new.device.history (pages_of_run past.transcript) reads.device.history.pages
+      so_far.asked reads.device.history.wrote;
   wrote = subst (λ (h : Option (List ℕ)). Gained old.sink.held h (text_of_run past.transcript)) (sym reads.held) so_far.wrote;
-  device = same_then old.device now.device new.device so_far.device reads.device;
+  device = device-on old.device now.device new.device so_far.device reads.device;
 }
 
 pub stops : (n : ℕ) (past : Past) (ahead rest : List ℕ) (old now new : PortsView) (k k' : Machine) → SoFar n past ahead old now k →
     length past.lines ≤ most_lines → Waits ahead rest now new k k' → Leaves n rest old new k' (whole past) (text_of_run past.transcript)
+unfolding waited begun_of still
 stops n past ahead rest old now new k k' so_far few waits = record {
   replays = waited n past ahead rest old now new k so_far few (begun_of ahead rest now new waits.reads);
+  told = refl;
   left = subst (λ (d : Device). IsHandedBack k' d n (whole past)) (sym waits.reads.device)
       (subst (λ (m : Machine). IsHandedBack m now.device n (whole past)) (sym waits.kernel) so_far.kernel_left);
 }
 
 -- ---- a line was done in the turn
+
+-- nothing but this was asked
+all_told : {ps : List Slot} {a b : History} → Wrote ps a b → Wrote (ps ++ []) a b
+all_told {ps} {a} {b} h = subst (λ (ps : List Slot). Wrote ps a b) (sym (append-nil ps)) h
 
 -- the last line, which had no newline
 abbrev pub with_last : Past → List ℕ → Option Exchange → State → Run
@@ -110,9 +132,12 @@ module _ (n : ℕ) (past : Past) (ahead : List ℕ) (old now new : PortsView) (k
               (Transcribes-push past.lines past.transcript line a.did so_far.commands a.commands);
           legal = legal_more n past ahead old now new k k' line (10 ∷ []) rest text written so_far takes;
           failures = failures_more n past ahead old now new k k' line (10 ∷ []) rest text written so_far takes;
+          untold = [];
+          asked = all_told (asked_more n past ahead old now new k k' line (10 ∷ []) rest text written so_far takes);
           wrote = wrote_more n past ahead old now new k k' line (10 ∷ []) rest text written so_far takes;
           device = device_more n past ahead old now new k k' line (10 ∷ []) rest text written so_far takes;
         };
+        told = refl;
         left = kernel_more n past ahead old now new k k' line (10 ∷ []) rest text written so_far takes lines None;
       }
 
@@ -134,9 +159,12 @@ module _ (n : ℕ) (past : Past) (ahead : List ℕ) (old now new : PortsView) (k
           commands = Transcribes-push past.lines past.transcript line a.did so_far.commands a.commands;
           legal = legal_more n past ahead old now new k k' line [] rest text written so_far takes;
           failures = failures_more n past ahead old now new k k' line [] rest text written so_far takes;
+          untold = [];
+          asked = all_told (asked_more n past ahead old now new k k' line [] rest text written so_far takes);
           wrote = wrote_more n past ahead old now new k k' line [] rest text written so_far takes;
           device = device_more n past ahead old now new k k' line [] rest text written so_far takes;
         };
+        told = refl;
         left = kernel_more n past ahead old now new k k' line [] rest text written so_far takes past.lines (Some line);
       }
 
@@ -267,6 +295,7 @@ memory n past ahead rest old now new k k' so_far few (inl reads) = record {
   written = text_of_run past.transcript;
   replays = waited n past ahead rest old now new k so_far (omega arith) reads;
   ends = inl refl;
+  told = λ other. absurd (other refl);
   handed_back = tt;
 }
 memory n past ahead rest old now new k k' so_far few (inr cut) =
@@ -342,10 +371,13 @@ nothing_done n ports = record {
       last = tt;
       legal = refl;
       failures = rose_none ports.device.failures;
+      untold = [];
+      asked = wrote-none ports.device.history;
       wrote = Gained-none ports.sink.held;
-      device = same_itself ports.device;
+      device = device-itself ports.device;
     };
     ends = inl refl;
+    told = λ other. refl;
     handed_back = tt;
   };
   unfailed = (refl, inl refl);
@@ -383,6 +415,8 @@ module _ (n : ℕ) (old now : PortsView) (kernel : Machine) (sink : SinkView) wh
     commands = r.commands;
     legal = r.legal;
     failures = r.failures;
+    untold = r.untold;
+    asked = r.asked;
     wrote = subst (λ (h : Option (List ℕ)). Gained old.sink.held h written) (sym held) r.wrote;
     device = r.device;
   }
@@ -390,12 +424,14 @@ module _ (n : ℕ) (old now : PortsView) (kernel : Machine) (sink : SinkView) wh
   -- the same ending
   ends_so : (status : Status) (h : Headline n status old now (kernel_at status kernel)) → sink.held ≡ now.sink.held →
       Ends status old new h.run h.rest h.written → Headline n status old new (kernel_at status kernel)
+  unfolding replays_flush
   ends_so status h held ends = record {
     run = h.run;
     rest = h.rest;
     written = h.written;
     replays = replays_flush h.run h.rest h.written held h.replays;
     ends = ends;
+    told = h.told;
     handed_back = h.handed_back;
   }
 
@@ -410,10 +446,12 @@ module _ (n : ℕ) (old now : PortsView) (kernel : Machine) (sink : SinkView) wh
     kept so same = record { n = so.n; reads = so.reads; flushes = same ∙ so.flushes }
 
     -- it failed
-    unflushed : (status : Status) (run : Run) (rest written : List ℕ) → Replays n old now run rest written → IsHandedBack kernel now.device n run →
+    unflushed : (status : Status) (run : Run) (rest written : List ℕ) (replays : Replays n old now run rest written) → replays.untold ≡ [] →
+        IsHandedBack kernel now.device n run →
         StopsAt status new run rest → written ≡ text_of_run run.transcript → KeepsBack now.sink sink
         → DoesTrace n statuses.WriteFault old new (Some kernel)
-    unflushed status run rest written replays left stops whole keeps =
+    unfolding replays_flush
+    unflushed status run rest written replays told left stops whole keeps =
         let untold = fails_untold keeps in
         record {
           headline = record {
@@ -422,6 +460,7 @@ module _ (n : ℕ) (old now : PortsView) (kernel : Machine) (sink : SinkView) wh
             written = written;
             replays = replays_flush run rest written keeps.held replays;
             ends = (inr (record { untold = untold.0; whole = whole; status = status; stops = stops }), untold.1);
+            told = λ any. told;
             handed_back = left;
           };
           unfailed = was.source;
@@ -460,16 +499,16 @@ module _ (n : ℕ) (old now : PortsView) (kernel : Machine) (sink : SinkView) wh
   replayed statuses.Done last (inl f) h was memory so none =
       named statuses.Done last f.0 (served was so statuses.Done f.1 h h.ends (unfailed was so f.1) (handed_on old now sink so f.1))
   replayed statuses.Done last (inr f) h was memory so none =
-      named statuses.WriteFault last f.0 (unflushed was so statuses.Done h.run h.rest h.written h.replays h.handed_back h.ends.0 h.ends.1 f.1)
+      named statuses.WriteFault last f.0 (unflushed was so statuses.Done h.run h.rest h.written h.replays (h.told (λ e. cc)) h.handed_back h.ends.0 h.ends.1 f.1)
   replayed (statuses.BadLine number) last (inl f) h was memory so none = named (statuses.BadLine number) last f.0
       (served was so (statuses.BadLine number) f.1 h h.ends (unfailed was so f.1) (handed_on old now sink so f.1))
   replayed (statuses.BadLine number) last (inr f) h was memory so none =
       named statuses.WriteFault last f.0
-      (unflushed was so (statuses.BadLine number) h.run h.rest h.written h.replays h.handed_back h.ends.0 h.ends.1 f.1)
+      (unflushed was so (statuses.BadLine number) h.run h.rest h.written h.replays (h.told (λ e. cc)) h.handed_back h.ends.0 h.ends.1 f.1)
   replayed statuses.TooMany last (inl f) h was memory so none =
       named statuses.TooMany last f.0 (served was so statuses.TooMany f.1 h h.ends (unfailed was so f.1) (handed_on old now sink so f.1))
   replayed statuses.TooMany last (inr f) h was memory so none =
-      named statuses.WriteFault last f.0 (unflushed was so statuses.TooMany h.run h.rest h.written h.replays h.handed_back h.ends.0 h.ends.1 f.1)
+      named statuses.WriteFault last f.0 (unflushed was so statuses.TooMany h.run h.rest h.written h.replays (h.told (λ e. cc)) h.handed_back h.ends.0 h.ends.1 f.1)
   replayed statuses.Usage last f h was memory so none = absurd h.ends.0
   replayed statuses.AttachFault last f h was memory so none = absurd h.ends.0
   replayed statuses.ReadFault last f h was memory so none =

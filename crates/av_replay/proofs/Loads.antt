@@ -30,6 +30,7 @@ pub record Loaded (n : ℕ) (lines : List (List ℕ)) (status : Status) (device 
   pub run : Run
   pub others : List (List ℕ)
   pub works : Works n lines device device' run others
+  pub told : status ≢ statuses.Memory → works.untold ≡ []
   pub ends : IsDoneOrMemory status
   pub all : status ≡ statuses.Done → others ≡ []
   pub handed_back : IfSome kernel (λ k. IsHandedBack k device' n run)
@@ -56,7 +57,16 @@ loaded n areas seed lines status old new kernel few short left source source' si
     record {
       run = h.run;
       others = f.others;
-      works = record { done = f.are; commands = r.commands; legal = r.legal; failures = r.failures; device = r.device };
+      works = record {
+        done = f.are;
+        commands = r.commands;
+        legal = r.legal;
+        failures = r.failures;
+        untold = r.untold;
+        asked = r.asked;
+        device = r.device;
+      };
+      told = h.told;
       ends = complete n status old new kernel h (all_lines ls) left (is-trace areas seed lines few short)
           (λ rose. unrisen old.source.failures new.source.failures source source' rose)
           (λ failed. unrisen old.sink.failures new.sink.failures sink sink' failed.failures);
@@ -71,18 +81,20 @@ done-is-no-memory status done memory =
     let e : statuses.Done ≡ statuses.Memory = sym done ∙ memory in absurd cc
 
 -- the same over the areas that the words name
-pub loaded-over : (n count seed lines : ℕ) (status : Status) (old new : PortsView) (kernel : Option Machine) → count ≤ most_names
+pub loaded-over : (n seed lines : ℕ) (names : List (List ℕ)) (status : Status) (old new : PortsView) (kernel : Option Machine) → length names ≤ most_names
     → lines ≤ most_load →
-    old.source.left ≡ Some (all_lines (load_lines count seed lines)) → old.source.failures ≡ 0 → new.source.failures ≡ 0 → old.sink.failures ≡ 0 →
-    new.sink.failures ≡ 0 → ReplaysOver n count status old new kernel →
-    RunsOverAreas count status old.device (λ attached. Loaded n (load_lines count seed lines) status attached new.device kernel)
-loaded-over n count seed lines status old new kernel few short left source source' sink sink' over = record {
+    old.source.left ≡ Some (all_lines (load_lines (length names) seed lines)) → old.source.failures ≡ 0 → new.source.failures ≡ 0 → old.sink.failures ≡ 0 →
+    new.sink.failures ≡ 0 → ReplaysOver n names status old new kernel →
+    RunsOverAreas names status old.device (λ attached. Loaded n (load_lines (length names) seed lines) status attached new.device kernel)
+loaded-over n seed lines names status old new kernel few short left source source' sink sink' over = record {
   pages = over.pages;
   few = over.few;
   all = over.all;
   attached = over.attached;
   attaches = over.attaches;
-  does = loaded n count seed lines status (record old { device = over.attached }) new kernel few short left source source' sink sink'
+  failed = over.failed;
+  tries = over.tries;
+  does = loaded n (length names) seed lines status (record old { device = over.attached }) new kernel few short left source source' sink sink'
       over.does.headline;
 }
 
@@ -100,20 +112,23 @@ pub stopped : (status : Status) → false ≡ can_go_on status → status ≢ st
 stopped status stops done = absurd (false≢true (stops ∙ ap can_go_on done))
 
 -- memory was wanting before every line was done, and nothing is written
-pub wanting : (n count seed lines : ℕ) (status : Status) (sink : SinkView) (device device' : Device) (kernel : Option Machine)
+pub wanting : (n seed lines : ℕ) (names : List (List ℕ)) (status : Status) (sink : SinkView) (device device' : Device) (kernel : Option Machine)
     → status ≢ statuses.Done →
-    RunsOverAreas count status device (λ attached. Loaded n (load_lines count seed lines) status attached device' kernel) →
-    WorksOver seed lines n count status sink sink device device' kernel
-wanting n count seed lines status sink device device' kernel not over = record {
+    RunsOverAreas names status device (λ attached. Loaded n (load_lines (length names) seed lines) status attached device' kernel) →
+    WorksOver seed lines n names status sink sink device device' kernel
+wanting n seed lines names status sink device device' kernel not over = record {
   pages = over.pages;
   few = over.few;
   all = over.all;
   attached = over.attached;
   attaches = over.attaches;
+  failed = over.failed;
+  tries = over.tries;
   does = record {
     run = over.does.run;
     others = over.does.others;
     works = over.does.works;
+    told = over.does.told;
     ends = elim over.does.ends [ inl done ↦ absurd (not done) | inr memory ↦ inl (memory, refl) ];
     handed_back = over.does.handed_back;
   };
@@ -132,30 +147,33 @@ never-attaches status old new text (inl memory) fault =
 never-attaches status old new text (inr ends) fault = absurd (subst (λ (s : Status). EndsText s old new text) fault ends)
 
 -- every line was done, and then this summary was written
-pub summed : (n count seed lines total : ℕ) (status last : Status) (old new : SinkView) (device device' device'' : Device) (kernel : Machine) →
-    status ≡ statuses.Done → total ≡ count + 2 + lines → device'' ≡ device' →
-    RunsOverAreas count status device (λ attached. Loaded n (load_lines count seed lines) status attached device' (Some kernel)) →
+pub summed : (n seed lines total : ℕ) (names : List (List ℕ)) (status last : Status) (old new : SinkView) (device device' device'' : Device) (kernel : Machine) →
+    status ≡ statuses.Done → total ≡ length names + 2 + lines → device'' ≡ device' →
+    RunsOverAreas names status device (λ attached. Loaded n (load_lines (length names) seed lines) status attached device' (Some kernel)) →
     ((s : State) → Stands kernel device' s →
     SumsUp last old new (summary_text total kernel.tally (totals (setting_of kernel.frames device') s.world s.ledger))) →
-    WorksOver seed lines n count last old new device device'' (kernel_at last kernel)
-summed n count seed lines total status last old new device device' device'' kernel done many same over sums =
-    let ls = load_lines count seed lines in
+    WorksOver seed lines n names last old new device device'' (kernel_at last kernel)
+summed n seed lines total names status last old new device device' device'' kernel done many same over sums =
+    let ls = load_lines (length names) seed lines in
     let run = over.does.run in
     let left = over.does.handed_back in
-    let all : total ≡ length ls = many ∙ sym (load-count count seed lines) in
+    let all : total ≡ length ls = many ∙ sym (load-count (length names) seed lines) in
     let is : summary_text total kernel.tally (totals (setting_of kernel.frames device') run.state.world run.state.ledger) ≡ summary_of n
     device' ls run =
     λ i. summary_text (all i) (left.tally i) (totals (setting_of (left.frames i) device') run.state.world run.state.ledger) in
-    subst (λ (d : Device). WorksOver seed lines n count last old new device d (kernel_at last kernel)) (sym same) (record {
+    subst (λ (d : Device). WorksOver seed lines n names last old new device d (kernel_at last kernel)) (sym same) (record {
       pages = over.pages;
       few = over.few;
       all = λ _. over.all (λ memory. absurd (done-is-no-memory status done memory));
       attached = over.attached;
       attaches = over.attaches;
+      failed = over.failed;
+      tries = over.tries;
       does = record {
         run = run;
         others = over.does.others;
         works = over.does.works;
+        told = λ any. over.does.told (done-is-no-memory status done);
         ends = ends-work last old new over.does.others _ (over.does.all done)
             (subst (λ (text : List ℕ). SumsUp last old new text) is (sums run.state left.stands));
         handed_back = hands_if (can_go_on last) (λ k. IsHandedBack k device' n run) kernel left;

@@ -10,7 +10,7 @@ use Rattle.av_plain.specs.Ledger.{Setting}
 use Rattle.av_plain.specs.Transcript.{Exchange, State, IsRun, at_first, causes_of, text_of_run}
 use Rattle.av_kernel.specs.Machine.{Machine}
 use Rattle.av_step.specs.Step.{sizes_of}
-use Rattle.av_plain.specs.Device.{IsSameDevice, setting_of}
+use Rattle.av_plain.specs.Device.{IsSameDevice, setting_of, Wrote}
 use Rattle.av_plain.specs.Step.{causes}
 use Rattle.av_io.specs.Count.{RoseBy}
 use Rattle.std.proofs.lemmas.List.Sums.{sum_by-append}
@@ -18,12 +18,14 @@ use Rattle.av_io.specs.Source.{in_front, Took}
 use Rattle.av_io.specs.Sink.{Gained}
 use Rattle.av_ports.specs.Ports.{PortsView, undone, room, AreUnfailed, StaysOpen}
 use Rattle.av_ports.specs.Line.{IsLine}
-use Rattle.av_replay.specs.Turn.{tally_of, Commands, Answers, TakesLine}
+use Rattle.av_replay.specs.Turn.{tally_of, Commands, Answers, TakesLine, pages_of_run}
 use Rattle.av_replay.specs.Replay.{all_lines, Transcribes, Run, IsHandedBack, IsAtStart}
 use Rattle.av_ports.proofs.Bytes.{Took-then, Took-none, Gained-then, Gained-none}
 use Rattle.av_plain.proofs.Device.{setting_same}
 use Rattle.av_ports.proofs.Times.{unfailed_then}
-use Rattle.av_step.proofs.StepLaws.{same_itself, same_then}
+use Rattle.av_plain.proofs.Wrote.{device-itself, device-on, wrote-none, wrote-then}
+use Rattle.av_plain.specs.Pass.{pages_written}
+use Rattle.av_base.specs.declared.slot.Slot.{Slot}
 
 -- ---- lists that grow at the end
 
@@ -89,6 +91,7 @@ pub record SoFar (n : ℕ) (past : Past) (ahead : List ℕ) (old now : PortsView
   pub commands : Transcribes past.lines past.transcript
   pub legal : IsRun (setting_of n old.device) (at_first (setting_of n old.device)) past.transcript past.state
   pub failures : RoseBy (causes_of past.transcript) old.device.failures now.device.failures
+  pub asked : Wrote (pages_of_run past.transcript) old.device.history now.device.history
   pub wrote : Gained old.sink.held now.sink.held (text_of_run past.transcript)
   pub kernel_left : IsHandedBack kernel now.device n (whole past)
   pub device : IsSameDevice old.device now.device
@@ -108,6 +111,7 @@ starts ahead now kernel none start = record {
   commands = refl;
   legal = refl;
   failures = rose_none now.device.failures;
+  asked = wrote-none now.device.history;
   wrote = Gained-none now.sink.held;
   kernel_left = record {
     stands = start.stands;
@@ -117,7 +121,7 @@ starts ahead now kernel none start = record {
     unspent = start.unspent;
     attached = start.attached;
   };
-  device = same_itself now.device;
+  device = device-itself now.device;
   unfailed = record { source = refl; sink = refl };
   stays_open = λ untold. untold;
 }
@@ -141,7 +145,7 @@ module _ (n : ℕ) (past : Past) (ahead : List ℕ) (old now new : PortsView) (k
   wrote_more = Gained-then _ _ _ _ _ so_far.wrote takes.gained
 
   pub device_more : IsSameDevice old.device new.device
-  device_more = same_then old.device now.device new.device so_far.device takes.device
+  device_more = device-on old.device now.device new.device so_far.device takes.device
 
   pub legal_more : IsRun (setting_of n old.device) (at_first (setting_of n old.device)) (past.transcript ++ option_to_list next_answers.did)
       next_answers.next
@@ -156,6 +160,13 @@ module _ (n : ℕ) (past : Past) (ahead : List ℕ) (old now new : PortsView) (k
       (sym (sum_by-append (λ (e : Exchange). causes e.reply) past.transcript (option_to_list next_answers.did)))
       (rose_then (causes_of past.transcript) (causes_of (option_to_list next_answers.did)) old.device.failures now.device.failures new.device.failures
       so_far.failures next_answers.failures)
+
+  -- what the device was asked to write, with what it was for the line
+  pub asked_more : Wrote (pages_of_run (past.transcript ++ option_to_list next_answers.did)) old.device.history new.device.history
+  asked_more = subst (λ (ps : List Slot). Wrote ps old.device.history new.device.history)
+      (sym (flat_map-append (λ (e : Exchange). pages_written e.reply.notes) past.transcript (option_to_list next_answers.did)))
+      (wrote-then old.device.history now.device.history new.device.history (pages_of_run past.transcript)
+      (pages_of_run (option_to_list next_answers.did)) so_far.asked next_answers.asked)
 
   -- the kernel after the line
   pub kernel_more : (lines : List (List ℕ)) (last : Option (List ℕ)) →
@@ -195,6 +206,7 @@ goes_on n past ahead rest old now new k k' line text so_far takes unfailed stays
       commands = Transcribes-push past.lines past.transcript line a.did so_far.commands a.commands;
       legal = legal_more n past ahead old now new k k' line (10 ∷ []) rest text text so_far takes;
       failures = failures_more n past ahead old now new k k' line (10 ∷ []) rest text text so_far takes;
+      asked = asked_more n past ahead old now new k k' line (10 ∷ []) rest text text so_far takes;
       wrote = subst (Gained old.sink.held new.sink.held) (text_more n past ahead old now new k k' line (10 ∷ []) rest text text so_far takes)
           (wrote_more n past ahead old now new k k' line (10 ∷ []) rest text text so_far takes);
       kernel_left = kernel_more n past ahead old now new k k' line (10 ∷ []) rest text text so_far takes (past.lines ++ line ∷ []) None;

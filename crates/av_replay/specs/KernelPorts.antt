@@ -4,23 +4,18 @@ use Rattle.av_io.specs.Source.{SourceView}
 use Rattle.av_io.specs.Sink.{SinkView}
 use Rattle.av_kernel.specs.Machine.{Machine}
 use Rattle.av_step.specs.Step.{sizes_of}
-use Rattle.av_plain.specs.Device.{Device, IsSameDevice, device_by}
+use Rattle.av_swapdev.specs.Device.{History}
+use Rattle.av_plain.specs.Device.{Device, IsSameDevice, seen_by}
 use Rattle.av_ports.specs.Ports.{PortsView}
-
--- these of a source, a sink and a device, whose sizes, pages and failures are told apart
-abbrev pub side_by_side : SourceView → SinkView → (ℕ → Option ℕ) → Option (ℕ → ℕ → List ℕ) → ℕ
-    → PortsView
-side_by_side source sink sizes pages failures = record {
-  source = source;
-  sink = sink;
-  device = device_by sizes pages failures;
-}
 
 -- a source, a sink and a device, by what is told of each
 abbrev pub ports_by : {S K D : Type 0} → (S → SourceView) → (K → SinkView) → (D → ℕ → Option ℕ)
-    → (D → Option (ℕ → ℕ → List ℕ)) → (D → ℕ) → S → K → D → PortsView
-ports_by source sink sizes pages failures s k d =
-    side_by_side (source s) (sink k) (sizes d) (pages d) (failures d)
+    → (D → Option (ℕ → ℕ → List ℕ)) → (D → ℕ) → (D → History) → S → K → D → PortsView
+ports_by source sink sizes pages failures history s k d = record {
+  source = source s;
+  sink = sink k;
+  device = seen_by sizes pages failures history d;
+}
 
 -- nothing changed but the device, which is the same one
 pub record OnlyDevice (old new : PortsView) : Type 0 where

@@ -7,41 +7,44 @@ use Rattle.av_replay.specs.declared.status.Status.{Status}
 use Rattle.av_replay.specs.declared.status.Status.TheVariants as statuses
 use Rattle.av_words.specs.declared.words.Asked.{Asked}
 use Rattle.av_words.specs.declared.words.Asked.TheVariants as asked
-use Rattle.av_replay.specs.Attach.{Attaches}
+use Rattle.av_replay.specs.Attach.{Attaches, Tries}
 use Rattle.av_ports.specs.Ports.{PortsView}
 use Rattle.av_replay.specs.Replay.{DoesTrace}
 use Rattle.av_replay.specs.Work.{load_lines}
 use Rattle.av_replay.specs.Summary.{DoesLoad}
 
--- What a run says whose words name so many swap areas: they were attached, all of them unless
+-- What a run says whose words name these swap areas: they were attached, all of them unless
 -- memory was wanting for it, and then it did this over the device as it was then.
-pub record RunsOverAreas (count : ℕ) (status : Status) (old : Device) (Does : Device → Type 0)
-    : Type 0 where
+pub record RunsOverAreas
+    (names : List (List ℕ)) (status : Status) (old : Device) (Does : Device → Type 0) : Type 0 where
   pub pages : List ℕ
-  pub few : length pages ≤ count
-  pub all : status ≢ statuses.Memory → length pages ≡ count
+  pub few : length pages ≤ length names
+  pub all : status ≢ statuses.Memory → length pages ≡ length names
   pub attached : Device
   pub attaches : Attaches pages old attached
+  pub failed : Option (List ℕ)
+  pub tries : Tries names (length pages) failed old.history attached.history
   pub does : Does attached
 
 -- it replayed the trace of its source
 abbrev pub ReplaysOver :
-    ℕ → ℕ → Status → PortsView → PortsView → Option Machine → Type 0
-ReplaysOver frames count status old new kernel = RunsOverAreas count status old.device
+    ℕ → List (List ℕ) → Status → PortsView → PortsView → Option Machine → Type 0
+ReplaysOver frames names status old new kernel = RunsOverAreas names status old.device
     (λ attached. DoesTrace frames status (record old { device = attached }) new kernel)
 
 -- it did a load of so many lines from a seed on, and read nothing
 abbrev pub WorksOver :
-    ℕ → ℕ → ℕ → ℕ → Status → SinkView → SinkView → Device → Device → Option Machine → Type 0
-WorksOver seed lines frames count status old new device device' kernel =
-    RunsOverAreas count status device (λ attached.
-    DoesLoad frames (load_lines count seed lines) status old new attached device' kernel)
+    ℕ → ℕ → ℕ → List (List ℕ) → Status → SinkView → SinkView → Device → Device → Option Machine
+    → Type 0
+WorksOver seed lines frames names status old new device device' kernel =
+    RunsOverAreas names status device (λ attached.
+    DoesLoad frames (load_lines (length names) seed lines) status old new attached device' kernel)
 
 -- it did what the words ask for
 abbrev pub DoesOver :
-    Asked → ℕ → Status → PortsView → PortsView → Option Machine → Type 0
-DoesOver (asked.Run frames) count status old new kernel =
-    ReplaysOver frames count status old new kernel
-DoesOver (asked.Work seed lines frames) count status old new kernel =
+    Asked → List (List ℕ) → Status → PortsView → PortsView → Option Machine → Type 0
+DoesOver (asked.Run frames) names status old new kernel =
+    ReplaysOver frames names status old new kernel
+DoesOver (asked.Work seed lines frames) names status old new kernel =
     (new.source ≡ old.source)
-    × WorksOver seed lines frames count status old.sink new.sink old.device new.device kernel
+    × WorksOver seed lines frames names status old.sink new.sink old.device new.device kernel

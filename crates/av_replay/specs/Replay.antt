@@ -1,7 +1,7 @@
 -- What a replay leaves, by its status.
 use Rattle.std.specs.Prelude.{◌≡◌, ℕ, ◌+◌, ◌^◌, ◌<◌, ◌≤◌, List, [], ◌∷◌, ◌++◌, ◌⊎◌, Bool, false}
 use Rattle.std.specs.Prelude.{true, if◌then◌else◌, length, take, Option, Some, None, IfSome}
-use Rattle.std.specs.Prelude.{unwrap_or}
+use Rattle.std.specs.Prelude.{unwrap_or, ◌≢◌}
 use Rattle.std.specs.List.{flat_map, AllByRecursion}
 use Rattle.std.specs.Option.{option_to_list}
 use Rattle.av_trace.specs.Print.{text_of}
@@ -9,7 +9,7 @@ use Rattle.av_plain.specs.Transcript.{Exchange, State, IsRun, at_first, causes_o
 use Rattle.av_kernel.specs.Machine.{Machine}
 use Rattle.av_kernel.specs.Kernel.{Stands}
 use Rattle.av_kernel.specs.Tally.{none_counted}
-use Rattle.av_plain.specs.Device.{Device, IsSameDevice, setting_of}
+use Rattle.av_plain.specs.Device.{Device, IsSameDevice, setting_of, Wrote}
 use Rattle.av_io.specs.Count.{RoseBy}
 use Rattle.av_io.specs.Source.{Took}
 use Rattle.av_io.specs.Sink.{SinkView, Gained, HasFailed, HandsOn, KeepsBack}
@@ -20,7 +20,8 @@ use Rattle.av_ports.specs.declared.run_err.RunErr.TheVariants as errors
 use Rattle.av_ports.specs.Ports.{PortsView, room, AreFlushed, AreUnfailed, IsAtEnd, IsReadFault}
 use Rattle.av_ports.specs.Line.{IsLine}
 use Rattle.av_replay.specs.KernelPorts.{IsAttached}
-use Rattle.av_replay.specs.Turn.{tally_of, Commands, IsBad}
+use Rattle.av_replay.specs.Turn.{tally_of, Commands, IsBad, pages_of_run}
+use Rattle.av_base.specs.declared.slot.Slot.{Slot}
 
 -- ---- the lines that were done, and their transcript
 
@@ -54,7 +55,8 @@ done_lines run = run.lines ++ option_to_list run.last
 -- The lines are what was read, up to these further bytes, which are no more than one read gives.
 -- Their transcript is legal, each frame and slot chosen exactly and the areas by the rules, from
 -- the empty state on. What was written is this. A last line without newline stands at the end of
--- the input. What only failures of the device explain is within what it failed.
+-- the input. What only failures of the device explain is within what it failed. The device was
+-- asked to write what the transcript tells, then perhaps pages that nothing tells of.
 pub record Replays (frames : ℕ) (old new : PortsView) (run : Run) (rest written : List ℕ)
     : Type 0 where
   pub read : Took old.source.left new.source.left
@@ -68,6 +70,8 @@ pub record Replays (frames : ℕ) (old new : PortsView) (run : Run) (rest writte
   pub legal : let m = setting_of frames old.device in
       IsRun m (at_first m) run.transcript run.state
   pub failures : RoseBy (causes_of run.transcript) old.device.failures new.device.failures
+  pub untold : List Slot
+  pub asked : Wrote (pages_of_run run.transcript ++ untold) old.device.history new.device.history
   pub wrote : Gained old.sink.held new.sink.held written
   pub device : IsSameDevice old.device new.device
 
@@ -165,7 +169,8 @@ Ends statuses.Memory old new run rest written =
 Ends status old new run rest written =
     StopsAt status new run rest × (written ≡ text_of_run run.transcript)
 
--- The headline, for a status at which the trace was begun.
+-- The headline, for a status at which the trace was begun. Only a command in which memory was
+-- wanting may have had pages written that nothing tells of.
 pub record Headline (frames : ℕ) (status : Status) (old new : PortsView) (kernel : Option Machine)
     : Type 0 where
   pub run : Run
@@ -173,6 +178,7 @@ pub record Headline (frames : ℕ) (status : Status) (old new : PortsView) (kern
   pub written : List ℕ
   pub replays : Replays frames old new run rest written
   pub ends : Ends status old new run rest written
+  pub told : status ≢ statuses.Memory → replays.untold ≡ []
   pub handed_back : IfSome kernel (λ k. IsHandedBack k new.device frames run)
 
 -- ---- calls of the source and the sink

@@ -1,13 +1,13 @@
 -- The summary of `work`, and what a load leaves.
 use Rattle.std.specs.Prelude.{◌≡◌, ℕ, ◌<◌, List, [], ◌∷◌, ◌++◌, ◌⊎◌, codes, length, take, Option}
-use Rattle.std.specs.Prelude.{IfSome}
+use Rattle.std.specs.Prelude.{IfSome, ◌≢◌}
 use Rattle.std.specs.Fmt.{decimal}
 use Rattle.av_text.specs.Word.{line}
 use Rattle.av_trace.specs.Print.{text_of, whole_line}
 use Rattle.av_trace.specs.Reply.{answer_only}
 use Rattle.av_trace.specs.declared.reply.Answer.TheVariants.{Counted}
 use Rattle.av_trace.specs.declared.reply.Totals.{Totals}
-use Rattle.av_plain.specs.Device.{Device, IsSameDevice, setting_of}
+use Rattle.av_plain.specs.Device.{Device, IsSameDevice, setting_of, Wrote}
 use Rattle.av_plain.specs.Report.{totals}
 use Rattle.av_plain.specs.Transcript.{IsRun, at_first, causes_of}
 use Rattle.av_kernel.specs.Machine.{Machine}
@@ -17,8 +17,9 @@ use Rattle.av_io.specs.Count.{RoseBy, one_more}
 use Rattle.av_io.specs.Sink.{SinkView, Gained, HasFailed}
 use Rattle.av_replay.specs.declared.status.Status.{Status}
 use Rattle.av_replay.specs.declared.status.Status.TheVariants as statuses
-use Rattle.av_replay.specs.Turn.{tally_of}
+use Rattle.av_replay.specs.Turn.{tally_of, pages_of_run}
 use Rattle.av_replay.specs.Replay.{Transcribes, Run, done_lines, IsHandedBack, FailsUntold}
+use Rattle.av_base.specs.declared.slot.Slot.{Slot}
 
 -- ---- the text
 
@@ -53,13 +54,16 @@ summary_of frames device lines run =
 
 -- Of these lines some were done, and the others not. The transcript of those that were is legal,
 -- each frame and slot chosen exactly and the areas by the rules, from the empty state on. What only
--- failures of the device explain is within what it failed.
+-- failures of the device explain is within what it failed, and what it was asked to write is told
+-- but for what is untold.
 pub record Works (frames : ℕ) (lines : List (List ℕ)) (old new : Device) (run : Run)
     (others : List (List ℕ)) : Type 0 where
   pub done : lines ≡ done_lines run ++ others
   pub commands : Transcribes (done_lines run) run.transcript
   pub legal : let m = setting_of frames old in IsRun m (at_first m) run.transcript run.state
   pub failures : RoseBy (causes_of run.transcript) old.failures new.failures
+  pub untold : List Slot
+  pub asked : Wrote (pages_of_run run.transcript ++ untold) old.history new.history
   pub device : IsSameDevice old new
 
 -- a text was cut short
@@ -102,5 +106,6 @@ pub record DoesLoad (frames : ℕ) (lines : List (List ℕ)) (status : Status) (
   pub run : Run
   pub others : List (List ℕ)
   pub works : Works frames lines device device' run others
+  pub told : status ≢ statuses.Memory → works.untold ≡ []
   pub ends : EndsWork status old new others (summary_of frames device' lines run)
   pub handed_back : IfSome kernel (λ k. IsHandedBack k device' frames run)

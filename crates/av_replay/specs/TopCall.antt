@@ -36,7 +36,7 @@ abbrev pub DoesAsked :
     List (List ℕ) → Status → PortsView → PortsView → Option Machine → Type 0
 DoesAsked words status old new kernel =
     WantsForWords status old new kernel ⊎ ((demand : Asked) × (names : List (List ℕ))
-    × IsForm words demand names × DoesOver demand (length names) status old new kernel)
+    × IsForm words demand names × DoesOver demand names status old new kernel)
 
 -- the words ask for a load
 abbrev pub AskForLoad : List (List ℕ) → Type 0
@@ -44,8 +44,8 @@ AskForLoad words =
     (seed lines frames : ℕ) × (names : List (List ℕ))
     × IsForm words (asked.Work seed lines frames) names
 
--- fewer areas are attached than the words name
+-- fewer areas are attached than the words name, up to the first that failed
 abbrev pub AttachesFewerAsked : List (List ℕ) → Device → Device → Type 0
 AttachesFewerAsked words old new =
     (demand : Asked) × (names : List (List ℕ)) × IsForm words demand names
-    × AttachesFewer (length names) old new
+    × AttachesFewer names old new

@@ -1,6 +1,6 @@
 -- One turn of the loop over the lines.
 use Rattle.std.specs.Prelude.{◌≡◌, ℕ, ◌+◌, ◌<◌, ◌≤◌, List, [], ◌∷◌, ◌++◌, ◌⊎◌, length, take, Option}
-use Rattle.std.specs.Prelude.{None, option_map, Bool, true, false, Result, Ok, Err}
+use Rattle.std.specs.Prelude.{None, flat_map, option_map, Bool, true, false, Result, Ok, Err}
 use Rattle.std.specs.Option.{option_to_list}
 use Rattle.av_trace.specs.declared.command.Command.{Command}
 use Rattle.av_trace.specs.Line.{Says}
@@ -9,7 +9,7 @@ use Rattle.av_kernel.specs.Machine.{Machine}
 use Rattle.av_kernel.specs.Kernel.{Stands}
 use Rattle.av_kernel.specs.Tally.{tally_with}
 use Rattle.av_kernel.specs.declared.tally.Tally.{Tally}
-use Rattle.av_plain.specs.Device.{Device, IsSameDevice, setting_of}
+use Rattle.av_plain.specs.Device.{Device, IsSameDevice, setting_of, Wrote}
 use Rattle.av_io.specs.Count.{RoseBy}
 use Rattle.av_io.specs.Source.{SourceView, Took}
 use Rattle.av_io.specs.Sink.{Gained, HasFailed}
@@ -20,6 +20,8 @@ use Rattle.av_ports.specs.declared.run_err.RunErr.TheVariants as errors
 use Rattle.av_ports.specs.Ports.{PortsView, undone, room, ReadsOn, IsAtEnd, IsReadFault}
 use Rattle.av_ports.specs.Ports.{StaysOpen, Writes}
 use Rattle.av_ports.specs.Line.{IsLine, IsTooLong}
+use Rattle.av_plain.specs.Pass.{pages_written}
+use Rattle.av_base.specs.declared.slot.Slot.{Slot}
 
 -- ---- what a line does
 
@@ -44,6 +46,10 @@ pub record CountsReplies (old new : Machine) (es : List Exchange) : Type 0 where
   pub sizes : new.sizes ≡ old.sizes
   pub spent : old.spent ≡ false → new.spent ≡ false
 
+-- the pages that replies tell were to be written to the device, in order
+abbrev pub pages_of_run : List Exchange → List Slot
+pages_of_run es = flat_map (λ e. pages_written e.reply.notes) es
+
 -- what a line does in a state, over a device: this one before it, and that one after it
 pub record Answers (line : List ℕ) (device device' : Device) (s : State) (old new : Machine)
     (text : List ℕ) : Type 0 where
@@ -55,6 +61,7 @@ pub record Answers (line : List ℕ) (device device' : Device) (s : State) (old 
   pub stands : Stands new device' next
   pub counts : CountsReplies old new (option_to_list did)
   pub failures : RoseBy (causes_of (option_to_list did)) device.failures device'.failures
+  pub asked : Wrote (pages_of_run (option_to_list did)) device.history device'.history
 
 -- the kernel does a line, and this is the text of the reply
 pub record DoesLine (line : List ℕ) (device device' : Device) (old new : Machine) (text : List ℕ)

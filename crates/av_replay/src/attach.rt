@@ -1,16 +1,16 @@
 //! Attaching the swap areas that the words name.
 
-ghost use Rattle.std.specs.Prelude.{◌≡◌, ℕ, ◌≤◌, List, length, IfOk, IsErrOf};
+ghost use Rattle.std.specs.Prelude.{◌≡◌, ℕ, ◌≤◌, List, Option, None, length, map, IfOk, IsErrOf};
 ghost use Rattle.av_io.specs.Count.{Rose};
+ghost use Rattle.av_plain.specs.Device.{seen_by};
 ghost use Rattle.av_swapdev.specs.Device.{most_areas};
-ghost use Rattle.av_step.specs.Step.{seen_by};
-ghost use Rattle.av_replay.specs.Attach.{Attaches, AttachesFewer, HasNone};
+ghost use Rattle.av_replay.specs.Attach.{Attaches, AttachesFewer, HasNone, Tries};
 
 use av_swapdev::{AttachErr, SwapDev};
 use std::alloc::Global;
 
-/// Attaches these names as the areas 0, 1, .. of a device that has none, and says how many pages
-/// each has. Where one can't be attached fewer areas than names are, from 0 on without a gap.
+/// Attaches these names, once each and in their order, as the areas 0, 1, .. of a device that has
+/// none, and says how many pages each has. After the first that can't be attached none is.
 pub fn attach_all<D: SwapDev>(
     alloc: Global,
     names: &[&str],
@@ -19,17 +19,21 @@ pub fn attach_all<D: SwapDev>(
     requires few { length names.now ≤ most_areas }
     requires none { HasNone (D.sizes dev.old) }
     ensures all { IfOk result (λ pages. (length pages.items ≡ length names.now)
-        × Attaches pages.items (seen_by D.sizes D.pages D.failures dev.old)
-        (seen_by D.sizes D.pages D.failures dev.new)) }
+        × Attaches pages.items (seen_by D.sizes D.pages D.failures D.history dev.old)
+        (seen_by D.sizes D.pages D.failures D.history dev.new)
+        × Tries (map (λ name. name.now) names.now) (length pages.items) None
+        (D.history dev.old) (D.history dev.new)) }
     ensures cause { IsErrOf result AttachErr.Failed →
         Rose (D.failures dev.old) (D.failures dev.new) }
     ensures fewer { IsErrOf result AttachErr.Failed →
-        AttachesFewer (length names.now) (seen_by D.sizes D.pages D.failures dev.old)
-        (seen_by D.sizes D.pages D.failures dev.new) }
+        AttachesFewer (map (λ name. name.now) names.now) (seen_by D.sizes D.pages D.failures D.history dev.old)
+        (seen_by D.sizes D.pages D.failures D.history dev.new) }
     ensures wanting { IsErrOf result AttachErr.Memory → (pages : List ℕ)
         × (length pages ≤ length names.now)
-        × Attaches pages (seen_by D.sizes D.pages D.failures dev.old)
-        (seen_by D.sizes D.pages D.failures dev.new) }
+        × Attaches pages (seen_by D.sizes D.pages D.failures D.history dev.old)
+        (seen_by D.sizes D.pages D.failures D.history dev.new)
+        × (failed : Option (List ℕ)) × Tries (map (λ name. name.now) names.now) (length pages)
+        failed (D.history dev.old) (D.history dev.new) }
 {
     let mut pages = Vec::new(alloc);
     for (area, name) in names.iter().enumerate() {

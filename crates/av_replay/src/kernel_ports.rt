@@ -1,10 +1,11 @@
 //! The ports of a run: what it reads and writes, and the device over which a kernel answers.
 
-ghost use Rattle.std.specs.Prelude.{◌≡◌, ◌<◌, true, OnOk, OnErr};
+ghost use Rattle.std.specs.Prelude.{◌≡◌, ◌⊎◌, ◌<◌, true, false, OnOk, OnErr};
 ghost use Rattle.std.specs.Borrow.{GName};
 ghost use Rattle.av_base.specs.Limits.{most_commands};
 ghost use Rattle.av_plain.specs.Transcript.{State};
 ghost use Rattle.av_kernel.specs.Kernel.{Counts, IsSpent, Stands, Steps};
+ghost use Rattle.av_kernel.specs.Step.{has_device};
 ghost use Rattle.av_trace.specs.Command.{is_in_grammar};
 ghost use Rattle.av_replay.specs.KernelPorts.{ports_by};
 ghost use Rattle.av_replay.specs.KernelPorts.{IsAttached, OnlyDevice};
@@ -35,6 +36,8 @@ pub trait KernelPorts: Ports {
         ensures counts { OnOk result (Counts kernel.old kernel.new reply.new) }
         ensures spent { OnErr result (IsSpent kernel.old kernel.new) }
         ensures only { OnlyDevice (Self.view self.old) (Self.view self.new) }
+        ensures leaves_device { (kernel.old.spent ≡ true) ⊎ (has_device command.now ≡ false)
+            → (Self.view self.new).device ≡ (Self.view self.old).device }
         ensures kept { Self.kept self.new ≡ Self.kept self.old };
 }
 
@@ -48,7 +51,7 @@ pub struct LentPorts<'s, 'k, 'd, S, K, D> {
 }
 
 impl<'s, 'k, 'd, S: Source, K: Sink, D: SwapDev> Ports for LentPorts<'s, 'k, 'd, S, K, D> {
-    ghost view = { λ ports. ports_by S.view K.view D.sizes D.pages D.failures
+    ghost view = { λ ports. ports_by S.view K.view D.sizes D.pages D.failures D.history
         ports.source.now ports.sink.now ports.dev.now };
 
     ghost Kept = { GName × GName × GName };

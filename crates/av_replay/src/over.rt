@@ -1,9 +1,10 @@
 //! A run over the swap areas that the words name.
 
-ghost use Rattle.std.specs.Prelude.{◌≡◌, ◌≢◌, ◌≤◌, is_some, length};
+ghost use Rattle.std.specs.Prelude.{◌≡◌, ◌≢◌, ◌≤◌, is_some, length, map};
 ghost use Rattle.av_io.specs.Count.{Rose};
+ghost use Rattle.av_plain.specs.Device.{seen_by};
 ghost use Rattle.av_swapdev.specs.Device.{most_areas};
-ghost use Rattle.av_step.specs.Step.{seen_by, sizes_of};
+ghost use Rattle.av_step.specs.Step.{sizes_of};
 ghost use Rattle.av_replay.specs.Attach.{AttachesFewer, HasNone};
 ghost use Rattle.av_replay.specs.Over.{ReplaysOver};
 ghost use Rattle.av_replay.specs.KernelPorts.{ports_by};
@@ -27,8 +28,8 @@ fn replay_over<S: Source, K: Sink, D: SwapDev>(
     sink: &mut K,
     dev: &mut D,
 ) -> Status
-    requires { IsAtStart kernel.old (seen_by D.sizes D.pages D.failures dev.old) }
-    ensures { let at = ports_by S.view K.view D.sizes D.pages D.failures in
+    requires { IsAtStart kernel.old (seen_by D.sizes D.pages D.failures D.history dev.old) }
+    ensures { let at = ports_by S.view K.view D.sizes D.pages D.failures D.history in
         DoesTrace kernel.old.frames result (at source.old sink.old dev.old)
         (at source.new sink.new dev.new) (kernel_at result kernel.new) }
 {
@@ -48,7 +49,7 @@ fn run_trace<S: Source, K: Sink, D: SwapDev>(
 ) -> Outcome
     requires few { length pages.now ≤ most_areas }
     requires attached { D.sizes dev.old ≡ sizes_of pages.now }
-    ensures replayed { let at = ports_by S.view K.view D.sizes D.pages D.failures in
+    ensures replayed { let at = ports_by S.view K.view D.sizes D.pages D.failures D.history in
         DoesTrace frames result.status (at source.old sink.old dev.old)
         (at source.new sink.new dev.new) result.kernel }
     ensures kernel { is_some result.kernel ≡ can_go_on result.status }
@@ -74,16 +75,16 @@ pub fn run_over<S: Source, K: Sink, D: SwapDev>(
 ) -> Outcome
     requires few { length names.now ≤ most_areas }
     requires none { HasNone (D.sizes dev.old) }
-    ensures replayed { let at = ports_by S.view K.view D.sizes D.pages D.failures in
-        result.status ≢ Status.AttachFault → ReplaysOver frames (length names.now) result.status
+    ensures replayed { let at = ports_by S.view K.view D.sizes D.pages D.failures D.history in
+        result.status ≢ Status.AttachFault → ReplaysOver frames (map (λ name. name.now) names.now) result.status
         (at source.old sink.old dev.old) (at source.new sink.new dev.new) result.kernel }
     ensures begun { result.status ≢ Status.Usage }
     ensures fault { result.status ≡ Status.AttachFault →
         Rose (D.failures dev.old) (D.failures dev.new)
         × (source.new ≡ source.old) × (sink.new ≡ sink.old) }
     ensures fewer { result.status ≡ Status.AttachFault →
-        AttachesFewer (length names.now) (seen_by D.sizes D.pages D.failures dev.old)
-        (seen_by D.sizes D.pages D.failures dev.new) }
+        AttachesFewer (map (λ name. name.now) names.now) (seen_by D.sizes D.pages D.failures D.history dev.old)
+        (seen_by D.sizes D.pages D.failures D.history dev.new) }
     ensures kernel { is_some result.kernel ≡ can_go_on result.status }
 {
     match attach_all(alloc, names, dev) {

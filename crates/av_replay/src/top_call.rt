@@ -3,7 +3,7 @@
 ghost use Rattle.std.specs.Prelude.{◌≡◌, ◌≢◌, None, is_some, map};
 ghost use Rattle.std.specs.Prelude.{string_bytes};
 ghost use Rattle.av_io.specs.Count.{Rose};
-ghost use Rattle.av_step.specs.Step.{seen_by};
+ghost use Rattle.av_plain.specs.Device.{seen_by};
 ghost use Rattle.av_replay.specs.Attach.{HasNone};
 ghost use Rattle.av_replay.specs.KernelPorts.{ports_by};
 ghost use Rattle.av_replay.specs.Replay.{can_go_on};
@@ -66,7 +66,7 @@ pub fn run<S: Source, K: Sink, D: SwapDev, P: Progress>(
     progress: &mut P,
 ) -> Outcome
     requires none { HasNone (D.sizes dev.old) }
-    ensures does { let at = ports_by S.view K.view D.sizes D.pages D.failures in
+    ensures does { let at = ports_by S.view K.view D.sizes D.pages D.failures D.history in
         result.status ≢ Status.Usage → result.status ≢ Status.AttachFault
         → DoesAsked (map string_bytes words.now) result.status
         (at source.old sink.old dev.old) (at source.new sink.new dev.new) result.kernel }
@@ -77,14 +77,14 @@ pub fn run<S: Source, K: Sink, D: SwapDev, P: Progress>(
     ensures usage { RefusesWords result.status (map string_bytes words.now) }
     ensures nothing { result.status ≡ Status.Usage
         → (source.new ≡ source.old) × (sink.new ≡ sink.old) × (dev.new ≡ dev.old) }
-    // An area can't be attached only where the device failed; then fewer are than names, from 0 on
-    // without a gap (which, isn't said), and nothing is read or written.
+    // An area can't be attached only where the device failed; then those are whose names stand
+    // before the first that failed, and nothing is read or written.
     ensures fault { result.status ≡ Status.AttachFault →
         Rose (D.failures dev.old) (D.failures dev.new)
         × (source.new ≡ source.old) × (sink.new ≡ sink.old) }
     ensures fewer { result.status ≡ Status.AttachFault
         → AttachesFewerAsked (map string_bytes words.now)
-        (seen_by D.sizes D.pages D.failures dev.old) (seen_by D.sizes D.pages D.failures dev.new) }
+        (seen_by D.sizes D.pages D.failures D.history dev.old) (seen_by D.sizes D.pages D.failures D.history dev.new) }
     // A kernel is handed back exactly where there is one to go on with.
     ensures kernel { is_some result.kernel ≡ can_go_on result.status }
 {

@@ -1,12 +1,11 @@
 //! A load over the swap areas that the words name.
 
-ghost use Rattle.std.specs.Prelude.{◌≡◌, ◌≢◌, ◌≤◌, false, is_some, length};
+ghost use Rattle.std.specs.Prelude.{◌≡◌, ◌≢◌, ◌≤◌, false, is_some, length, map};
 ghost use Rattle.av_io.specs.Count.{Rose};
-ghost use Rattle.av_plain.specs.Device.{setting_of};
+ghost use Rattle.av_plain.specs.Device.{setting_of, seen_by};
 ghost use Rattle.av_plain.specs.Report.{totals as totals_of};
 ghost use Rattle.av_plain.specs.Transcript.{State};
 ghost use Rattle.av_kernel.specs.Kernel.{Stands};
-ghost use Rattle.av_step.specs.Step.{seen_by};
 ghost use Rattle.av_replay.specs.Attach.{AttachesFewer, HasNone};
 ghost use Rattle.av_replay.specs.Over.{WorksOver};
 ghost use Rattle.av_replay.specs.Replay.{can_go_on};
@@ -35,11 +34,11 @@ fn sum_up_over<S: Source, K: Sink, D: SwapDev>(
     dev: &mut D,
 ) -> Status
     requires unspent { kernel.now.spent ≡ false }
-    ensures sums { let d = seen_by D.sizes D.pages D.failures dev.old in (s : State)
+    ensures sums { let d = seen_by D.sizes D.pages D.failures D.history dev.old in (s : State)
         → Stands kernel.now d s → SumsUp result (K.view sink.old) (K.view sink.new)
         (summary_text lines kernel.now.tally (totals_of
         (setting_of kernel.now.frames d) s.world s.ledger)) }
-    ensures same { let d = seen_by D.sizes D.pages D.failures in d dev.new ≡ d dev.old }
+    ensures same { let d = seen_by D.sizes D.pages D.failures D.history in d dev.new ≡ d dev.old }
 {
     let mut ports = LentPorts { source, sink, dev };
     sum_up(alloc, lines, kernel, &mut ports)
@@ -60,16 +59,16 @@ pub fn work_over<K: Sink, D: SwapDev, P: Progress>(
     requires few { length names.now ≤ most_names }
     requires lines { lines ≤ most_load }
     requires none { HasNone (D.sizes dev.old) }
-    ensures worked { let d = seen_by D.sizes D.pages D.failures in
-        result.status ≢ Status.AttachFault → WorksOver seed lines frames (length names.now)
-        result.status (K.view sink.old) (K.view sink.new) (d dev.old) (d dev.new) result.kernel }
+    ensures worked { let d = seen_by D.sizes D.pages D.failures D.history in
+        result.status ≢ Status.AttachFault → WorksOver seed lines frames
+        (map (λ name. name.now) names.now) result.status (K.view sink.old) (K.view sink.new) (d dev.old) (d dev.new) result.kernel }
     ensures begun { result.status ≢ Status.Usage }
     ensures fault { result.status ≡ Status.AttachFault →
         Rose (D.failures dev.old) (D.failures dev.new)
         × (sink.new ≡ sink.old) }
     ensures fewer { result.status ≡ Status.AttachFault →
-        AttachesFewer (length names.now) (seen_by D.sizes D.pages D.failures dev.old)
-        (seen_by D.sizes D.pages D.failures dev.new) }
+        AttachesFewer (map (λ name. name.now) names.now) (seen_by D.sizes D.pages D.failures D.history dev.old)
+        (seen_by D.sizes D.pages D.failures D.history dev.new) }
     ensures kernel { is_some result.kernel ≡ can_go_on result.status }
 {
     let mut source = WorkSource::new(names.len(), seed, lines, progress);

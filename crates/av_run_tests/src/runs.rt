@@ -136,6 +136,8 @@ impl SwapDev for RunDev {
 
     ghost failures = { λ d. ⟦<MemDev as SwapDev>⟧.failures d.honest };
 
+    ghost history = { λ d. ⟦<MemDev as SwapDev>⟧.history d.honest };
+
     fn attach(&mut self, area: u8, name: &str) -> Result<u32, AttachErr> {
         self.is_in_order = self.is_in_order && name.as_bytes() == [b's', b'0' + area].as_slice();
         self.honest.attach(area, name)

@@ -3,9 +3,10 @@
 ghost use Rattle.std.specs.Prelude.{◌≡◌, ◌≤◌, ◌^◌, Option, Some, None, IfOk, IsErrOf};
 ghost use Rattle.av_trace.specs.declared.command.Command.{Command as AnyCommand};
 ghost use Rattle.av_trace.specs.Line.{Says};
+ghost use Rattle.av_plain.specs.Device.{seen_by};
 ghost use Rattle.av_plain.specs.Transcript.{State};
 ghost use Rattle.av_kernel.specs.Kernel.{Stands};
-ghost use Rattle.av_step.specs.Step.{seen_by, sizes_of};
+ghost use Rattle.av_step.specs.Step.{sizes_of};
 ghost use Rattle.av_sample.specs.Answers.{Answers};
 
 use av_kernel::Kernel;
@@ -57,7 +58,7 @@ pub fn ask<D: SwapDev>(
     line: &[u8],
 ) -> Result<Bytes, Unanswered>
     requires attached { D.sizes dev.old ≡ sizes_of kernel.old.sizes }
-    ensures answers { let d = seen_by D.sizes D.pages D.failures in (s : State)
+    ensures answers { let d = seen_by D.sizes D.pages D.failures D.history in (s : State)
         → Stands kernel.old (d dev.old) s → IfOk result
         (Answers line.now (d dev.old) (d dev.new) s kernel.old kernel.new) }
     ensures blank { IsErrOf result Unanswered.Blank

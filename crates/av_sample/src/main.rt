@@ -1,5 +1,5 @@
-//! A program that uses the crates as a library: it gives a kernel a few lines, and prints each
-//! reply with how many frames are free then.
+//! A program that uses the crates as a library: it gives a kernel a few lines, and another one with
+//! a swap area some more, and prints each reply with how many frames are free then.
 //!
 //! What is proved: `ask` answers a line with the text of a legal reply to what the line commands,
 //! the kernel stands for the state that this leaves, and each refusal comes only where it is due.
@@ -13,16 +13,29 @@ mod ask;
 
 use crate::ask::ask;
 use av_kernel::Kernel;
-use av_swapdev::{MemDev, SwapDev};
+use av_replay::attach_all;
+use av_swapdev::{MemDev, PAGE_LEN, SwapDev};
 use std::process::ExitCode;
 
 /// A page fault, two frames, and their end.
-const LINES: [&str; 5] = [
+const FAULTS: [&str; 5] = [
     "spawn 1",
     "mmap 1 8192 rw-",
     "read 1 7fffffffd000 2",
     "write 1 7fffffffdfff 4142",
     "exit 1",
+];
+
+/// A page goes to its slot.
+const SWAP: [&str; 8] = [
+    "swapon 0",
+    "spawn 1",
+    "mmap 1 4096 rw-",
+    "write 1 7fffffffe000 41",
+    "reclaim 1",
+    "age 1",
+    "reclaim 1",
+    "complete 1",
 ];
 
 /// Gives a line to a kernel, and prints what it answers and how many frames are free then. None
@@ -38,10 +51,15 @@ fn show<D: SwapDev>(rt: &HostRuntime, kernel: &mut Kernel, dev: &mut D, line: &s
 }
 
 /// Gives the lines to a kernel, up to the first that fails.
-fn show_all<D: SwapDev>(rt: &HostRuntime, kernel: &mut Kernel, dev: &mut D) -> Option<()>
+fn show_all<D: SwapDev>(
+    rt: &HostRuntime,
+    kernel: &mut Kernel,
+    dev: &mut D,
+    lines: &[&str],
+) -> Option<()>
     requires { D.sizes dev.old ≡ sizes_of kernel.old.sizes }
 {
-    for line in &LINES {
+    for line in lines {
         show(rt, kernel, dev, line)?;
     }
     Some(())
@@ -53,11 +71,39 @@ fn show_on_four(rt: &HostRuntime) -> Option<()> {
         return None;
     };
     let mut dev = MemDev::new(Vec::new(rt.alloc()), Vec::new(rt.alloc()));
-    show_all(rt, &mut kernel, &mut dev)
+    show_all(rt, &mut kernel, &mut dev, &FAULTS)
+}
+
+/// The first page of a swap area of four pages, as `mkswap` writes it.
+fn header() -> [u8; PAGE_LEN] {
+    let mut page = [0; PAGE_LEN];
+    page[1024] = 1;
+    page[1028] = 3;
+    page[PAGE_LEN - 10..].copy_from_slice(b"SWAPSPACE2");
+    page
+}
+
+/// Attaches a swap area, and gives the lines to a machine of four frames that has it.
+fn show_on_swap(rt: &HostRuntime) -> Option<()> {
+    let mut area = vec![in rt.alloc(); [0; PAGE_LEN]; 4].ok()?;
+    area[0] = header();
+    let areas = vec![in rt.alloc(); area].ok()?;
+    let mut dev = MemDev::new(areas, Vec::new(rt.alloc()));
+    let pages = attach_all(rt.alloc(), &["swap"], &mut dev).ok()?;
+    let Ok(mut kernel) = Kernel::new(rt.alloc(), 4, &pages) else {
+        return None;
+    };
+    show_all(rt, &mut kernel, &mut dev, &SWAP)
+}
+
+/// Shows both.
+fn show_both(rt: &HostRuntime) -> Option<()> {
+    show_on_four(rt)?;
+    show_on_swap(rt)
 }
 
 fn main(rt: HostRuntime) -> ExitCode {
-    match show_on_four(&rt) {
+    match show_both(&rt) {
         Some(()) => ExitCode::from(0),
         None => ExitCode::from(1),
     }

@@ -13,7 +13,7 @@ use Rattle.av_trace.specs.declared.reply.Reply.{Reply}
 use Rattle.av_trace.specs.declared.reply.Answer.{Answer}
 use Rattle.av_trace.specs.declared.reply.Answer.TheVariants.{Refused}
 use Rattle.av_trace.specs.Reply.{IsCleared, answer_only}
-use Rattle.av_plain.specs.Device.{Device, IsSameDevice, setting_of, device_by}
+use Rattle.av_plain.specs.Device.{Device, IsSameDevice, setting_of, device_by, Wrote}
 use Rattle.av_plain.specs.Fork.{IsRmapNext}
 use Rattle.av_plain.specs.World.{Process, lives, pages, set_process}
 use Rattle.av_plain.specs.Ledger.{HasNumbers, Key, Ledger, SwapArea, entry}
@@ -54,12 +54,13 @@ use Rattle.av_step.specs.Step.{Does, DoesBeside, MemSteps, StepsBeside, reply_in
 use Rattle.av_io.specs.Count.{RoseBy}
 use Rattle.av_plain.specs.Pass.{fails}
 use Rattle.av_plain.specs.Step.{Follows, causes, failure_answers, uses_device}
-use Rattle.av_plain.proofs.Faultless.{unused-causes}
+use Rattle.av_plain.proofs.Faultless.{unused-causes, unused-writes}
 use Rattle.av_step.proofs.Loads.{world_as}
 use Rattle.av_mem.proofs.KeepsLaws.{fits-kept}
 use Rattle.av_mem.proofs.MemLaws.{alive_is, lives_is}
 use Rattle.av_mem.proofs.SwapAreas.{areas-kept}
 use Rattle.av_step.proofs.CacheLeft.{KeepsCached, bytes-left}
+use Rattle.av_plain.proofs.Wrote.{device-itself, wrote-none}
 
 pub at_number : (q p : ℕ) → eq_by_cmp nat_cmp q p ≡ (q == p)
 at_number q p = grind (arith, nat_tests)
@@ -156,13 +157,6 @@ refuses-as old new command error reply r x is same does = refuses-by old new com
 
 -- ---- beside a device
 
--- a device that stays as it is
-pub same_itself : (d : Device) → IsSameDevice d d
-same_itself d = record { sizes = refl; first = refl; failures = omega arith }
-
-pub same_then : (a b c : Device) → IsSameDevice a b → IsSameDevice b c → IsSameDevice a c
-same_then a b c p q = record { sizes = q.sizes ∙ p.sizes; first = q.first ∙ p.first; failures = omega (arith, p.failures, q.failures) }
-
 pub none_rose : (n count : ℕ) → n ≡ 0 → RoseBy n count count
 none_rose n count none = omega (arith, none)
 
@@ -183,14 +177,16 @@ beside old new command result unused does d = record {
     next = h.next;
     step = h.step;
     keeps = h.keeps;
-    same = same_itself d;
+    same = device-itself d;
+    wrote = subst (λ ps. Wrote ps d.history d.history)
+        (sym (unused-writes (setting_by d old) s.world s.ledger command reply h.step.events unused h.step.legal)) (wrote-none d.history);
     failures = none_rose (causes reply) d.failures
         (unused-causes (setting_by d old) s.world s.ledger command reply h.step.events unused h.step.legal);
   }) (does.step d s keeps);
   steady = λ steady. let untold = device_by d.sizes None steady.0 in
       reply-so (reply_of result) (StepsBeside untold old new steady.1 command) (λ reply. IsSteadyAt d.sizes new)
       (λ reply h. (steady.0, h.next, h.keeps)) (does.step untold steady.1 steady.2);
-  same = same_itself d;
+  same = device-itself d;
   count = does.count;
 }
 
@@ -204,11 +200,12 @@ refused-over k command error mild is d = record {
     next = h.next;
     step = h.step;
     keeps = h.keeps;
-    same = same_itself d;
+    same = device-itself d;
+    wrote = wrote-none d.history;
     failures = none_rose (causes (answer_only (Refused error))) d.failures (ap (λ n. max (fails []) 0 + n) mild);
   };
   steady = λ steady. steady;
-  same = same_itself d;
+  same = device-itself d;
   count = refl;
 }
 

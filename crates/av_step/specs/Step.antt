@@ -6,7 +6,7 @@ use Rattle.av_trace.specs.declared.reply.Answer.TheVariants as answers
 use Rattle.av_trace.specs.declared.reply.Reply.{Reply}
 use Rattle.av_trace.specs.Reply.{answer_only}
 use Rattle.av_io.specs.Count.{RoseBy}
-use Rattle.av_plain.specs.Device.{Device, IsSameDevice, device_by}
+use Rattle.av_plain.specs.Device.{Device, IsSameDevice, Wrote}
 use Rattle.av_plain.specs.Step.{causes}
 use Rattle.av_plain.specs.Transcript.{State, IsStep}
 use Rattle.av_spaces.specs.Spaces.{areas_of}
@@ -14,6 +14,7 @@ use Rattle.av_mem.specs.declared.mem.Mem.{Mem}
 use Rattle.av_mem.specs.Mem.{setting_by, frame_count, IsSteadyAt, Keeps}
 use Rattle.av_step.specs.declared.refusal.Refusal.{Refusal}
 use Rattle.av_step.specs.declared.refusal.Refusal.TheVariants.{Refused, Memory}
+use Rattle.av_plain.specs.Pass.{pages_written}
 
 -- what a command answers that filled this reply, or was not done
 abbrev pub reply_in : Reply → Result (Unit {0}) Refusal → Result Reply Refusal
@@ -32,11 +33,6 @@ reply_of (Err Memory) = None
 abbrev pub sizes_of : List ℕ → ℕ → Option ℕ
 sizes_of sizes k = slice_get sizes k
 
--- a device by what is told of one
-abbrev pub seen_by : {D : Type 0} → (D → ℕ → Option ℕ) → (D → Option (ℕ → ℕ → List ℕ)) → (D → ℕ)
-    → D → Device
-seen_by sizes pages failures d = device_by (sizes d) (pages d) (failures d)
-
 -- over some device with these sizes the memory system stands for something, in which the process
 -- lives
 abbrev pub IsSteadyFor : (ℕ → Option ℕ) → ℕ → Mem → Type 0
@@ -45,14 +41,15 @@ IsSteadyFor sizes p k = IsSteadyAt sizes k × (is_some (areas_of k.spaces.proces
 -- ---- commands
 
 -- a command's reply is a step over the device as it was; it is the same device then, and with it
--- the memory system stands for what the step leaves; what only failures of the device explain is
--- within what it failed
+-- the memory system stands for what the step leaves; it was asked to write what the notes tell, and
+-- what only failures of the device explain is within what it failed
 pub record MemSteps (d d' : Device) (old new : Mem) (s : State) (command : Command) (reply : Reply)
     : Type 0 where
   pub next : State
   pub step : IsStep (setting_by d old) s command reply next
   pub keeps : Keeps d' new next
   pub same : IsSameDevice d d'
+  pub wrote : Wrote (pages_written reply.notes) d.history d'.history
   pub failures : RoseBy (causes reply) d.failures d'.failures
 
 -- What every command promises, over the device as it was and as it is: whatever the memory system

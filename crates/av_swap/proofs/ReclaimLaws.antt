@@ -10,11 +10,11 @@ use Rattle.av_io.specs.Count.{RoseBy}
 use Rattle.av_vma.specs.Pages.{Lengths}
 use Rattle.av_plain.specs.Areas.{Anons, Areas, Rmap, next_areas, rmap_after_all}
 use Rattle.av_plain.specs.Choice.{ChoosesAll, Free}
-use Rattle.av_plain.specs.Device.{Device, IsSameDevice, as_told, device_by}
+use Rattle.av_plain.specs.Device.{Device, IsSameDevice, as_told, device_by, Wrote}
 use Rattle.av_plain.specs.Event.{Event, after_all, note_events}
 use Rattle.av_plain.specs.Ledger.{Ledger, Setting}
 use Rattle.av_plain.specs.Load.{with_loads}
-use Rattle.av_plain.specs.Pass.{fails}
+use Rattle.av_plain.specs.Pass.{fails, pages_written}
 use Rattle.av_plain.specs.Refusal.{Refuses, refusal, tests}
 use Rattle.av_plain.specs.Report.{ShowsAreas}
 use Rattle.av_plain.specs.Step.{Follows, closing_swap_area, next}
@@ -94,6 +94,7 @@ module _ (command : Command) (by : IsByNotes command) where
         };
         keeps = kept;
         same = h.done.same;
+        wrote = subst (λ ns. Wrote (pages_written ns) d.history d'.history) (notes_of-note_events h.added ∙ sym notes) h.done.wrote;
         failures = rose-noted (fails now) d.failures d'.failures (subst (λ ns. RoseBy (fails ns) d.failures d'.failures) (sym notes) h.failures);
       }
 
@@ -105,10 +106,13 @@ module _ (command : Command) (by : IsByNotes command) where
     step = λ s keeps. added-steps d d' old new s before now keeps fresh (h true s.world (rmap_of s) s.ledger (stands-between d old s keeps));
     steady = λ steady.
         let s = steady.1 in
-        let keeps = keeps-whenever d.sizes None steady.0 d.failures old s steady.2 in
+        let keeps = keeps-whenever d.sizes None steady.0 (d.failures, d.history) old s steady.2 in
         let after = added-steps (as_told false d) (as_told false d') old new s before now keeps fresh
-        (h false s.world (rmap_of s) s.ledger (stands-between (as_told false d) old s keeps)) in
-        (d'.failures, after.next, subst (λ sizes. Keeps (device_by sizes None d'.failures) new after.next) after.same.sizes after.keeps);
+        (h false s.world (rmap_of s) s.ledger (stands-between (as_told false d) old s keeps)) in (
+          (d'.failures, d'.history),
+          after.next,
+          subst (λ sizes. Keeps (device_by sizes None (d'.failures, d'.history)) new after.next) after.same.sizes after.keeps,
+        );
     same = same;
     count = count;
   }

@@ -13,18 +13,17 @@ use Rattle.av_trace.specs.Reply.{IsCleared}
 use Rattle.av_vma.specs.Pages.{Lengths}
 use Rattle.av_plain.specs.Areas.{Anons, Areas, Rmap, chain_length, next_areas, rmap_after_all}
 use Rattle.av_plain.specs.Choice.{ChoosesAll, Free}
-use Rattle.av_plain.specs.Device.{Device, IsSameDevice, as_told, device_by}
+use Rattle.av_plain.specs.Device.{Device, IsSameDevice, as_told, device_by, Wrote}
 use Rattle.av_plain.specs.Event.{Event, after_all, note_events, notes_of}
 use Rattle.av_plain.specs.Ledger.{Ledger, Setting}
 use Rattle.av_plain.specs.Load.{with_loads}
-use Rattle.av_plain.specs.Pass.{fails}
+use Rattle.av_plain.specs.Pass.{fails, pages_written}
 use Rattle.av_plain.specs.Refusal.{Refuses, refusal, tests}
 use Rattle.av_plain.specs.Report.{ShowsAreas}
 use Rattle.av_plain.specs.Step.{Follows, causes, next}
 use Rattle.av_plain.specs.Swapoff.{close_answer, turn_off_events}
 use Rattle.av_plain.specs.Transcript.{State, rmap_of}
 use Rattle.av_plain.specs.World.{World}
-use Rattle.av_plain.proofs.Access.{notes_of-append, notes_of-note_events}
 use Rattle.av_plain.proofs.Transcript.{next-plain}
 use Rattle.av_mem.specs.declared.mem.Mem.{Mem}
 use Rattle.av_mem.specs.Between as between
@@ -39,6 +38,7 @@ use Rattle.av_step.specs.Step.{Does, MemSteps}
 use Rattle.av_step.specs.declared.refusal.Refusal.TheVariants as refusals
 use Rattle.av_swap.proofs.ReclaimLaws.{stands-between}
 use Rattle.av_step.proofs.StepLaws.{left_alone, noted, refused-over}
+use Rattle.av_swapoff.proofs.TurnsOffLaws.{swapoff-notes}
 
 -- the answer
 abbrev pub answer_by : EmptyEnd → Answer
@@ -60,17 +60,6 @@ shows-none : (area : ℕ) (on : Areas) (anons : Anons) (end : EmptyEnd) → Show
 shows-none area on anons Empty = tt
 shows-none area on anons (NoFrame out) = tt
 shows-none area on anons NoPage = tt
-
--- the area that goes off has no note
-notes-are : (area : ℕ) (added : List Note) (end : EmptyEnd) → notes_of (swapoff_events area added end) ≡ added
-notes-are area added end = notes_of-append (note_events added) (turn_off_events area (close_of end))
-    ∙ ap (λ ns. ns ++ notes_of (turn_off_events area (close_of end))) (notes_of-note_events added) ∙ ap (λ ns. added ++ ns) (none end)
-    ∙ append-nil added
-  where
-    none : (end : EmptyEnd) → notes_of (turn_off_events area (close_of end)) ≡ []
-    none Empty = refl
-    none (NoFrame out) = refl
-    none NoPage = refl
 
 -- what only failures explain
 rose-by : (end : EmptyEnd) (notes : List Note) (a b : ℕ) → failed_by end ≤ fails notes → RoseBy (fails notes + lost_by end) a b
@@ -116,7 +105,7 @@ module _ (area : ℕ) where
           legal = record {
             answer = subst (λ o. MatchOption o (Follows m s.world s.ledger (Swapoff area) events (answer_by end) [])
                 (λ error. Refuses error events (answer_by end) [])) (sym (tested d old s area true keeps on)) h.turns_off;
-            notes = notes ∙ sym (notes-are area h.added end);
+            notes = notes ∙ sym (swapoff-notes area h.added end);
           };
           world = sym (world-kept area w end);
           ledger = refl;
@@ -131,6 +120,7 @@ module _ (area : ℕ) where
         };
         keeps = kept;
         same = h.done.same;
+        wrote = subst (λ ns. Wrote (pages_written ns) d.history d'.history) (swapoff-notes area h.added end ∙ sym notes) h.done.wrote;
         failures = subst (λ ns. RoseBy (causes (noted (answer_by end) ns)) d.failures d'.failures) (sym notes)
             (rose-by end h.added d.failures d'.failures h.failed h.failures);
       }
@@ -145,10 +135,13 @@ module _ (area : ℕ) where
     step = λ s keeps. turned-steps d d' old new s before now end keeps fresh on (h true s.world (rmap_of s) s.ledger (stands-between d old s keeps));
     steady = λ steady.
         let s = steady.1 in
-        let keeps = keeps-whenever d.sizes None steady.0 d.failures old s steady.2 in
+        let keeps = keeps-whenever d.sizes None steady.0 (d.failures, d.history) old s steady.2 in
         let after = turned-steps (as_told false d) (as_told false d') old new s before now end keeps fresh on
-        (h false s.world (rmap_of s) s.ledger (stands-between (as_told false d) old s keeps)) in
-        (d'.failures, after.next, subst (λ sizes. Keeps (device_by sizes None d'.failures) new after.next) after.same.sizes after.keeps);
+        (h false s.world (rmap_of s) s.ledger (stands-between (as_told false d) old s keeps)) in (
+          (d'.failures, d'.history),
+          after.next,
+          subst (λ sizes. Keeps (device_by sizes None (d'.failures, d'.history)) new after.next) after.same.sizes after.keeps,
+        );
     same = same;
     count = count;
   }

@@ -14,7 +14,7 @@ use Rattle.av_swapcache.specs.Swap.{HasAreas, Shown as ShownSwap, Store as SwapS
 use Rattle.av_swapcache.specs.declared.swap.SwapOn.{SwapOn}
 use Rattle.av_swapcache.specs.declared.swap.SwapOn.TheVariants.{On as IsOn, Busy, Io, Bad}
 use Rattle.av_swapcache.proofs.Views.{areas_on}
-use Rattle.av_swapdev.specs.Device.{Holds, most_pages}
+use Rattle.av_swapdev.specs.Device.{Holds, most_pages, no_history}
 use Rattle.av_swapdev.specs.Header.{Layout, header_of}
 use Rattle.av_swapdev.specs.declared.header.Header.{Header}
 use Rattle.av_swapdev.specs.declared.header.HeaderErr.{HeaderErr}
@@ -26,7 +26,7 @@ use Rattle.av_trace.specs.declared.reply.Errno.TheVariants.{Ebusy, Einval, Eio}
 use Rattle.av_trace.specs.declared.reply.Reply.{Reply}
 use Rattle.av_trace.specs.Reply.{answer_only}
 use Rattle.av_plain.specs.Choice.{AreFresh, Chooses, Free}
-use Rattle.av_plain.specs.Device.{Device, IsSameDevice, device_by, headers_of, without_fault}
+use Rattle.av_plain.specs.Device.{Device, IsSameDevice, device_by, headers_of, without_fault, Calls}
 use Rattle.av_plain.specs.Event.{Event, TurnedOn, after}
 use Rattle.av_plain.specs.Ledger.{HasNumbers, SwapArea, is_header_slot, is_on}
 use Rattle.av_plain.specs.Refusal.{Refuses, refusal, tests}
@@ -50,7 +50,8 @@ use Rattle.av_step.specs.declared.refusal.Refusal.{Refusal}
 use Rattle.av_step.specs.declared.refusal.Refusal.TheVariants as refusals
 use Rattle.av_step.proofs.Loads.{world_as}
 use Rattle.av_swapoff.proofs.CloseLaws.{on-shown, with_swap}
-use Rattle.av_step.proofs.StepLaws.{is_number, refused, rmap_kept, same_itself}
+use Rattle.av_step.proofs.StepLaws.{is_number, refused, rmap_kept}
+use Rattle.av_plain.proofs.Wrote.{device-itself, some-same, wrote-none, wrote-same}
 
 -- ---- the tests
 
@@ -88,11 +89,12 @@ refused-none k area priority d none = record {
     next = h.next;
     step = h.step;
     keeps = h.keeps;
-    same = same_itself d;
+    same = device-itself d;
+    wrote = wrote-none d.history;
     failures = still d.failures;
   };
   steady = λ steady. steady;
-  same = same_itself d;
+  same = device-itself d;
   count = refl;
 }
   where
@@ -168,7 +170,7 @@ module _ (d : Device) (k : Mem) (swap : SwapStore) (s : State) (area pages : ℕ
   told-area = by d.pages came.2
     where
       by : (told : Option (ℕ → ℕ → List ℕ)) → Holds told area 0 came.1
-          → IfSome (headers_of (device_by d.sizes told 0)) (λ headers. headers area ≡ Some layout)
+          → IfSome (headers_of (device_by d.sizes told (0, no_history))) (λ headers. headers area ≡ Some layout)
       by None holds = tt
       by (Some told) holds = told-header d.sizes told area pages came.1 (Ok layout) there holds came.4
 
@@ -395,7 +397,7 @@ module _ (d : Device) (k : Mem) (swap : SwapStore) (s : State) (area pages : ℕ
   on-answered Io h = not-on Eio h.0 h.1 (inl refl)
   on-answered (Bad fault) h = not-on Einval h.0 h.4 (inr (by d.pages h.2))
     where
-      by : (told : Option (ℕ → ℕ → List ℕ)) → Holds told area 0 h.1 → IsByHeader (headers_of (device_by d.sizes told 0)) area (Refused Einval)
+      by : (told : Option (ℕ → ℕ → List ℕ)) → Holds told area 0 h.1 → IsByHeader (headers_of (device_by d.sizes told (0, no_history))) area (Refused Einval)
       by None holds = inl refl
       by (Some told) holds = ap header_answer (sym (told-header d.sizes told area pages h.1 (Err fault) there holds h.3))
 
@@ -426,14 +428,19 @@ rose came n n' cause unfailed = by came cause unfailed
 abbrev first_page : (ℕ → ℕ → List ℕ) → ℕ → List ℕ
 first_page told a = told a 0
 
-module _ (sizes sizes' : ℕ → Option ℕ) (told told' : Option (ℕ → ℕ → List ℕ)) (n n' : ℕ) (same_sizes : sizes' ≡ sizes) (same_pages : told' ≡ told)
-    (never_falls : n ≤ n') where
+module _ (sizes sizes' : ℕ → Option ℕ) (told told' : Option (ℕ → ℕ → List ℕ)) (n n' : Calls) (same_sizes : sizes' ≡ sizes)
+    (same_pages : told' ≡ told) (never_falls : n.0 ≤ n'.0) (asked : n'.1 ≡ n.1) where
   pub one-device : IsSameDevice (device_by sizes told n) (device_by sizes' told' n')
-  one-device = record { sizes = same_sizes; first = ap (λ (o : Option (ℕ → ℕ → List ℕ)). option_map first_page o) same_pages; failures = never_falls }
+  one-device = record {
+    sizes = same_sizes;
+    first = ap (λ (o : Option (ℕ → ℕ → List ℕ)). option_map first_page o) same_pages;
+    failures = never_falls;
+    history = some-same n.1 n'.1 asked;
+  }
 
   pub swapon-does : (k : Mem) (swap : SwapStore) (area pages : ℕ) (priority : Option ℕ) → sizes area ≡ Some pages → 0 < pages → (came : SwapOn)
-      → Answers told area pages (priority_of priority) came (shown_swap k.swap) (shown_swap swap) → (came ≡ Io → Rose n n')
-      → ((came ≡ Io → ⊥) → n' ≡ n)
+      → Answers told area pages (priority_of priority) came (shown_swap k.swap) (shown_swap swap) → (came ≡ Io → Rose n.0 n'.0)
+      → ((came ≡ Io → ⊥) → n'.0 ≡ n.0)
       → Does (device_by sizes told n) (device_by sizes' told' n') k (with_swap k swap) (Swapon area priority) (Ok (answer_only (on_answer came)))
   swapon-does k swap area pages priority there some came h cause unfailed = record {
     step = λ s keeps. let did = on-answered (device_by sizes told n) k swap s area pages priority there some keeps came h in record {
@@ -443,7 +450,8 @@ module _ (sizes sizes' : ℕ → Option ℕ) (told told' : Option (ℕ → ℕ �
           (subst (λ (told : Option (ℕ → ℕ → List ℕ)). Keeps (device_by sizes told n') (with_swap k swap) did.next) (sym same_pages)
           (keeps-whenever sizes told n n' (with_swap k swap) did.next did.keeps));
       same = one-device;
-      failures = rose came n n' cause unfailed;
+      wrote = wrote-same n.1 n'.1 asked;
+      failures = rose came n.0 n'.0 cause unfailed;
     };
     steady = λ steady. let did = on-answered (device_by sizes None steady.0) k swap steady.1 area pages priority there some steady.2 came
         (untold told area pages (priority_of priority) came (shown_swap k.swap) (shown_swap swap) h) in

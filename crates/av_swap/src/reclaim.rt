@@ -2,8 +2,9 @@
 
 ghost use Rattle.av_trace.specs.Reply.{IsCleared};
 ghost use Rattle.av_trace.specs.declared.command.Command.TheVariants as commands;
+ghost use Rattle.av_plain.specs.Device.{seen_by};
 ghost use Rattle.av_mem.specs.Mem.{IsSteadyAt};
-ghost use Rattle.av_step.specs.Step.{Does, reply_in, seen_by};
+ghost use Rattle.av_step.specs.Step.{Does, reply_in};
 
 use av_mem::Mem;
 use av_step::{Refusal, answer_with};
@@ -20,7 +21,7 @@ pub fn reclaim<D: SwapDev>(
 ) -> Result<(), Refusal>
     requires steady { IsSteadyAt (D.sizes dev.old) mem.old }
     requires cleared { IsCleared reply.old }
-    ensures { let d = seen_by D.sizes D.pages D.failures in Does (d dev.old) (d dev.new)
+    ensures { let d = seen_by D.sizes D.pages D.failures D.history in Does (d dev.old) (d dev.new)
         mem.old mem.new (commands.Reclaim frames) (reply_in reply.new result) }
 {
     av_reclaim::reclaim(mem, dev, u32::from(frames), &mut reply.notes)?;
@@ -37,7 +38,7 @@ pub fn age<D: SwapDev>(
 ) -> Result<(), Refusal>
     requires steady { IsSteadyAt (D.sizes dev.old) mem.old }
     requires cleared { IsCleared reply.old }
-    ensures { let d = seen_by D.sizes D.pages D.failures in Does (d dev.old) (d dev.new)
+    ensures { let d = seen_by D.sizes D.pages D.failures D.history in Does (d dev.old) (d dev.new)
         mem.old mem.new (commands.Age frames) (reply_in reply.new result) }
 {
     av_reclaim::age(mem, dev, u32::from(frames), &mut reply.notes)?;
@@ -54,7 +55,7 @@ pub fn complete<D: SwapDev>(
 ) -> Result<(), Refusal>
     requires steady { IsSteadyAt (D.sizes dev.old) mem.old }
     requires cleared { IsCleared reply.old }
-    ensures { let d = seen_by D.sizes D.pages D.failures in Does (d dev.old) (d dev.new)
+    ensures { let d = seen_by D.sizes D.pages D.failures D.history in Does (d dev.old) (d dev.new)
         mem.old mem.new (commands.Complete slots) (reply_in reply.new result) }
 {
     av_reclaim::complete(mem, dev, u32::from(slots), &mut reply.notes)?;

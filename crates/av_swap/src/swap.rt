@@ -3,6 +3,7 @@
 
 ghost use Rattle.std.specs.Prelude.{◌≡◌, ◌<◌, ◌≤◌, false, true, length, slice_get, unwrap_or};
 ghost use Rattle.std.specs.Prelude.{MatchResult, Some};
+ghost use Rattle.av_plain.specs.Device.{seen_by};
 ghost use Rattle.av_swapcache.specs.Swap.{IsPage, header_at, shown as shown_swap};
 ghost use Rattle.av_swapdev.specs.Device.{most_areas};
 ghost use Rattle.av_trace.specs.Reply.{IsCleared};
@@ -12,7 +13,7 @@ ghost use Rattle.av_plain.specs.Swapoff.{close_answer};
 ghost use Rattle.av_plain.specs.Swapon.{priority_of as priority_asked};
 ghost use Rattle.av_swapoff.specs.Empty.{close_of};
 ghost use Rattle.av_mem.specs.Mem.{IsSteady, IsSteadyAt};
-ghost use Rattle.av_step.specs.Step.{Does, DoesBeside, reply_in, seen_by, sizes_of};
+ghost use Rattle.av_step.specs.Step.{Does, DoesBeside, reply_in, sizes_of};
 ghost use Rattle.av_swap.specs.Swap.{has_page, on_answer as answer_of_on, page_answer};
 
 use av_base::Slot;
@@ -42,7 +43,7 @@ pub fn swapon<D: SwapDev>(
     requires attached { D.sizes dev.old ≡ sizes_of sizes.now }
     requires few { length sizes.now ≤ most_areas }
     requires cleared { IsCleared reply.old }
-    ensures { let d = seen_by D.sizes D.pages D.failures in Does (d dev.old) (d dev.new)
+    ensures { let d = seen_by D.sizes D.pages D.failures D.history in Does (d dev.old) (d dev.new)
         mem.old mem.new (commands.Swapon area priority) (reply_in reply.new result) }
 {
     let pages = pages_of(sizes, area)?;
@@ -101,7 +102,7 @@ pub fn swapoff<D: SwapDev>(
 ) -> Result<(), Refusal>
     requires steady { IsSteadyAt (D.sizes dev.old) mem.old }
     requires cleared { IsCleared reply.old }
-    ensures { let d = seen_by D.sizes D.pages D.failures in Does (d dev.old) (d dev.new)
+    ensures { let d = seen_by D.sizes D.pages D.failures D.history in Does (d dev.old) (d dev.new)
         mem.old mem.new (commands.Swapoff area) (reply_in reply.new result) }
 {
     if !mem.swap.is_on(area) {

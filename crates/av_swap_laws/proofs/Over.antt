@@ -3,12 +3,13 @@ use Rattle.std.proofs.Common.{◌≡◌, ℕ, ◌<◌, ◌≤◌, Bool, true, fa
 use Rattle.std.proofs.lemmas.Bool.Decides.{nat_tests}
 use Rattle.std.specs.Prelude.{option_and_then}
 use Rattle.av_base.specs.declared.slot.Slot.{Slot}
-use Rattle.av_swapdev.specs.Device.{IsWritten, with_page}
+use Rattle.av_swapdev.specs.Device.{IsWritten, after_write, with_page}
 use Rattle.av_swapdev.specs.Header.{Layout, header_of}
 use Rattle.av_plain.specs.Device.{Device, IsSameDevice, first_pages, without_fault}
 use Rattle.av_plain.specs.Ledger.{Setting}
 use Rattle.av_plain.specs.Stands.{IsOver}
 use Rattle.av_plain.proofs.Sound.Counts.{same-is}
+use Rattle.av_plain.proofs.Wrote.{some-one}
 
 -- page 0 of each area
 abbrev first_of_each : (ℕ → ℕ → List ℕ) → ℕ → List ℕ
@@ -39,8 +40,13 @@ module _ (old new : Device) (s : Slot) (bytes : List ℕ) (low : 0 < s.page) (wr
       by None = refl
       by (Some told) = λ i. Some (λ k. first-same told k i)
 
-  pub written-same : old.failures ≤ new.failures → IsSameDevice old new
-  written-same more = record { sizes = sizes; first = firsts; failures = more }
+  pub written-same : old.failures ≤ new.failures → new.history ≡ after_write s.area s.page old.history → IsSameDevice old new
+  written-same more asked = record {
+    sizes = sizes;
+    first = firsts;
+    failures = more;
+    history = some-one old.history new.history s low asked;
+  }
 
   pub written-over : (m : Setting) → IsOver m old → IsOver m new
   written-over m h = record {

@@ -15,7 +15,8 @@ use Rattle.av_vma.specs.Pages.{fresh_area}
 use Rattle.av_vma.specs.declared.area.Area.{Area}
 use Rattle.av_plain.specs.Areas.{Rmap, root_anon}
 use Rattle.av_plain.specs.Choice.{no_slots}
-use Rattle.av_plain.specs.Device.{Device}
+use Rattle.av_swapdev.specs.Device.{no_history}
+use Rattle.av_plain.specs.Device.{Device, device_by}
 use Rattle.av_plain.specs.Event.{Noted}
 use Rattle.av_plain.specs.Ledger.{Entry, InFrame, Ledger, Setting, entry, first_ledger, frame_at}
 use Rattle.av_plain.specs.Ledger.{map_count, slot_entries, slot_of}
@@ -33,7 +34,7 @@ small = record {
 }
 
 abbrev pub untold : Device
-untold = record { sizes = small.sizes; pages = None; failures = 0 }
+untold = device_by small.sizes None (0, no_history)
 
 -- the process and its page
 abbrev pub read_write : Prot

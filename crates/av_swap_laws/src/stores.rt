@@ -8,7 +8,7 @@ ghost use Rattle.std.specs.List.{list_any};
 ghost use Rattle.std.specs.Ordering.{eq_by_cmp};
 ghost use Rattle.av_base.specs.Words.{how_many};
 ghost use Rattle.av_base.specs.declared.slot.Slot.{Slot};
-ghost use Rattle.av_swapdev.specs.Device.{IsWritten};
+ghost use Rattle.av_swapdev.specs.Device.{IsWritten, after_write};
 ghost use Rattle.av_plain.specs.Device.{Device, IsSameDevice};
 ghost use Rattle.av_plain.specs.Event.{without};
 ghost use Rattle.av_plain.specs.Ledger.{Key, Ledger, Setting, key_cmp, names_frame, same_slot};
@@ -42,6 +42,7 @@ pub fn walks_change_all()
 pub fn writes_leave_headers()
     ensures { (old new : Device) (s : Slot) (bytes : List ℕ) → 0 < s.page
         → IsWritten s.area s.page bytes old.pages new.pages → new.sizes ≡ old.sizes
-        → (old.failures ≤ new.failures → IsSameDevice old new)
+        → (old.failures ≤ new.failures
+        → new.history ≡ after_write s.area s.page old.history → IsSameDevice old new)
         × ((m : Setting) → IsOver m old → IsOver m new) }
 {}

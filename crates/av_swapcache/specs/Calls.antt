@@ -7,7 +7,7 @@ use Rattle.av_clusters.specs.Clusters.{Slots, fresh as fresh_slots, is_free, tak
 use Rattle.av_frames.specs.Store.{Shown as ShownFrames, with_bytes, with_dirty}
 use Rattle.av_frames.specs.Store.{with_slot as with_frame_slot}
 use Rattle.av_io.specs.Count.{Rose}
-use Rattle.av_swapdev.specs.Device.{Holds, IsSpoiled, IsWritten, most_areas}
+use Rattle.av_swapdev.specs.Device.{History, Holds, IsSpoiled, IsWritten, after_write, most_areas}
 use Rattle.av_swapdev.specs.Header.{AddsUp, Layout, header_of, in_numbers}
 use Rattle.av_swapcache.specs.declared.swap.Finished.{Finished}
 use Rattle.av_swapcache.specs.declared.swap.Finished.TheVariants.{Done, Failed}
@@ -59,13 +59,14 @@ pub record IsFirst (s : Slot) (f : ℕ) (page : List ℕ) (old new : Shown) (was
   pub long : length page ≡ page_size
   pub bytes : (i : ℕ) → slice_index page i ≡ was.bytes f i
 
--- what a write changes: the swap areas, the frames, the device's pages, where they are told, and
--- its failures
+-- what a write changes: the swap areas, the frames, the device's pages, where they are told, its
+-- failures, and what it was asked
 pub record Parts : Type 0 where
   pub swap : Shown
   pub frames : ShownFrames
   pub pages : Option (ℕ → ℕ → List ℕ)
   pub failures : ℕ
+  pub history : History
 
 -- nothing was in flight, or the first slot was written from the frame that caches it, or not
 abbrev pub Finishes : Option Finished → Parts → Parts → Type 0
@@ -74,7 +75,9 @@ Finishes (Some (Done s f)) old new =
     (page : List ℕ) × IsFirst s f page old.swap new.swap old.frames
     × IsWritten s.area s.page page old.pages new.pages × (new.frames ≡ old.frames)
     × (new.failures ≡ old.failures)
+    × (new.history ≡ after_write s.area s.page old.history)
 Finishes (Some (Failed s f)) old new =
     (page : List ℕ) × IsFirst s f page old.swap new.swap old.frames
     × IsSpoiled s.area s.page old.pages new.pages
     × (new.frames ≡ with_dirty f true old.frames) × Rose old.failures new.failures
+    × (new.history ≡ after_write s.area s.page old.history)

@@ -2,8 +2,8 @@
 //! device (Linux's `mm/swapfile.c` and `mm/swap_state.c`).
 
 ghost use Rattle.std.specs.Prelude.{◌≡◌, ℕ, ◌+◌, ◌-◌, ◌<◌, ◌≤◌, ◌^◌, ◌∷◌, ◌++◌, [], nat_lt, length};
-ghost use Rattle.std.specs.Prelude.{replicate, IfOk, IfSome, IsSomeAnd, MatchOption, MatchResult};
-ghost use Rattle.std.specs.Prelude.{OnOk, OnErr, Ok, Some, None, true, false};
+ghost use Rattle.std.specs.Prelude.{replicate, IfOk, IfSome, IsSomeAnd, MatchBool, MatchOption};
+ghost use Rattle.std.specs.Prelude.{MatchResult, OnOk, OnErr, Ok, Some, None, true, false};
 ghost use Rattle.av_frames.specs.Store.{shown as frames_shown, with_dirty};
 ghost use Rattle.av_frames.specs.Store.{with_slot as with_frame_slot};
 ghost use Rattle.av_io.specs.Count.{Rose};
@@ -121,6 +121,7 @@ impl Swap {
         ensures never_falls { D.failures dev.old ≤ D.failures dev.new }
         ensures cause { result ≡ Ok SwapOn.Io → Rose (D.failures dev.old) (D.failures dev.new) }
         ensures unfailed { (result ≡ Ok SwapOn.Io → ⊥) → D.failures dev.new ≡ D.failures dev.old }
+        ensures asked { D.history dev.new ≡ D.history dev.old }
     {
         if self.is_on(area) {
             return Ok(SwapOn::Busy);
@@ -151,6 +152,14 @@ impl Swap {
         ensures in_range { IfSome result (λ f. f < (shown self.now).frames) }
     {
         self.areas.find(slot)
+    }
+
+    /// Whether an area gives a slot: then `put` finds one.
+    pub fn has_slot(&self) -> bool
+        ensures { MatchBool result ((k : ℕ) × (can_give (shown self.now) k ≡ true))
+            ((k : ℕ) → can_give (shown self.now) k ≡ false) }
+    {
+        self.giving().is_some()
     }
 
     /// Takes the next slot of the area that gives first, and caches it at a frame, which is dirty
@@ -204,6 +213,7 @@ impl Swap {
         ensures never_falls { D.failures dev.old ≤ D.failures dev.new }
         ensures cause { OnErr result (Rose (D.failures dev.old) (D.failures dev.new)) }
         ensures unfailed { OnOk result (D.failures dev.new ≡ D.failures dev.old) }
+        ensures asked { D.history dev.new ≡ D.history dev.old }
     {
         let Some(area) = self.areas.of_mut(slot.area) else {
             unreachable!();
@@ -290,12 +300,14 @@ impl Swap {
               frames = frames_shown frames.old;
               pages = D.pages dev.old;
               failures = D.failures dev.old;
+              history = D.history dev.old;
             })
             (record {
               swap = shown self.new;
               frames = frames_shown frames.new;
               pages = D.pages dev.new;
               failures = D.failures dev.new;
+              history = D.history dev.new;
             }) }
         ensures same_sizes { D.sizes dev.new ≡ D.sizes dev.old }
         ensures never_falls { D.failures dev.old ≤ D.failures dev.new }

@@ -3,3 +3,4 @@ pub mod HeaderSlots
 pub mod HeaderLemmas
 pub mod DevicePages
 pub mod FileAreas
+pub mod LogWalks

@@ -1,10 +1,12 @@
 -- The swap areas of a device: how many pages each has, what the pages hold where that is told, and
--- what a call changes of them.
-use Rattle.std.specs.Prelude.{◌≡◌, ℕ, ◌-◌, ◌<◌, ◌==◌, if◌then◌else◌, List, [], map, min, length}
+-- what a call changes of them; and what a device was asked.
+use Rattle.std.specs.Prelude.{◌≡◌, ℕ, ◌-◌, ◌<◌, if◌then◌else◌, List, [], map, min, length}
+use Rattle.std.specs.Prelude.{◌++◌, ◌∷◌}
 use Rattle.std.specs.Prelude.{slice_index, slice_index_or, Bool, false, Option, Some, None}
 use Rattle.std.specs.Prelude.{option_map, IfSome, IsSomeAnd}
 use Rattle.av_base.specs.Words.{with_at}
 use Rattle.av_base.specs.Page.{page_size}
+use Rattle.av_base.specs.declared.slot.Slot.{Slot}
 use Rattle.std.specs.declared.vec.Vec.{Vec}
 use Rattle.std.specs.declared.alloc.Global.{Global}
 
@@ -61,3 +63,31 @@ sizes_in attached areas area =
 -- what each page holds
 abbrev pub pages_in : List (Vec (List ℕ) Global) → ℕ → ℕ → List ℕ
 pages_in areas area page = slice_index_or (area_in areas area) page []
+
+-- ---- what a device was asked
+
+-- a swap area that was to be attached: its number, the name, and whether that went well
+pub record Attach : Type 0 where
+  pub area : ℕ
+  pub name : List ℕ
+  pub well : Bool
+
+-- what was to be attached, and which pages were to be written, in the order of the calls; a call
+-- that failed is one, too
+pub record History : Type 0 where
+  pub attached : List Attach
+  pub written : List Slot
+
+-- before any call
+abbrev pub no_history : History
+no_history = record { attached = []; written = [] }
+
+-- after one more
+abbrev pub after_attach : ℕ → List ℕ → Bool → History → History
+after_attach area name well history = record history {
+  attached = history.attached ++ record { area = area; name = name; well = well } ∷ [];
+}
+
+abbrev pub after_write : ℕ → ℕ → History → History
+after_write area page history =
+    record history { written = history.written ++ record { area = area; page = page } ∷ [] }

@@ -1,3 +1,4 @@
 pub mod Device
 pub mod Header
 pub mod File
+pub mod Log

@@ -1,12 +1,12 @@
 //! A device with swap areas.
 
 ghost use Rattle.std.specs.Prelude.{◌≡◌, ℕ, ◌<◌, ◌≤◌, List, Option, Some, length, IfOk, OnOk};
-ghost use Rattle.std.specs.Prelude.{OnErr, IsErrOf};
+ghost use Rattle.std.specs.Prelude.{OnErr, IsErrOf, is_ok};
 ghost use Rattle.av_base.specs.Page.{page_size};
 ghost use Rattle.av_base.specs.Words.{with_at};
 ghost use Rattle.av_io.specs.Count.{Rose};
 ghost use Rattle.av_swapdev.specs.Device.{HasPage, Holds, IsWritten, IsSpoiled, IsRenewed};
-ghost use Rattle.av_swapdev.specs.Device.{most_areas, most_pages};
+ghost use Rattle.av_swapdev.specs.Device.{History, after_attach, after_write, most_areas, most_pages};
 
 use av_base::PAGE_SIZE;
 use av_io::Failed;
@@ -36,6 +36,9 @@ pub trait SwapDev {
     /// How often a call failed.
     ghost failures: { Self → ℕ };
 
+    /// What it was asked to attach and to write, in the order of the calls.
+    ghost history: { Self → History };
+
     /// Attaches what has this name as an area, and says how many of its pages are used: 1,048,576
     /// at most.
     fn attach(&mut self, area: u8, name: &str) -> Result<u32, AttachErr>
@@ -50,7 +53,9 @@ pub trait SwapDev {
             Rose (failures self.old) (failures self.new) }
         ensures unfailed { OnOk result (failures self.new ≡ failures self.old) }
         ensures unfailed_memory { IsErrOf result AttachErr.Memory
-            → failures self.new ≡ failures self.old };
+            → failures self.new ≡ failures self.old }
+        ensures asked { history self.new
+            ≡ after_attach area name.now (is_ok result) (history self.old) };
 
     /// Reads a page. After an error `into` has any bytes.
     fn read(&mut self, area: u8, page: u32, into: &mut [u8]) -> Result<(), Failed>
@@ -61,7 +66,8 @@ pub trait SwapDev {
         ensures same_sizes { sizes self.new ≡ sizes self.old }
         ensures never_falls { failures self.old ≤ failures self.new }
         ensures cause { OnErr result (Rose (failures self.old) (failures self.new)) }
-        ensures unfailed { OnOk result (failures self.new ≡ failures self.old) };
+        ensures unfailed { OnOk result (failures self.new ≡ failures self.old) }
+        ensures asked { history self.new ≡ history self.old };
 
     /// Writes a page. After an error it holds any bytes.
     fn write(&mut self, area: u8, page: u32, from: &[u8]) -> Result<(), Failed>
@@ -73,5 +79,6 @@ pub trait SwapDev {
         ensures same_sizes { sizes self.new ≡ sizes self.old }
         ensures never_falls { failures self.old ≤ failures self.new }
         ensures cause { OnErr result (Rose (failures self.old) (failures self.new)) }
-        ensures unfailed { OnOk result (failures self.new ≡ failures self.old) };
+        ensures unfailed { OnOk result (failures self.new ≡ failures self.old) }
+        ensures asked { history self.new ≡ after_write area page (history self.old) };
 }

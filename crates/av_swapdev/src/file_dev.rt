@@ -1,17 +1,19 @@
 //! A device over files.
 
 ghost use Rattle.std.specs.Prelude.{◌≡◌, ◌*◌, ◌≤◌, ◌<◌, ℕ, None, Some, length, replicate, vec_len};
-ghost use Rattle.std.specs.Prelude.{IfOk, OnOk, OnErr, IsErrOf};
+ghost use Rattle.std.specs.Prelude.{IfOk, OnOk, OnErr, IsErrOf, is_ok};
 ghost use Rattle.av_base.specs.Page.{page_size};
 ghost use Rattle.av_base.specs.Words.{with_at};
 ghost use Rattle.av_io.specs.Count.{Rose, one_more};
 ghost use Rattle.av_swapdev.specs.Device.{HasPage, Holds, IsRenewed, IsSpoiled, IsWritten};
-ghost use Rattle.av_swapdev.specs.Device.{most_areas, most_pages};
+ghost use Rattle.av_swapdev.specs.Device.{after_attach, after_write, most_areas, most_pages};
+ghost use Rattle.av_swapdev.specs.Device.{no_history};
 ghost use Rattle.av_swapdev.specs.File.{Opens, Reads, SameBut, Stores, StoresPart, after_open};
 ghost use Rattle.av_swapdev.specs.File.{after_failure, file_at, pages_of, sizes_of};
 
 use crate::device::{AttachErr, MOST_PAGES, SwapDev};
 use crate::file::{SwapFile, SwapFiles};
+use crate::log::{Call, Log};
 use av_base::PAGE_SIZE;
 use av_io::Failed;
 use std::alloc::{AllocError, Global};
@@ -29,6 +31,7 @@ pub struct FileDev<H: SwapFiles + Drop> {
     files: H,
     areas: Vec<Option<Attached<H::File>>>,
     failures: u64,
+    log: Log,
     ghost eight: { vec_len areas ≡ 8 },
 }
 
@@ -38,12 +41,14 @@ impl<H: SwapFiles + Drop> FileDev<H> {
         ensures sizes { IfOk result (λ d. (area : ℕ)
             → ⟦<FileDev<H> as SwapDev>⟧.sizes d area ≡ None) }
         ensures failures { IfOk result (λ d. ⟦<FileDev<H> as SwapDev>⟧.failures d ≡ 0) }
+        ensures history { IfOk result (λ d. ⟦<FileDev<H> as SwapDev>⟧.history d ≡ no_history) }
         ensures files { IfOk result (λ d. d.files ≡ files) }
     {
         Ok(FileDev {
             files,
             areas: no_areas(alloc)?,
             failures: 0,
+            log: Log::new(),
         })
     }
 }
@@ -114,6 +119,8 @@ impl<H: SwapFiles + Drop> SwapDev for FileDev<H> {
 
     ghost failures = { λ d. d.failures };
 
+    ghost history = { λ d. d.log.history };
+
     fn attach(&mut self, area: u8, name: &str) -> Result<u32, AttachErr>
         requires { area < most_areas }
         ensures size { IfOk result (λ n. ⟦<FileDev<H> as SwapDev>⟧.sizes self.new ≡ with_at area
@@ -134,6 +141,8 @@ impl<H: SwapFiles + Drop> SwapDev for FileDev<H> {
         ensures unfailed_memory { IsErrOf result AttachErr.Memory
             → ⟦<FileDev<H> as SwapDev>⟧.failures self.new
             ≡ ⟦<FileDev<H> as SwapDev>⟧.failures self.old }
+        ensures asked { ⟦<FileDev<H> as SwapDev>⟧.history self.new
+            ≡ after_attach area name.now (is_ok result) (⟦<FileDev<H> as SwapDev>⟧.history self.old) }
         // Beside what the trait says: one file is opened, whose answer this is; it is the area's
         // file then, with as many pages as its bytes fill.
         ensures answer { H.view self.new.files ≡ after_open result (H.view self.old.files) }
@@ -147,7 +156,13 @@ impl<H: SwapFiles + Drop> SwapDev for FileDev<H> {
         ensures once { IsErrOf result AttachErr.Failed
             → self.new.failures ≡ one_more self.old.failures }
     {
-        match self.files.open(name) {
+        let opened = self.files.open(name);
+        self.log = self.log.then(&Call::Attach {
+            area,
+            name,
+            well: opened.is_ok(),
+        });
+        match opened {
             Ok(file) => {
                 let pages = pages_of(file.len());
                 self.areas[area as usize] = Some(Attached { file, pages });
@@ -176,6 +191,8 @@ impl<H: SwapFiles + Drop> SwapDev for FileDev<H> {
             (⟦<FileDev<H> as SwapDev>⟧.failures self.new)) }
         ensures unfailed { OnOk result (⟦<FileDev<H> as SwapDev>⟧.failures self.new
             ≡ ⟦<FileDev<H> as SwapDev>⟧.failures self.old) }
+        ensures asked { ⟦<FileDev<H> as SwapDev>⟧.history self.new
+            ≡ ⟦<FileDev<H> as SwapDev>⟧.history self.old }
         // Beside what the trait says: the area's file is read once, where the page begins in it,
         // and this is its answer; each other file is left alone.
         ensures file { OnOk result (Reads (file_at H.File.view self.old.areas.items area)
@@ -212,6 +229,8 @@ impl<H: SwapFiles + Drop> SwapDev for FileDev<H> {
             (⟦<FileDev<H> as SwapDev>⟧.failures self.new)) }
         ensures unfailed { OnOk result (⟦<FileDev<H> as SwapDev>⟧.failures self.new
             ≡ ⟦<FileDev<H> as SwapDev>⟧.failures self.old) }
+        ensures asked { ⟦<FileDev<H> as SwapDev>⟧.history self.new
+            ≡ after_write area page (⟦<FileDev<H> as SwapDev>⟧.history self.old) }
         // Beside what the trait says: the area's file is written once, where the page begins in it,
         // and this is its answer; each other file is left alone.
         ensures file { OnOk result (Stores (file_at H.File.view self.old.areas.items area)
@@ -223,6 +242,7 @@ impl<H: SwapFiles + Drop> SwapDev for FileDev<H> {
         ensures same_files { self.new.files ≡ self.old.files }
         ensures once { OnErr result (self.new.failures ≡ one_more self.old.failures) }
     {
+        self.log = self.log.then(&Call::Write { area, page });
         let Some(attached) = &mut self.areas[area as usize] else {
             unreachable!();
         };

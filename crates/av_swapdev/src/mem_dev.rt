@@ -2,7 +2,7 @@
 
 ghost use Rattle.std.specs.Prelude.{◌≡◌, ℕ, ◌-◌, ◌<◌, ◌≤◌, false, map, min, length, slice_index};
 ghost use Rattle.std.specs.Prelude.{slice_index_or, if◌then◌else◌, Some, None, MatchOption, IfOk};
-ghost use Rattle.std.specs.Prelude.{OnOk, OnErr, IsErrOf, is_err};
+ghost use Rattle.std.specs.Prelude.{OnOk, OnErr, IsErrOf, is_err, is_ok};
 ghost use Rattle.av_base.specs.Page.{page_size};
 ghost use Rattle.av_base.specs.Words.{with_at};
 ghost use Rattle.av_io.specs.Count.{Rose};
@@ -10,8 +10,10 @@ ghost use Rattle.av_io.specs.Failures.{IsFresh, IsNextCall};
 ghost use Rattle.av_swapdev.specs.Device.{with_page, most_areas, most_pages, HasPage, Holds};
 ghost use Rattle.av_swapdev.specs.Device.{IsInverted, IsRenewed, IsSpoiled, IsWritten, area_in};
 ghost use Rattle.av_swapdev.specs.Device.{size_in, sizes_in, pages_in};
+ghost use Rattle.av_swapdev.specs.Device.{after_attach, after_write, no_history};
 
 use crate::device::{AttachErr, MOST_PAGES, PAGE_LEN, SwapDev};
+use crate::log::{Call, Log};
 use av_io::{Failed, Failures};
 
 /// A device in memory, which tells what its pages hold.
@@ -20,6 +22,7 @@ pub struct MemDev {
     areas: Vec<Vec<[u8; PAGE_LEN]>>,
     attached: [bool; 8],
     failures: Failures,
+    log: Log,
 }
 
 impl MemDev {
@@ -29,12 +32,14 @@ impl MemDev {
         ensures pages { ⟦<MemDev as SwapDev>⟧.pages result ≡ Some (pages_in areas.items) }
         ensures sizes { (area : ℕ) → ⟦<MemDev as SwapDev>⟧.sizes result area ≡ None }
         ensures failures { ⟦<MemDev as SwapDev>⟧.failures result ≡ 0 }
+        ensures history { ⟦<MemDev as SwapDev>⟧.history result ≡ no_history }
         ensures calls { IsFresh result.failures failing }
     {
         MemDev {
             areas,
             attached: [false; 8],
             failures: Failures::new(failing),
+            log: Log::new(),
         }
     }
 
@@ -82,8 +87,10 @@ impl SwapDev for MemDev {
 
     ghost failures = { λ d. d.failures.count };
 
+    ghost history = { λ d. d.log.history };
+
     /// The name is not looked at. An area that is not in the list has no page.
-    fn attach(&mut self, area: u8, _name: &str) -> Result<u32, AttachErr>
+    fn attach(&mut self, area: u8, name: &str) -> Result<u32, AttachErr>
         requires { area < most_areas }
         ensures size { IfOk result (λ n. ⟦<MemDev as SwapDev>⟧.sizes self.new ≡ with_at area
             (Some n) (⟦<MemDev as SwapDev>⟧.sizes self.old)) }
@@ -103,6 +110,8 @@ impl SwapDev for MemDev {
             ≡ ⟦<MemDev as SwapDev>⟧.failures self.old) }
         ensures unfailed_memory { IsErrOf result AttachErr.Memory
             → ⟦<MemDev as SwapDev>⟧.failures self.new ≡ ⟦<MemDev as SwapDev>⟧.failures self.old }
+        ensures asked { ⟦<MemDev as SwapDev>⟧.history self.new
+            ≡ after_attach area name.now (is_ok result) (⟦<MemDev as SwapDev>⟧.history self.old) }
         // Beside what the trait says: exactly the calls that are listed fail, and none for memory;
         // all pages of the area are used, and they stay.
         ensures calls { IsNextCall self.old.failures self.new.failures (is_err result) }
@@ -110,7 +119,13 @@ impl SwapDev for MemDev {
         ensures all { IfOk result (λ n. n ≡ size_in self.old.areas.items area) }
         ensures kept { ⟦<MemDev as SwapDev>⟧.pages self.new ≡ ⟦<MemDev as SwapDev>⟧.pages self.old }
     {
-        if self.failures.next_fails() {
+        let failed = self.failures.next_fails();
+        self.log = self.log.then(&Call::Attach {
+            area,
+            name,
+            well: !failed,
+        });
+        if failed {
             return Err(AttachErr::Failed);
         }
         self.attached[area as usize] = true;
@@ -133,6 +148,7 @@ impl SwapDev for MemDev {
             (⟦<MemDev as SwapDev>⟧.failures self.new)) }
         ensures unfailed { OnOk result (⟦<MemDev as SwapDev>⟧.failures self.new
             ≡ ⟦<MemDev as SwapDev>⟧.failures self.old) }
+        ensures asked { ⟦<MemDev as SwapDev>⟧.history self.new ≡ ⟦<MemDev as SwapDev>⟧.history self.old }
         // Beside what the trait says: exactly the calls that are listed fail.
         ensures calls { IsNextCall self.old.failures self.new.failures (is_err result) }
     {
@@ -159,12 +175,15 @@ impl SwapDev for MemDev {
             (⟦<MemDev as SwapDev>⟧.failures self.new)) }
         ensures unfailed { OnOk result (⟦<MemDev as SwapDev>⟧.failures self.new
             ≡ ⟦<MemDev as SwapDev>⟧.failures self.old) }
+        ensures asked { ⟦<MemDev as SwapDev>⟧.history self.new
+            ≡ after_write area page (⟦<MemDev as SwapDev>⟧.history self.old) }
         // Beside what the trait says: exactly the calls that are listed fail, and then each bit of
         // the page is inverted.
         ensures calls { IsNextCall self.old.failures self.new.failures (is_err result) }
         ensures inverted { OnErr result (IsInverted (pages_in self.old.areas.items area page)
             (pages_in self.new.areas.items area page)) }
     {
+        self.log = self.log.then(&Call::Write { area, page });
         let bytes = &mut self.areas[area as usize][page as usize];
         if self.failures.next_fails() {
             invert(bytes);

@@ -13,7 +13,7 @@ use Rattle.av_trace.specs.declared.note.Note.TheVariants.{Loaded, Mapped}
 use Rattle.av_vma.specs.Pages.{home_of}
 use Rattle.av_plain.specs.Areas.{Rmap, rmap_after_note}
 use Rattle.av_plain.specs.Choice.{ListsFree}
-use Rattle.av_plain.specs.Device.{Device, IsSameDevice, as_told}
+use Rattle.av_plain.specs.Device.{Device, IsSameDevice, as_told, Calls, Wrote, device_by}
 use Rattle.av_plain.specs.Event.{Noted, after_note}
 use Rattle.av_plain.specs.Ledger.{Key, Ledger, is_free, slot_count, slot_entries}
 use Rattle.av_plain.specs.Stands.{View}
@@ -33,8 +33,9 @@ use Rattle.av_reclaim.specs.Driver.{closing_of, view_of}
 use Rattle.av_reclaim.proofs.FinishMakes.{none-moved}
 use Rattle.av_reclaim.proofs.OneNote.{one-does, one-still, world_with}
 use Rattle.av_reclaim.proofs.ReadLaws.{free-first}
-use Rattle.av_reclaim.proofs.StepMakes.{by-view, frame-found, itself, same-world, stands-still}
+use Rattle.av_reclaim.proofs.StepMakes.{by-view, frame-found, same-world, stands-still}
 use Rattle.av_swapoff.specs.System.{MayLoad, MayMap, load_notes}
+use Rattle.av_plain.proofs.Wrote.{wrote-none, wrote-same, device-itself}
 
 -- ---- what is in use
 
@@ -51,12 +52,13 @@ map-makes names d old new q s f is parts = λ l sound stood may.
     one-still names d d old new l (Mapped q.0 (address_of q.1) f)
     (record { sound = sound; world = stood.0; rmap = stood.1; serves = stood.2 }) (record {
       parts = parts;
-      same = itself d;
+      same = device-itself d;
       lawful = (tt, back-used d (closing_of old) old stood.0 stood.1 l any_slot sound stood.2 q s may.named f may.cached);
       brings = λ w r c. c.at_pages q.0 (page_of (address_of q.1))
           (ap is_some (back-at d (closing_of old) old w r l any_slot sound c q s may.named f may.cached));
       still = tt;
       failures = stands-still d.failures;
+      wrote = wrote-none d.history;
     }) (λ w. same-world (is_some (setting_by d old).headers) w) (λ w r h. by-view d d old new l (Mapped q.0 (address_of q.1) f)
     (view_map q.0 (page_of (address_of q.1)) f s (view old)) w r
     (seen-mapped d (closing_of old) old w r l any_slot sound h q s may.named f may.cached new is)
@@ -85,11 +87,12 @@ loaded-makes : (names : List ℕ) (d : Device) (old new : Mem) (q : Key) (s : Sl
 loaded-makes names d old new q s f home homed pages at is load got parts = λ l sound stood may.
     one-does names d d old new l (Loaded s f) (record { sound = sound; world = stood.0; rmap = stood.1; serves = stood.2 }) (record {
       parts = parts;
-      same = itself d;
+      same = device-itself d;
       lawful = (named-slot l q s may.named, tt);
       brings = λ w r c. tt;
       still = tt;
       failures = stands-still d.failures;
+      wrote = wrote-none d.history;
     }) (λ w r h. subst (λ (v : View). Steps (setting_by d old) (closing_of old) (Noted (Loaded s f)) (held_by d old w r l) (record {
       view = v;
       device = d;
@@ -132,9 +135,16 @@ load-lost told d d' old new s homed (Err e) result is load none = by told load.1
 
 -- with the device afterwards, which says of its pages what it said
 module _ (names : List ℕ) (told : Bool) (d d' : Device) (sizes : d'.sizes ≡ d.sizes) (pages : d'.pages ≡ d.pages)
-    (more : d.failures ≤ d'.failures) where
+    (more : d.failures ≤ d'.failures) (asked : d'.history ≡ d.history) where
   same_told : IsSameDevice (as_told told d) (as_told told d')
-  same_told = seen-same told d d' sizes pages more
+  same_told = seen-same told d d' sizes pages more asked
+
+  wrote_told : (told : Bool) → Wrote [] (as_told told d).history (as_told told d').history
+  wrote_told true = wrote-same d.history d'.history asked
+  wrote_told false = wrote-same d.history d'.history asked
+
+  abbrev calls' : Calls
+  calls' = (d'.failures, d'.history)
 
   -- it stands for as much, however often it failed
   moved : (k : Mem) (w : World) (r : Rmap) (l : Ledger) → Serves (as_told told d) (closing_of k) k w r l
@@ -142,10 +152,10 @@ module _ (names : List ℕ) (told : Bool) (d d' : Device) (sizes : d'.sizes ≡ 
   moved k w r l h = by told h
     where
       by : (told : Bool) → Serves (as_told told d) (closing_of k) k w r l → Serves (as_told told d') (closing_of k) k w r l
-      by true h = subst (λ d'. Serves d' (closing_of k) k w r l) (λ i. record { sizes = sym sizes i; pages = sym pages i; failures = d'.failures })
-          (serves-whenever d.sizes d.pages d.failures d'.failures (closing_of k) k w r l h)
-      by false h = subst (λ d'. Serves d' (closing_of k) k w r l) (λ i. record { sizes = sym sizes i; pages = None; failures = d'.failures })
-          (serves-whenever d.sizes None d.failures d'.failures (closing_of k) k w r l h)
+      by true h = subst (λ d'. Serves d' (closing_of k) k w r l) (λ i. device_by (sym sizes i) (sym pages i) calls')
+          (serves-whenever d.sizes d.pages (d.failures, d.history) calls' (closing_of k) k w r l h)
+      by false h = subst (λ d'. Serves d' (closing_of k) k w r l) (λ i. device_by (sym sizes i) None calls')
+          (serves-whenever d.sizes None (d.failures, d.history) calls' (closing_of k) k w r l h)
 
   load-by : (old new : Mem) (q : Key) (s : Slot) (home homed : Option (ℕ × ℕ)) (o : Result ℕ Failed)
       → home ≡ home_of q.1 (pages_of old.spaces.processes q.0 q.1) → homed ≡ home_by old s home
@@ -154,10 +164,10 @@ module _ (names : List ℕ) (told : Bool) (d d' : Device) (sizes : d'.sizes ≡ 
       → Makes (view_of names (as_told told d) old) (view_of names (as_told told d') new) (MayLoad (setting_by (as_told told d) old) s q)
       (load_notes s (result_ok o))
   load-by old new q s home homed (Err e) at is loads parts = none-moved names (as_told told d) (as_told told d') old new
-      (MayLoad (setting_by (as_told told d) old) s q) same_told (moved old) loads.0 parts
+      (MayLoad (setting_by (as_told told d) old) s q) same_told (wrote_told told) (moved old) loads.0 parts
   load-by old new q s home homed (Ok f) at is loads parts =
       subst (λ x. Makes (view_of names (as_told told d) old) (view_of names x new) (MayLoad (setting_by (as_told told d) old) s q) (Loaded s f ∷ []))
-      (sym (told-still told d d' sizes pages loads.1))
+      (sym (told-still told d d' sizes pages loads.1 asked))
       (loaded-makes names (as_told told d) old new q s f home homed d.pages at is loads.0 (got-told told d s loads.0.page loads.0.holds) parts)
 
   -- whatever it answered

@@ -48,6 +48,7 @@ has-emptied names names' d d₁ d' old k₁ new area before now end gives lent w
           serves.swap.closed does.chooses;
       same = one-device names names' d d₁ old k₁ stays;
       count = ap (λ (m : Setting). m.frames) stays.setting;
+      wrote = does.wrote;
       failures = out.2.1.rose;
       failed = out.2.1.failed;
     }))

@@ -12,15 +12,15 @@ use Rattle.av_trace.specs.declared.note.Note.{Note}
 use Rattle.av_trace.specs.declared.note.Note.TheVariants.{Aged, Copied, Dropped, Failed, Joined, Kept, Loaded, Mapped, Moved, New, Put, Shared, Started, Unmapped, Written, Zeroed}
 use Rattle.av_plain.specs.Areas.{Rmap, rmap_after_all}
 use Rattle.av_plain.specs.Choice.{Chooses, ChoosesAll}
-use Rattle.av_plain.specs.Device.{Device, as_told, setting_of}
-use Rattle.av_plain.specs.Event.{Event, TurnedOff, after, after_all, after_note, after_notes, change_entries, if_some, key_at, note_events, off_cache, off_flight, to_inactive_tail}
+use Rattle.av_plain.specs.Device.{Device, as_told, setting_of, Wrote}
+use Rattle.av_plain.specs.Event.{Event, TurnedOff, after, after_all, after_note, after_notes, change_entries, if_some, key_at, note_events, off_cache, off_flight, to_inactive_tail, notes_of}
 use Rattle.av_plain.specs.Ledger.{InSlot, Ledger, Setting, SwapArea, frame_at, slot_count, slot_entries, slot_of, slots_in_use}
 use Rattle.av_plain.specs.Load.{after_load, after_loads, with_loads}
 use Rattle.av_plain.specs.Sound.{AllSound, IsSound, count}
 use Rattle.av_plain.specs.Stands.{View, free_of}
 use Rattle.av_plain.specs.Swapoff.{Closed, TurnsOff, close_answer, turn_off_events}
 use Rattle.av_plain.specs.World.{World}
-use Rattle.av_plain.proofs.Access.{after_all-append, after_notes-append, chooses-append, note_events-all}
+use Rattle.av_plain.proofs.Access.{after_all-append, after_notes-append, chooses-append, note_events-all, notes_of-append, notes_of-note_events}
 use Rattle.av_plain.proofs.AreasLeft.{rmap_after_all-append}
 use Rattle.av_plain.proofs.Event.{changed-by}
 use Rattle.av_plain.proofs.Sound.Swap.Area.{used-elsewhere}
@@ -37,6 +37,7 @@ use Rattle.av_reclaim.proofs.StepMakes.{frame-found}
 use Rattle.av_swapoff.specs.declared.empty.EmptyEnd.{EmptyEnd}
 use Rattle.av_swapoff.specs.declared.empty.EmptyEnd.TheVariants.{Empty, NoFrame, NoPage}
 use Rattle.av_swapoff.proofs.CloseLaws.{on-shown, serves-closing, serves-off, step-off, view-closing, with_swap}
+use Rattle.av_plain.specs.Pass.{pages_written}
 
 -- ---- notes turn no area on or off
 
@@ -104,7 +105,7 @@ closing-over d k swap area close h = (
   h.2,
   h.3,
   closing-of (as_told false d) k swap area close h.1 h.2 h.3
-      (record { sound = h.4.sound; serves = serves-whenever d.sizes None h.0 d.failures None k h.1 h.2 h.3 h.4.serves }),
+      (record { sound = h.4.sound; serves = serves-whenever d.sizes None h.0 (d.failures, d.history) None k h.1 h.2 h.3 h.4.serves }),
 )
 
 -- ---- when an area has been emptied
@@ -245,6 +246,16 @@ module _ (d d' : Device) (k k' : Mem) (w : World) (r : Rmap) (l : Ledger) (area 
       by (NoFrame out) is same = stays-on swap same
       by NoPage is same = stays-on swap same
 
+-- an area that goes off makes no note
+pub swapoff-notes : (area : ℕ) (added : List Note) (end : EmptyEnd) → notes_of (swapoff_events area added end) ≡ added
+swapoff-notes area added end = notes_of-append (note_events added) (turn_off_events area (close_of end))
+    ∙ (λ i. notes_of-note_events added i ++ none end i) ∙ append-nil added
+  where
+    none : (end : EmptyEnd) → notes_of (turn_off_events area (close_of end)) ≡ []
+    none Empty = refl
+    none (NoFrame out) = refl
+    none NoPage = refl
+
 -- whatever stood before the area began to close
 pub has-turned-off : (d d' : Device) (old k' : Mem) (swap0 swap : SwapStore) (area : ℕ) (before now : List Note) (end : EmptyEnd)
     → shown_swap swap0 ≡ with_closing (Some area) (shown_swap old.swap) → shown_swap swap ≡ after_closing area end (shown_swap k'.swap)
@@ -263,6 +274,7 @@ has-turned-off d d' old k' swap0 swap area before now end close finish w r l bet
             (free_of (view (with_swap k' swap))))
             (view-closing old swap0 (Some area) close) done.1;
         same = h.same;
+        wrote = subst (λ ns. Wrote (pages_written ns) d.history d'.history) (sym (swapoff-notes area h.added end)) h.wrote;
         count = h.count;
       };
       failures = h.failures;

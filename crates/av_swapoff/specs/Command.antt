@@ -4,11 +4,11 @@ use Rattle.av_io.specs.Count.{RoseBy}
 use Rattle.av_trace.specs.declared.note.Note.{Note}
 use Rattle.av_plain.specs.Areas.{Rmap, rmap_after_all}
 use Rattle.av_plain.specs.Choice.{ChoosesAll}
-use Rattle.av_plain.specs.Device.{Device, IsSameDevice, as_told}
+use Rattle.av_plain.specs.Device.{Device, IsSameDevice, as_told, Wrote}
 use Rattle.av_plain.specs.Event.{Event, after_notes, note_events}
 use Rattle.av_plain.specs.Ledger.{Ledger}
 use Rattle.av_plain.specs.Load.{with_loads}
-use Rattle.av_plain.specs.Pass.{fails}
+use Rattle.av_plain.specs.Pass.{fails, pages_written}
 use Rattle.av_plain.specs.Sound.{IsSound}
 use Rattle.av_plain.specs.Stands.{free_of}
 use Rattle.av_plain.specs.Swapoff.{TurnsOff, close_answer, turn_off_events}
@@ -40,8 +40,8 @@ abbrev pub DoesClosing : ℕ → Device → Device → Mem
 DoesClosing area d d' old IsSo = (told : Bool) (w : World) (r : Rmap) (l : Ledger)
     → KeepsClosing (as_told told d) area old w r l → IsSo (as_told told d) (as_told told d') w r l
 
--- notes were added, the area was emptied by them to this end, and that is done; the device failed
--- at least as often as the notes and the end tell
+-- notes were added, the area was emptied by them to this end, and that is done; the device was asked
+-- to write what the notes tell, and failed at least as often as they and the end tell
 pub record HasEmptied (d d' : Device) (old new : Mem) (w : World) (r : Rmap) (l : Ledger)
     (area : ℕ) (before now : List Note) (end : EmptyEnd) : Type 0 where
   pub added : List Note
@@ -53,6 +53,7 @@ pub record HasEmptied (d d' : Device) (old new : Mem) (w : World) (r : Rmap) (l 
       (free_of (view old)) (free_of (view new))
   pub same : IsSameDevice d d'
   pub count : frame_count new ≡ frame_count old
+  pub wrote : Wrote (pages_written added) d.history d'.history
   pub failures : RoseBy (fails added + lost_by end) d.failures d'.failures
   pub failed : failed_by end ≤ fails added
 

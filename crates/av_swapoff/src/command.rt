@@ -2,7 +2,7 @@
 
 ghost use Rattle.std.specs.Prelude.{◌≡◌, IfOk, Some, false, true};
 ghost use Rattle.av_base.specs.declared.slot.Slot.{Slot};
-ghost use Rattle.av_plain.specs.Device.{IsSameDevice, as_told, device_by};
+ghost use Rattle.av_plain.specs.Device.{IsSameDevice, as_told, seen_by};
 ghost use Rattle.av_swapcache.specs.Swap.{count_of, is_on, shown};
 ghost use Rattle.av_mem.specs.Between.{Does, IsBetween};
 ghost use Rattle.av_mem.specs.Mem.{frame_count};
@@ -36,11 +36,11 @@ pub fn swapoff<D: SwapDev>(
     requires between { IsBetween (D.sizes dev.old) mem.old }
     requires on { is_on (shown mem.old.swap) area ≡ true }
     ensures turned { IfOk result (λ end. Does
-        (device_by (D.sizes dev.old) (D.pages dev.old) (D.failures dev.old))
-        (device_by (D.sizes dev.new) (D.pages dev.new) (D.failures dev.new)) mem.old (λ d d' w r l.
+        (seen_by D.sizes D.pages D.failures D.history dev.old)
+        (seen_by D.sizes D.pages D.failures D.history dev.new) mem.old (λ d d' w r l.
         HasTurnedOff d d' mem.old mem.new w r l area notes.old notes.new end)) }
-    ensures same { IsSameDevice (device_by (D.sizes dev.old) (D.pages dev.old) (D.failures dev.old))
-        (device_by (D.sizes dev.new) (D.pages dev.new) (D.failures dev.new)) }
+    ensures same { IsSameDevice (seen_by D.sizes D.pages D.failures D.history dev.old)
+        (seen_by D.sizes D.pages D.failures D.history dev.new) }
     ensures count { frame_count mem.new ≡ frame_count mem.old }
 {
     mem.swap.close(area);
@@ -58,13 +58,13 @@ fn empty_area<D: SwapDev>(
     notes: &mut Notes,
 ) -> Result<EmptyEnd, AllocError>
     requires { IsClosingOver (as_told false
-        (device_by (D.sizes dev.old) (D.pages dev.old) (D.failures dev.old))) area mem.old }
+        (seen_by D.sizes D.pages D.failures D.history dev.old)) area mem.old }
     ensures emptied { IfOk result (λ end. DoesClosing area
-        (device_by (D.sizes dev.old) (D.pages dev.old) (D.failures dev.old))
-        (device_by (D.sizes dev.new) (D.pages dev.new) (D.failures dev.new)) mem.old (λ d d' w r l.
+        (seen_by D.sizes D.pages D.failures D.history dev.old)
+        (seen_by D.sizes D.pages D.failures D.history dev.new) mem.old (λ d d' w r l.
         HasEmptied d d' mem.old mem.new w r l area notes.old notes.new end)) }
-    ensures same { IsSameDevice (device_by (D.sizes dev.old) (D.pages dev.old) (D.failures dev.old))
-        (device_by (D.sizes dev.new) (D.pages dev.new) (D.failures dev.new)) }
+    ensures same { IsSameDevice (seen_by D.sizes D.pages D.failures D.history dev.old)
+        (seen_by D.sizes D.pages D.failures D.history dev.new) }
     ensures count { frame_count mem.new ≡ frame_count mem.old }
 {
     let mut driver = Driver { mem, dev };

@@ -282,8 +282,8 @@ report_readers =
 -- all commands
 abbrev pub readers : List (List ℕ × CommandReader)
 readers =
-    access_readers ++ process_readers ++ range_readers ++ advice_readers ++ swap_readers ++ frame_readers
-    ++ report_readers
+    access_readers ++ process_readers ++ range_readers ++ advice_readers ++ swap_readers
+    ++ frame_readers ++ report_readers
 
 -- the command of a line that has one of these names
 abbrev pub command_in : List (List ℕ × CommandReader) → CommandReader

@@ -4,8 +4,8 @@ use Rattle.std.proofs.lemmas.List.{length-take-le}
 use Rattle.std.proofs.Math.Seq.{take-add}
 use Rattle.av_step.specs.Step.{IsSteadyFor}
 use Rattle.av_access.proofs.AccessParts.{piece-served, piece-stopped, piece-within, piece-ends}
-use Rattle.av_step.proofs.StepLaws.{same_then}
 use Rattle.av_access.proofs.access.write_pieces.Goals as goal
+use Rattle.av_plain.proofs.Wrote.{device-on}
 
 -- the bytes of a piece behind the first k
 abbrev part : ℕ → ℕ → List ℕ → List ℕ
@@ -47,6 +47,6 @@ loop-done-preserved g c =
           (λ _. length-take-le k bytes c.loop-done.invariant.within) (c.in_ok-stop.ensures.step h.next h.keeps) c.in_default.not-Some
           (take (k + piece.len) bytes) (parts k piece.len bytes);
       steady = subst (λ sizes. IsSteadyFor sizes c.args.process c.write_page.new.mem) c.loop-done.invariant.same.sizes c.in_ok-stop.ensures.steady;
-      same = same_then _ _ _ c.loop-done.invariant.same c.write_page.ensures.same;
+      same = device-on _ _ _ c.loop-done.invariant.same c.write_page.ensures.same;
       count = c.write_page.ensures.count ∙ c.loop-done.invariant.count;
     }

@@ -9,7 +9,7 @@ touch-requires g c = c.requires.steady.0
 
 pub bytes-requires : goal.bytes-requires
 bytes-requires g c =
-    let h = steady-lives (g.D.SwapDev.sizes c.args.dev.now) (g.D.SwapDev.failures c.args.dev.now) c.args.mem.now c.args.process c.requires.steady in
+    let h = steady-lives (g.D.SwapDev.sizes c.args.dev.now) (g.D.SwapDev.failures c.args.dev.now, g.D.SwapDev.history c.args.dev.now) c.args.mem.now c.args.process c.requires.steady in
     frame_below c.touch.new.mem false c.args.process c.args.page c.in-Ready.frame c.args.notes.now c.touch.new.notes
     (rw c.in-Ready.is at ((c.in_ok-frame.ensures.ready false).step h.state h.keeps))
 
@@ -26,9 +26,9 @@ returns-in_ok-append_piece-in-Ready-clause-step g c = λ s keeps.
 
 pub returns-in_ok-append_piece-in-Ready-clause-steady : goal.returns-in_ok-append_piece-in-Ready-clause-steady
 returns-in_ok-append_piece-in-Ready-clause-steady g c =
-    let h = steady-lives (g.D.SwapDev.sizes c.args.dev.now) (g.D.SwapDev.failures c.args.dev.now) c.args.mem.now c.args.process c.requires.steady in
-    page-steady (g.D.SwapDev.sizes c.args.dev.now) (g.D.SwapDev.sizes c.touch.new.dev) (g.D.SwapDev.failures c.args.dev.now)
-    (g.D.SwapDev.failures c.touch.new.dev)
+    let h = steady-lives (g.D.SwapDev.sizes c.args.dev.now) (g.D.SwapDev.failures c.args.dev.now, g.D.SwapDev.history c.args.dev.now) c.args.mem.now c.args.process c.requires.steady in
+    page-steady (g.D.SwapDev.sizes c.args.dev.now) (g.D.SwapDev.sizes c.touch.new.dev) (g.D.SwapDev.failures c.args.dev.now, g.D.SwapDev.history c.args.dev.now)
+    (g.D.SwapDev.failures c.touch.new.dev, g.D.SwapDev.history c.touch.new.dev)
     h.state c.touch.new.mem false c.args.process c.args.page c.args.at [] c.args.notes.now c.touch.new.notes None h.lives
     (frame_shown h.state c.touch.new.mem c.args.process c.args.page c.args.at c.args.len c.args.notes.now c.touch.new.notes c.requires.fits
     (c.touch.ensures.ready false).same
@@ -48,9 +48,9 @@ returns-in_ok-append_zeros-in-Zeros-clause-step g c = λ s keeps.
 
 pub returns-in_ok-append_zeros-in-Zeros-clause-steady : goal.returns-in_ok-append_zeros-in-Zeros-clause-steady
 returns-in_ok-append_zeros-in-Zeros-clause-steady g c =
-    let h = steady-lives (g.D.SwapDev.sizes c.args.dev.now) (g.D.SwapDev.failures c.args.dev.now) c.args.mem.now c.args.process c.requires.steady in
-    page-steady (g.D.SwapDev.sizes c.args.dev.now) (g.D.SwapDev.sizes c.touch.new.dev) (g.D.SwapDev.failures c.args.dev.now)
-    (g.D.SwapDev.failures c.touch.new.dev)
+    let h = steady-lives (g.D.SwapDev.sizes c.args.dev.now) (g.D.SwapDev.failures c.args.dev.now, g.D.SwapDev.history c.args.dev.now) c.args.mem.now c.args.process c.requires.steady in
+    page-steady (g.D.SwapDev.sizes c.args.dev.now) (g.D.SwapDev.sizes c.touch.new.dev) (g.D.SwapDev.failures c.args.dev.now, g.D.SwapDev.history c.args.dev.now)
+    (g.D.SwapDev.failures c.touch.new.dev, g.D.SwapDev.history c.touch.new.dev)
     h.state c.touch.new.mem false c.args.process c.args.page c.args.at [] c.args.notes.now c.touch.new.notes None h.lives
     (zeros_shown h.state c.touch.new.mem c.args.process c.args.page c.args.at c.args.len c.args.notes.now c.touch.new.notes c.requires.fits
     (c.touch.ensures.ready false).same
@@ -68,9 +68,9 @@ returns-in-Stopped-clause-step g c = λ s keeps. record {
 
 pub returns-in-Stopped-clause-steady : goal.returns-in-Stopped-clause-steady
 returns-in-Stopped-clause-steady g c =
-    let h = steady-lives (g.D.SwapDev.sizes c.args.dev.now) (g.D.SwapDev.failures c.args.dev.now) c.args.mem.now c.args.process c.requires.steady in
-    page-steady (g.D.SwapDev.sizes c.args.dev.now) (g.D.SwapDev.sizes c.touch.new.dev) (g.D.SwapDev.failures c.args.dev.now)
-    (g.D.SwapDev.failures c.touch.new.dev)
+    let h = steady-lives (g.D.SwapDev.sizes c.args.dev.now) (g.D.SwapDev.failures c.args.dev.now, g.D.SwapDev.history c.args.dev.now) c.args.mem.now c.args.process c.requires.steady in
+    page-steady (g.D.SwapDev.sizes c.args.dev.now) (g.D.SwapDev.sizes c.touch.new.dev) (g.D.SwapDev.failures c.args.dev.now, g.D.SwapDev.history c.args.dev.now)
+    (g.D.SwapDev.failures c.touch.new.dev, g.D.SwapDev.history c.touch.new.dev)
     h.state c.touch.new.mem false c.args.process c.args.page c.args.at [] c.args.notes.now c.touch.new.notes (Some c.in-Stopped.stop) h.lives
     (stopped h.state c.args.process c.args.page c.args.at [] c.args.notes.now c.touch.new.notes (c.touch.ensures.ready false).same c.touch.new.mem
     false c.in-Stopped.stop (rw c.in-Stopped.is at ((c.in_ok-frame.ensures.ready false).step h.state h.keeps)))

@@ -11,13 +11,13 @@ touch-requires g c = c.requires.steady.0
 
 pub write_at-requires-clause-in_range : goal.write_at-requires-clause-in_range
 write_at-requires-clause-in_range g c =
-    let h = steady-lives (g.D.SwapDev.sizes c.args.dev.now) (g.D.SwapDev.failures c.args.dev.now) c.args.mem.now c.args.process c.requires.steady in
+    let h = steady-lives (g.D.SwapDev.sizes c.args.dev.now) (g.D.SwapDev.failures c.args.dev.now, g.D.SwapDev.history c.args.dev.now) c.args.mem.now c.args.process c.requires.steady in
     frame_below c.touch.new.mem true c.args.process c.args.page c.in-Ready.frame c.args.notes.now c.touch.new.notes
     (rw c.in-Ready.is at ((c.in_ok-frame.ensures.ready false).step h.state h.keeps))
 
 pub unreachable-requires : goal.unreachable-requires
 unreachable-requires g c =
-    let h = steady-lives (g.D.SwapDev.sizes c.args.dev.now) (g.D.SwapDev.failures c.args.dev.now) c.args.mem.now c.args.process c.requires.steady in
+    let h = steady-lives (g.D.SwapDev.sizes c.args.dev.now) (g.D.SwapDev.failures c.args.dev.now, g.D.SwapDev.history c.args.dev.now) c.args.mem.now c.args.process c.requires.steady in
     let t = rw c.in-Zeros.is at ((c.in_ok-frame.ensures.ready false).step h.state h.keeps) in
     false≢true (sym t.ready.1)
 
@@ -39,9 +39,9 @@ returns-in-Ready-clause-step g c = λ s keeps.
 
 pub returns-in-Ready-clause-steady : goal.returns-in-Ready-clause-steady
 returns-in-Ready-clause-steady g c =
-    let h = steady-lives (g.D.SwapDev.sizes c.args.dev.now) (g.D.SwapDev.failures c.args.dev.now) c.args.mem.now c.args.process c.requires.steady in
-    page-steady (g.D.SwapDev.sizes c.args.dev.now) (g.D.SwapDev.sizes c.touch.new.dev) (g.D.SwapDev.failures c.args.dev.now)
-    (g.D.SwapDev.failures c.touch.new.dev)
+    let h = steady-lives (g.D.SwapDev.sizes c.args.dev.now) (g.D.SwapDev.failures c.args.dev.now, g.D.SwapDev.history c.args.dev.now) c.args.mem.now c.args.process c.requires.steady in
+    page-steady (g.D.SwapDev.sizes c.args.dev.now) (g.D.SwapDev.sizes c.touch.new.dev) (g.D.SwapDev.failures c.args.dev.now, g.D.SwapDev.history c.args.dev.now)
+    (g.D.SwapDev.failures c.touch.new.dev, g.D.SwapDev.history c.touch.new.dev)
     h.state _ true c.args.process c.args.page c.args.at c.args.piece.now c.args.notes.now c.touch.new.notes None h.lives
     (written_served h.state c.args.process c.args.page c.args.at c.args.piece.now c.args.notes.now c.touch.new.notes
     (c.touch.ensures.ready false).same
@@ -64,9 +64,9 @@ returns-in-Stopped-clause-step g c = λ s keeps.
 
 pub returns-in-Stopped-clause-steady : goal.returns-in-Stopped-clause-steady
 returns-in-Stopped-clause-steady g c =
-    let h = steady-lives (g.D.SwapDev.sizes c.args.dev.now) (g.D.SwapDev.failures c.args.dev.now) c.args.mem.now c.args.process c.requires.steady in
-    page-steady (g.D.SwapDev.sizes c.args.dev.now) (g.D.SwapDev.sizes c.touch.new.dev) (g.D.SwapDev.failures c.args.dev.now)
-    (g.D.SwapDev.failures c.touch.new.dev)
+    let h = steady-lives (g.D.SwapDev.sizes c.args.dev.now) (g.D.SwapDev.failures c.args.dev.now, g.D.SwapDev.history c.args.dev.now) c.args.mem.now c.args.process c.requires.steady in
+    page-steady (g.D.SwapDev.sizes c.args.dev.now) (g.D.SwapDev.sizes c.touch.new.dev) (g.D.SwapDev.failures c.args.dev.now, g.D.SwapDev.history c.args.dev.now)
+    (g.D.SwapDev.failures c.touch.new.dev, g.D.SwapDev.history c.touch.new.dev)
     h.state c.touch.new.mem true c.args.process c.args.page c.args.at c.args.piece.now c.args.notes.now c.touch.new.notes
     (Some c.in-Stopped.stop) h.lives
     (stopped h.state c.args.process c.args.page c.args.at c.args.piece.now c.args.notes.now c.touch.new.notes (c.touch.ensures.ready false).same

@@ -7,7 +7,8 @@ use Rattle.av_plain.specs.Event.{after_note, note_events}
 use Rattle.av_plain.specs.Ledger.{Ledger, Setting}
 use Rattle.av_plain.specs.Fault.{is_locked}
 use Rattle.av_plain.specs.Load.{after_loads, with_loads}
-use Rattle.av_plain.specs.Pass.{fails}
+use Rattle.av_plain.specs.Device.{Calls, WroteSome}
+use Rattle.av_plain.specs.Pass.{fails, pages_written}
 use Rattle.av_plain.specs.World.{World}
 use Rattle.av_evict.specs.System.{Does}
 use Rattle.av_evict.specs.Witness.{IsStep, TakesNext, only_view, setting_told}
@@ -27,36 +28,44 @@ free_after m closing free l note next = record {
   slots = with_given_back m l (after_note note l) next.slots;
 }
 
+-- what its device tells then of its calls
+abbrev calls_after : Calls → Note → Calls
+calls_after calls note = (calls.0 + fails (note ∷ []), record calls.1 { written = calls.1.written ++ pages_written (note ∷ []) })
+
 -- in one reading
-met : (m : Setting) (closing : Option ℕ) (first : Option (ℕ → List ℕ)) (free : Free) (failures : ℕ) (w : World) (r : Rmap) (l : Ledger)
+met : (m : Setting) (closing : Option ℕ) (first : Option (ℕ → List ℕ)) (free : Free) (calls : Calls) (w : World) (r : Rmap) (l : Ledger)
     (note : Note) →
     (next : TakesNext m closing l free note) →
-    Does (only_view m closing first free failures w r l)
-    (only_view m closing first (free_after m closing free l note next) (failures + fails (note ∷ [])) (with_loads m w l (note_events (note ∷ [])))
+    Does (only_view m closing first free calls w r l)
+    (only_view m closing first (free_after m closing free l note next) (calls_after calls note) (with_loads m w l (note_events (note ∷ [])))
     (rmap_after_all l (note_events (note ∷ [])) r) (after_note note l)) l (note ∷ [])
-met m closing first free failures w r l note next = record {
+met m closing first free calls w r l note next = record {
   stands = refl;
-  stays = record { setting = refl; closing = refl; names = refl; first = refl; never_falls = no-less (fails (note ∷ [])) failures };
+  stays = record { setting = refl; closing = refl; names = refl; first = refl; never_falls = no-less (fails (note ∷ [])) calls.0; history = written };
   chooses = (
     free_after m closing free l note next,
     record { frames = (next.frames, next.first, refl); slots = (free.slots, next.slots, refl, next.slot, refl) },
     refl,
   );
   claims = λ v q is. (ap (λ x. with_loads m x l (note_events (note ∷ []))) is.0, ap (rmap_after_all l (note_events (note ∷ []))) is.1, refl);
-  failures = most (fails (note ∷ [])) failures (2 ^ 64 - 1);
+  failures = most (fails (note ∷ [])) calls.0 (2 ^ 64 - 1);
+  wrote = written.wrote;
 }
+  where
+    written : WroteSome calls.1 (calls_after calls note).1
+    written = record { pages = pages_written (note ∷ []); wrote = record { attached = refl; written = refl }; behind_header = next.behind_header }
 
 -- in both
-met_told : (m : Setting) (closing : Option ℕ) (first : Option (ℕ → List ℕ)) (free : Free) (failures : ℕ) (w : World) (r : Rmap) (l : Ledger)
+met_told : (m : Setting) (closing : Option ℕ) (first : Option (ℕ → List ℕ)) (free : Free) (calls : Calls) (w : World) (r : Rmap) (l : Ledger)
     (note : Note) →
     (next : TakesNext m closing l free note) → (told : Bool) →
-    Does (only_view (setting_told told m) closing (if told then first else None) free failures w r l)
-    (only_view (setting_told told m) closing (if told then first else None) (free_after m closing free l note next) (failures + fails (note ∷ []))
+    Does (only_view (setting_told told m) closing (if told then first else None) free calls w r l)
+    (only_view (setting_told told m) closing (if told then first else None) (free_after m closing free l note next) (calls_after calls note)
     (with_loads (setting_told told m) w l (note_events (note ∷ []))) (rmap_after_all l (note_events (note ∷ [])) r) (after_note note l))
     l (note ∷ [])
-met_told m closing first free failures w r l note next true = met m closing first free failures w r l note next
-met_told m closing first free failures w r l note next false = met (setting_told false m) closing None free failures w r l note
-    (record { frames = next.frames; slots = next.slots; first = next.first; slot = next.slot })
+met_told m closing first free calls w r l note next true = met m closing first free calls w r l note next
+met_told m closing first free calls w r l note next false = met (setting_told false m) closing None free calls w r l note
+    (record { frames = next.frames; slots = next.slots; first = next.first; slot = next.slot; behind_header = next.behind_header })
 
 -- a step loads nothing
 step-world : (m : Setting) (w : World) (l : Ledger) (note : Note) → IsStep w l note → with_loads m w l (note_events (note ∷ [])) ≡ w
@@ -104,12 +113,12 @@ step-locked w l (Joined _ _ _) step = absurd step
 step-locked w l (Moved _ _) step = absurd step
 
 pub returns : goal.returns
-returns c = λ m closing first free failures w r l note next. (
+returns c = λ m closing first free calls w r l note next. (
   free_after m closing free l note next,
-  failures + fails (note ∷ []),
+  calls_after calls note,
   λ told. with_loads (setting_told told m) w l (note_events (note ∷ [])),
   rmap_after_all l (note_events (note ∷ [])) r,
-  λ told. let does = met_told m closing first free failures w r l note next told in (
+  λ told. let does = met_told m closing first free calls w r l note next told in (
     does,
     λ step. record {
       stays = does.stays;

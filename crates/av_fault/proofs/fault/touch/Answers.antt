@@ -1,5 +1,5 @@
 use Rattle.std.proofs.Common.{false, true, subst, sym}
-use Rattle.av_plain.specs.Device.{as_told, device_by}
+use Rattle.av_plain.specs.Device.{as_told, seen_by}
 use Rattle.av_plain.specs.Ledger.{Key}
 use Rattle.av_fault.specs.Fault.{MakesReady}
 use Rattle.av_mem.proofs.HomeLaws.{first-laid}
@@ -13,9 +13,8 @@ home-home-requires-clause-first g c =
 pub returns-then-write : goal.returns-then-write
 returns-then-write g c = record {
   ready = λ told.
-      let d = device_by (g.D.SwapDev.sizes c.args.dev.now) (g.D.SwapDev.pages c.args.dev.now) (g.D.SwapDev.failures c.args.dev.now) in
-      let d1 = device_by (g.D.SwapDev.sizes c.touch_to_write.new.dev) (g.D.SwapDev.pages c.touch_to_write.new.dev)
-      (g.D.SwapDev.failures c.touch_to_write.new.dev) in
+      let d = seen_by g.D.SwapDev.sizes g.D.SwapDev.pages g.D.SwapDev.failures g.D.SwapDev.history c.args.dev.now in
+      let d1 = seen_by g.D.SwapDev.sizes g.D.SwapDev.pages g.D.SwapDev.failures g.D.SwapDev.history c.touch_to_write.new.dev in
       let key : Key = (c.args.process, c.args.page) in
       let done = c.touch_to_write in
       subst (λ b. MakesReady (as_told told d) (as_told told d1) c.args.mem.now done.new.mem b key c.args.notes.now done.new.notes done.result)
@@ -27,9 +26,8 @@ returns-then-write g c = record {
 pub returns-else-write : goal.returns-else-write
 returns-else-write g c = record {
   ready = λ told.
-      let d = device_by (g.D.SwapDev.sizes c.args.dev.now) (g.D.SwapDev.pages c.args.dev.now) (g.D.SwapDev.failures c.args.dev.now) in
-      let d1 = device_by (g.D.SwapDev.sizes c.touch_to_read.new.dev) (g.D.SwapDev.pages c.touch_to_read.new.dev)
-      (g.D.SwapDev.failures c.touch_to_read.new.dev) in
+      let d = seen_by g.D.SwapDev.sizes g.D.SwapDev.pages g.D.SwapDev.failures g.D.SwapDev.history c.args.dev.now in
+      let d1 = seen_by g.D.SwapDev.sizes g.D.SwapDev.pages g.D.SwapDev.failures g.D.SwapDev.history c.touch_to_read.new.dev in
       let key : Key = (c.args.process, c.args.page) in
       let done = c.touch_to_read in
       subst (λ b. MakesReady (as_told told d) (as_told told d1) c.args.mem.now done.new.mem b key c.args.notes.now done.new.notes done.result)

@@ -1,14 +1,14 @@
 use Rattle.std.proofs.Common.{false, sym, ◌∙◌}
 use Rattle.std.proofs.lemmas.Result.{IfOk-weaker}
 use Rattle.av_pagetable.specs.declared.pte.Pte.TheVariants.{Empty}
-use Rattle.av_plain.specs.Device.{as_told, device_by}
+use Rattle.av_plain.specs.Device.{as_told, seen_by}
 use Rattle.av_fault.proofs.CameLaws.{came-does, is-in, stop-does}
 use Rattle.av_fault.proofs.TouchLaws.{allowed-as, made-does, read-touched, zeros-touched}
 use Rattle.av_fault.proofs.fault.touch_to_read.Goals as goal
 
 pub returns-in-Empty-clause-touched : goal.returns-in-Empty-clause-touched
 returns-in-Empty-clause-touched g c =
-    let d = device_by (g.D.SwapDev.sizes c.args.dev.now) (g.D.SwapDev.pages c.args.dev.now) (g.D.SwapDev.failures c.args.dev.now) in
+    let d = seen_by g.D.SwapDev.sizes g.D.SwapDev.pages g.D.SwapDev.failures g.D.SwapDev.history c.args.dev.now in
     made-does d d c.args.mem.now c.make_zero.new.mem false c.args.key c.args.notes.now c.make_zero.new.notes c.make_zero.result Empty
     (sym c.get.ensures ∙ c.in-Empty.is) tt c.requires.permitted
     (IfOk-weaker c.make_zero.result _ _ (λ touched made told. made (as_told told d)) c.make_zero.ensures.made)
@@ -33,7 +33,7 @@ read_in-requires-clause-between g c =
 
 pub returns-in-Ok-clause-touched : goal.returns-in-Ok-clause-touched
 returns-in-Ok-clause-touched g c =
-    let d1 = device_by (g.D.SwapDev.sizes c.come_in.new.dev) (g.D.SwapDev.pages c.come_in.new.dev) (g.D.SwapDev.failures c.come_in.new.dev) in
+    let d1 = seen_by g.D.SwapDev.sizes g.D.SwapDev.pages g.D.SwapDev.failures g.D.SwapDev.history c.come_in.new.dev in
     came-does _ d1 d1 c.args.mem.now c.come_in.new.mem c.read_in.new.mem false c.args.key c.in-Away.slot c.args.notes.now c.come_in.new.notes
     c.read_in.new.notes
     c.in-Ok.frame c.in_ok-frame-in-Away.field-0 c.read_in.result (sym c.get.ensures ∙ c.in-Away.is) c.requires.permitted

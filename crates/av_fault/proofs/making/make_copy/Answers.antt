@@ -1,5 +1,5 @@
 use Rattle.std.proofs.Common.{◌<◌, false, None, Some, refl, sym, subst, ◌∙◌}
-use Rattle.av_plain.specs.Device.{as_told, device_by}
+use Rattle.av_plain.specs.Device.{as_told, device_by, seen_by}
 use Rattle.av_plain.specs.Fault.{CopyOnWrite}
 use Rattle.av_fault.specs.Seek.{HasSought}
 use Rattle.av_fault.specs.declared.seek.Got.TheVariants.{Frame, Out}
@@ -13,8 +13,8 @@ use Rattle.av_fault.proofs.making.make_copy.Goals as goal
 
 pub returns-in-Out-clause-made : goal.returns-in-Out-clause-made
 returns-in-Out-clause-made g c = λ told w r l h came.
-    let d = as_told told (device_by (g.D.SwapDev.sizes c.args.dev.now) (g.D.SwapDev.pages c.args.dev.now) (g.D.SwapDev.failures c.args.dev.now)) in
-    let d' = as_told told (device_by (g.D.SwapDev.sizes c.seek.new.dev) (g.D.SwapDev.pages c.seek.new.dev) (g.D.SwapDev.failures c.seek.new.dev)) in
+    let d = as_told told (seen_by g.D.SwapDev.sizes g.D.SwapDev.pages g.D.SwapDev.failures g.D.SwapDev.history c.args.dev.now) in
+    let d' = as_told told (seen_by g.D.SwapDev.sizes g.D.SwapDev.pages g.D.SwapDev.failures g.D.SwapDev.history c.seek.new.dev) in
     let old = c.args.mem.now in
     let shared = sym (shared-in d old w r l h c.args.from) ∙ c.requires.shared in
     let f = c.args.from in
@@ -27,11 +27,11 @@ returns-in-Out-clause-made g c = λ told w r l h came.
 pub take_frame_for_copy-frame-requires-clause-there : goal.take_frame_for_copy-frame-requires-clause-there
 take_frame_for_copy-frame-requires-clause-there g c =
     let sizes = g.D.SwapDev.sizes c.args.dev.now in
-    let failures = g.D.SwapDev.failures c.args.dev.now in
+    let calls = (g.D.SwapDev.failures c.args.dev.now, g.D.SwapDev.history c.args.dev.now) in
     let old = c.args.mem.now in
-    let d = device_by sizes None failures in
-    let d' = device_by (g.D.SwapDev.sizes c.seek.new.dev) None (g.D.SwapDev.failures c.seek.new.dev) in
-    let b = between-some sizes old failures c.requires.between in
+    let d = device_by sizes None calls in
+    let d' = device_by (g.D.SwapDev.sizes c.seek.new.dev) None (g.D.SwapDev.failures c.seek.new.dev, g.D.SwapDev.history c.seek.new.dev) in
+    let b = between-some sizes old calls c.requires.between in
     let f = c.args.from in
     let s = subst (HasSought d d' old c.seek.new.mem b.0 b.1 b.2 (Some c.args.from) c.args.notes.now c.seek.new.notes) c.in_default.is
     (c.in_ok-out.ensures.sought false b.0 b.1 b.2 b.3) in
@@ -41,11 +41,11 @@ take_frame_for_copy-frame-requires-clause-there g c =
 pub take_frame_for_copy-frame-requires-clause-free : goal.take_frame_for_copy-frame-requires-clause-free
 take_frame_for_copy-frame-requires-clause-free g c =
     let sizes = g.D.SwapDev.sizes c.args.dev.now in
-    let failures = g.D.SwapDev.failures c.args.dev.now in
+    let calls = (g.D.SwapDev.failures c.args.dev.now, g.D.SwapDev.history c.args.dev.now) in
     let old = c.args.mem.now in
-    let d = device_by sizes None failures in
-    let d' = device_by (g.D.SwapDev.sizes c.seek.new.dev) None (g.D.SwapDev.failures c.seek.new.dev) in
-    let b = between-some sizes old failures c.requires.between in
+    let d = device_by sizes None calls in
+    let d' = device_by (g.D.SwapDev.sizes c.seek.new.dev) None (g.D.SwapDev.failures c.seek.new.dev, g.D.SwapDev.history c.seek.new.dev) in
+    let b = between-some sizes old calls c.requires.between in
     let f = c.args.from in
     let s = subst (HasSought d d' old c.seek.new.mem b.0 b.1 b.2 (Some c.args.from) c.args.notes.now c.seek.new.notes) c.in_default.is
     (c.in_ok-out.ensures.sought false b.0 b.1 b.2 b.3) in
@@ -53,27 +53,28 @@ take_frame_for_copy-frame-requires-clause-free g c =
 
 pub take_frame_for_copy-frame-requires-clause-itemed : goal.take_frame_for_copy-frame-requires-clause-itemed
 take_frame_for_copy-frame-requires-clause-itemed g c =
-    let b = between-some (g.D.SwapDev.sizes c.args.dev.now) c.args.mem.now (g.D.SwapDev.failures c.args.dev.now) c.requires.between in
+    let b = between-some (g.D.SwapDev.sizes c.args.dev.now) c.args.mem.now
+    (g.D.SwapDev.failures c.args.dev.now, g.D.SwapDev.history c.args.dev.now) c.requires.between in
     (c.in_ok-out.ensures.sought false b.0 b.1 b.2 b.3).done.between.serves.items
 
 pub take_frame_for_copy-frame-requires-clause-in_range : goal.take_frame_for_copy-frame-requires-clause-in_range
 take_frame_for_copy-frame-requires-clause-in_range g c =
     let sizes = g.D.SwapDev.sizes c.args.dev.now in
-    let failures = g.D.SwapDev.failures c.args.dev.now in
+    let calls = (g.D.SwapDev.failures c.args.dev.now, g.D.SwapDev.history c.args.dev.now) in
     let old = c.args.mem.now in
-    let b = between-some sizes old failures c.requires.between in
+    let b = between-some sizes old calls c.requires.between in
     let here = c.requires.here in
     subst (λ n. c.args.from < n) (sym c.seek.ensures.count)
-    (here-below (device_by sizes None failures) old b.0 b.1 b.2 b.3 c.args.key c.args.from here.write here.seen here.there)
+    (here-below (device_by sizes None calls) old b.0 b.1 b.2 b.3 c.args.key c.args.from here.write here.seen here.there)
 
 pub take_frame_for_copy-frame-requires-clause-mapped : goal.take_frame_for_copy-frame-requires-clause-mapped
 take_frame_for_copy-frame-requires-clause-mapped g c =
     let sizes = g.D.SwapDev.sizes c.args.dev.now in
-    let failures = g.D.SwapDev.failures c.args.dev.now in
+    let calls = (g.D.SwapDev.failures c.args.dev.now, g.D.SwapDev.history c.args.dev.now) in
     let old = c.args.mem.now in
-    let d = device_by sizes None failures in
-    let d' = device_by (g.D.SwapDev.sizes c.seek.new.dev) None (g.D.SwapDev.failures c.seek.new.dev) in
-    let b = between-some sizes old failures c.requires.between in
+    let d = device_by sizes None calls in
+    let d' = device_by (g.D.SwapDev.sizes c.seek.new.dev) None (g.D.SwapDev.failures c.seek.new.dev, g.D.SwapDev.history c.seek.new.dev) in
+    let b = between-some sizes old calls c.requires.between in
     let f = c.args.from in
     let s = subst (HasSought d d' old c.seek.new.mem b.0 b.1 b.2 (Some c.args.from) c.args.notes.now c.seek.new.notes) c.in_default.is
     (c.in_ok-out.ensures.sought false b.0 b.1 b.2 b.3) in
@@ -82,8 +83,8 @@ take_frame_for_copy-frame-requires-clause-mapped g c =
 
 pub returns-clause-made : goal.returns-clause-made
 returns-clause-made g c = λ told w r l h came.
-    let d = as_told told (device_by (g.D.SwapDev.sizes c.args.dev.now) (g.D.SwapDev.pages c.args.dev.now) (g.D.SwapDev.failures c.args.dev.now)) in
-    let d' = as_told told (device_by (g.D.SwapDev.sizes c.seek.new.dev) (g.D.SwapDev.pages c.seek.new.dev) (g.D.SwapDev.failures c.seek.new.dev)) in
+    let d = as_told told (seen_by g.D.SwapDev.sizes g.D.SwapDev.pages g.D.SwapDev.failures g.D.SwapDev.history c.args.dev.now) in
+    let d' = as_told told (seen_by g.D.SwapDev.sizes g.D.SwapDev.pages g.D.SwapDev.failures g.D.SwapDev.history c.seek.new.dev) in
     let old = c.args.mem.now in
     let shared = sym (shared-in d old w r l h c.args.from) ∙ c.requires.shared in
     let f = c.args.from in

@@ -1,5 +1,5 @@
 use Rattle.std.proofs.Common.{false, None, refl, subst}
-use Rattle.av_plain.specs.Device.{as_told, device_by}
+use Rattle.av_plain.specs.Device.{as_told, device_by, seen_by}
 use Rattle.av_plain.specs.Fault.{NewPage}
 use Rattle.av_plain.specs.Ledger.{entry}
 use Rattle.av_pagetable.specs.Entries.{entry_at}
@@ -14,8 +14,8 @@ use Rattle.av_fault.proofs.making.make_new.Goals as goal
 
 pub returns-in-Out-clause-made : goal.returns-in-Out-clause-made
 returns-in-Out-clause-made g c = λ told w r l h.
-    let d = as_told told (device_by (g.D.SwapDev.sizes c.args.dev.now) (g.D.SwapDev.pages c.args.dev.now) (g.D.SwapDev.failures c.args.dev.now)) in
-    let d' = as_told told (device_by (g.D.SwapDev.sizes c.seek.new.dev) (g.D.SwapDev.pages c.seek.new.dev) (g.D.SwapDev.failures c.seek.new.dev)) in
+    let d = as_told told (seen_by g.D.SwapDev.sizes g.D.SwapDev.pages g.D.SwapDev.failures g.D.SwapDev.history c.args.dev.now) in
+    let d' = as_told told (seen_by g.D.SwapDev.sizes g.D.SwapDev.pages g.D.SwapDev.failures g.D.SwapDev.history c.seek.new.dev) in
     let old = c.args.mem.now in
     let key = c.args.key in
     let s = subst (HasSought d d' old c.seek.new.mem w r l None c.args.notes.now c.seek.new.notes) c.in-Out.is
@@ -27,22 +27,22 @@ returns-in-Out-clause-made g c = λ told w r l h.
 pub prepare-requires-clause-order : goal.prepare-requires-clause-order
 prepare-requires-clause-order g c =
     let sizes = g.D.SwapDev.sizes c.args.dev.now in
-    let failures = g.D.SwapDev.failures c.args.dev.now in
+    let calls = (g.D.SwapDev.failures c.args.dev.now, g.D.SwapDev.history c.args.dev.now) in
     let old = c.args.mem.now in
-    let d = device_by sizes None failures in
-    let d' = device_by (g.D.SwapDev.sizes c.seek.new.dev) None (g.D.SwapDev.failures c.seek.new.dev) in
-    let b = between-some sizes old failures c.requires.between in
+    let d = device_by sizes None calls in
+    let d' = device_by (g.D.SwapDev.sizes c.seek.new.dev) None (g.D.SwapDev.failures c.seek.new.dev, g.D.SwapDev.history c.seek.new.dev) in
+    let b = between-some sizes old calls c.requires.between in
     let s = c.in_ok-out.ensures.sought false b.0 b.1 b.2 b.3 in
     s.done.between.serves.fit.order
 
 pub prepare-requires-clause-lives : goal.prepare-requires-clause-lives
 prepare-requires-clause-lives g c =
     let sizes = g.D.SwapDev.sizes c.args.dev.now in
-    let failures = g.D.SwapDev.failures c.args.dev.now in
+    let calls = (g.D.SwapDev.failures c.args.dev.now, g.D.SwapDev.history c.args.dev.now) in
     let old = c.args.mem.now in
-    let d = device_by sizes None failures in
-    let d' = device_by (g.D.SwapDev.sizes c.seek.new.dev) None (g.D.SwapDev.failures c.seek.new.dev) in
-    let b = between-some sizes old failures c.requires.between in
+    let d = device_by sizes None calls in
+    let d' = device_by (g.D.SwapDev.sizes c.seek.new.dev) None (g.D.SwapDev.failures c.seek.new.dev, g.D.SwapDev.history c.seek.new.dev) in
+    let b = between-some sizes old calls c.requires.between in
     let s = subst (HasSought d d' old c.seek.new.mem b.0 b.1 b.2 None c.args.notes.now c.seek.new.notes) c.in_default.is
     (c.in_ok-out.ensures.sought false b.0 b.1 b.2 b.3) in
     lives-sought d d' old c.seek.new.mem b.0 b.1 b.2 None c.args.notes.now c.seek.new.notes Frame b.3 s c.args.key c.requires.mapped
@@ -50,11 +50,11 @@ prepare-requires-clause-lives g c =
 pub take_frame_of_zeros-requires-clause-table : goal.take_frame_of_zeros-requires-clause-table
 take_frame_of_zeros-requires-clause-table g c =
     let sizes = g.D.SwapDev.sizes c.args.dev.now in
-    let failures = g.D.SwapDev.failures c.args.dev.now in
+    let calls = (g.D.SwapDev.failures c.args.dev.now, g.D.SwapDev.history c.args.dev.now) in
     let old = c.args.mem.now in
-    let d = device_by sizes None failures in
-    let d' = device_by (g.D.SwapDev.sizes c.seek.new.dev) None (g.D.SwapDev.failures c.seek.new.dev) in
-    let b = between-some sizes old failures c.requires.between in
+    let d = device_by sizes None calls in
+    let d' = device_by (g.D.SwapDev.sizes c.seek.new.dev) None (g.D.SwapDev.failures c.seek.new.dev, g.D.SwapDev.history c.seek.new.dev) in
+    let b = between-some sizes old calls c.requires.between in
     let s = subst (HasSought d d' old c.seek.new.mem b.0 b.1 b.2 None c.args.notes.now c.seek.new.notes) c.in_default.is
     (c.in_ok-out.ensures.sought false b.0 b.1 b.2 b.3) in
     (mapped-sought d d' old c.seek.new.mem b.0 b.1 b.2 None c.args.notes.now c.seek.new.notes Frame b.3 s c.args.key c.requires.mapped).table
@@ -62,11 +62,11 @@ take_frame_of_zeros-requires-clause-table g c =
 pub take_frame_of_zeros-requires-clause-free : goal.take_frame_of_zeros-requires-clause-free
 take_frame_of_zeros-requires-clause-free g c =
     let sizes = g.D.SwapDev.sizes c.args.dev.now in
-    let failures = g.D.SwapDev.failures c.args.dev.now in
+    let calls = (g.D.SwapDev.failures c.args.dev.now, g.D.SwapDev.history c.args.dev.now) in
     let old = c.args.mem.now in
-    let d = device_by sizes None failures in
-    let d' = device_by (g.D.SwapDev.sizes c.seek.new.dev) None (g.D.SwapDev.failures c.seek.new.dev) in
-    let b = between-some sizes old failures c.requires.between in
+    let d = device_by sizes None calls in
+    let d' = device_by (g.D.SwapDev.sizes c.seek.new.dev) None (g.D.SwapDev.failures c.seek.new.dev, g.D.SwapDev.history c.seek.new.dev) in
+    let b = between-some sizes old calls c.requires.between in
     let s = subst (HasSought d d' old c.seek.new.mem b.0 b.1 b.2 None c.args.notes.now c.seek.new.notes) c.in_default.is
     (c.in_ok-out.ensures.sought false b.0 b.1 b.2 b.3) in
     free-taken d d' old c.seek.new.mem c.seek.new.mem b.0 b.1 b.2 c.args.notes.now c.seek.new.notes c.seek.new.notes c.args.key 0 b.3 s
@@ -74,8 +74,8 @@ take_frame_of_zeros-requires-clause-free g c =
 
 pub returns-clause-made : goal.returns-clause-made
 returns-clause-made g c = λ told w r l h.
-    let d = as_told told (device_by (g.D.SwapDev.sizes c.args.dev.now) (g.D.SwapDev.pages c.args.dev.now) (g.D.SwapDev.failures c.args.dev.now)) in
-    let d' = as_told told (device_by (g.D.SwapDev.sizes c.seek.new.dev) (g.D.SwapDev.pages c.seek.new.dev) (g.D.SwapDev.failures c.seek.new.dev)) in
+    let d = as_told told (seen_by g.D.SwapDev.sizes g.D.SwapDev.pages g.D.SwapDev.failures g.D.SwapDev.history c.args.dev.now) in
+    let d' = as_told told (seen_by g.D.SwapDev.sizes g.D.SwapDev.pages g.D.SwapDev.failures g.D.SwapDev.history c.seek.new.dev) in
     let old = c.args.mem.now in
     let key = c.args.key in
     let s = subst (HasSought d d' old c.seek.new.mem w r l None c.args.notes.now c.seek.new.notes) c.in_default.is

@@ -1,6 +1,6 @@
 use Rattle.std.proofs.Common.{◌≡◌, ◌<◌, false, true, None, is_some, refl, sym, ap, subst, ◌∙◌}
 use Rattle.av_plain.specs.Areas.{rmap_after_all}
-use Rattle.av_plain.specs.Device.{as_told, device_by}
+use Rattle.av_plain.specs.Device.{as_told, device_by, seen_by}
 use Rattle.av_plain.specs.Event.{after_all, after_notes, note_events}
 use Rattle.av_plain.specs.Fault.{asks_copy}
 use Rattle.av_plain.specs.Ledger.{slot_of}
@@ -17,26 +17,27 @@ use Rattle.av_fault.proofs.using.write_frame.Goals.{else-not-settled-via-then-no
 
 pub asks_copy-requires-clause-itemed : goal.asks_copy-requires-clause-itemed
 asks_copy-requires-clause-itemed g c =
-    let b = between-some (g.D.SwapDev.sizes c.args.dev.now) c.args.mem.now (g.D.SwapDev.failures c.args.dev.now) c.requires.between in
+    let b = between-some (g.D.SwapDev.sizes c.args.dev.now) c.args.mem.now
+    (g.D.SwapDev.failures c.args.dev.now, g.D.SwapDev.history c.args.dev.now) c.requires.between in
     b.3.serves.items
 
 pub asks_copy-requires-clause-in_range : goal.asks_copy-requires-clause-in_range
 asks_copy-requires-clause-in_range g c =
     let sizes = g.D.SwapDev.sizes c.args.dev.now in
-    let failures = g.D.SwapDev.failures c.args.dev.now in
+    let calls = (g.D.SwapDev.failures c.args.dev.now, g.D.SwapDev.history c.args.dev.now) in
     let old = c.args.mem.now in
-    let d = device_by sizes None failures in
-    let b = between-some sizes old failures c.requires.between in
+    let d = device_by sizes None calls in
+    let b = between-some sizes old calls c.requires.between in
     let here = c.requires.here in
     here-below d old b.0 b.1 b.2 b.3 c.args.key c.args.frame here.write here.seen here.there
 
 pub drop_unneeded-requires-clause-in_use : goal.drop_unneeded-requires-clause-in_use
 drop_unneeded-requires-clause-in_use g c =
     let sizes = g.D.SwapDev.sizes c.args.dev.now in
-    let failures = g.D.SwapDev.failures c.args.dev.now in
+    let calls = (g.D.SwapDev.failures c.args.dev.now, g.D.SwapDev.history c.args.dev.now) in
     let old = c.args.mem.now in
-    let d = device_by sizes None failures in
-    let b = between-some sizes old failures c.requires.between in
+    let d = device_by sizes None calls in
+    let b = between-some sizes old calls c.requires.between in
     let here = c.requires.here in
     here-maps d old b.0 b.1 b.2 b.3 c.args.key c.args.frame here.write here.seen here.there
 
@@ -53,10 +54,10 @@ write_own-requires-clause-here g c =
 pub write_own-requires-clause-in_range : goal.write_own-requires-clause-in_range
 write_own-requires-clause-in_range g c =
     let sizes = g.D.SwapDev.sizes c.args.dev.now in
-    let failures = g.D.SwapDev.failures c.args.dev.now in
+    let calls = (g.D.SwapDev.failures c.args.dev.now, g.D.SwapDev.history c.args.dev.now) in
     let old = c.args.mem.now in
-    let d = device_by sizes None failures in
-    let b = between-some sizes old failures c.requires.between in
+    let d = device_by sizes None calls in
+    let b = between-some sizes old calls c.requires.between in
     let here = c.requires.here in
     subst (λ n. c.args.frame < n) (sym c.drop_unneeded.ensures.parts.count)
     (here-below d old b.0 b.1 b.2 b.3 c.args.key c.args.frame here.write here.seen here.there)
@@ -65,7 +66,7 @@ pub returns-clause-made : goal.returns-clause-made
 returns-clause-made g c = λ told w r l h came.
     let old = c.args.mem.now in
     let mid = c.drop_unneeded.new.mem in
-    let d = as_told told (device_by (g.D.SwapDev.sizes c.args.dev.now) (g.D.SwapDev.pages c.args.dev.now) (g.D.SwapDev.failures c.args.dev.now)) in
+    let d = as_told told (seen_by g.D.SwapDev.sizes g.D.SwapDev.pages g.D.SwapDev.failures g.D.SwapDev.history c.args.dev.now) in
     let m = setting_by d old in
     let here = c.requires.here in
     let f = c.args.frame in

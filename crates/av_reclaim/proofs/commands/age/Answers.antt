@@ -1,14 +1,14 @@
 use Rattle.std.proofs.Common.{None, [], ap, map, refl, rules, true, ◌≡◌}
 use Rattle.av_trace.specs.declared.note.Note.TheVariants.{Aged}
 use Rattle.av_trace.specs.declared.reply.Answer.TheVariants.{Done}
-use Rattle.av_plain.specs.Device.{device_by}
+use Rattle.av_plain.specs.Device.{seen_by}
 use Rattle.av_plain.specs.Event.{note_events}
 use Rattle.av_plain.specs.Reclaim.{Ages, from_tail}
 use Rattle.av_reclaim.proofs.CommandLaws.{added, count-lent, is-at, same-lent}
 use Rattle.av_reclaim.proofs.commands.age.Goals as goal
 
 pub age-requires : goal.age-requires
-age-requires g c = is-at [] (device_by (g.D.SwapDev.sizes c.args.dev.now) (g.D.SwapDev.pages c.args.dev.now) (g.D.SwapDev.failures c.args.dev.now))
+age-requires g c = is-at [] (seen_by g.D.SwapDev.sizes g.D.SwapDev.pages g.D.SwapDev.failures g.D.SwapDev.history c.args.dev.now)
     c.args.mem.now c.requires
 
 pub returns-clause-ages : goal.returns-clause-ages

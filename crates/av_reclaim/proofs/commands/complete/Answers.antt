@@ -1,7 +1,7 @@
 use Rattle.std.proofs.Common.{None, [], refl, rules, true}
 use Rattle.std.specs.Prelude.{take}
 use Rattle.av_trace.specs.declared.reply.Answer.TheVariants.{Done}
-use Rattle.av_plain.specs.Device.{device_by}
+use Rattle.av_plain.specs.Device.{seen_by}
 use Rattle.av_plain.specs.Event.{note_events}
 use Rattle.av_plain.specs.Pass.{Completes}
 use Rattle.av_plain.specs.Reclaim.{CompletesFirst}
@@ -10,7 +10,7 @@ use Rattle.av_reclaim.proofs.commands.complete.Goals as goal
 
 pub complete-requires : goal.complete-requires
 complete-requires g c =
-    is-at [] (device_by (g.D.SwapDev.sizes c.args.dev.now) (g.D.SwapDev.pages c.args.dev.now) (g.D.SwapDev.failures c.args.dev.now))
+    is-at [] (seen_by g.D.SwapDev.sizes g.D.SwapDev.pages g.D.SwapDev.failures g.D.SwapDev.history c.args.dev.now)
     c.args.mem.now c.requires
 
 pub returns-clause-completes : goal.returns-clause-completes

@@ -1,6 +1,6 @@
 use Rattle.std.proofs.Common.{None, [], refl, rules, true}
 use Rattle.av_trace.specs.declared.reply.Answer.TheVariants.{Done}
-use Rattle.av_plain.specs.Device.{as_told, device_by}
+use Rattle.av_plain.specs.Device.{as_told, seen_by}
 use Rattle.av_plain.specs.Event.{note_events}
 use Rattle.av_plain.specs.Reclaim.{Outcomes, Reclaims, from_tail}
 use Rattle.av_mem.specs.Mem.{setting_by}
@@ -9,13 +9,12 @@ use Rattle.av_reclaim.proofs.commands.reclaim.Goals as goal
 
 pub reclaim-requires : goal.reclaim-requires
 reclaim-requires g c =
-    is-at [] (device_by (g.D.SwapDev.sizes c.args.dev.now) (g.D.SwapDev.pages c.args.dev.now) (g.D.SwapDev.failures c.args.dev.now))
+    is-at [] (seen_by g.D.SwapDev.sizes g.D.SwapDev.pages g.D.SwapDev.failures g.D.SwapDev.history c.args.dev.now)
     c.args.mem.now c.requires
 
 pub returns-clause-reclaims : goal.returns-clause-reclaims
 returns-clause-reclaims g c = λ told. added _ _ _ _ _ _ _ _ _ _ None
-    (λ spared l notes. Outcomes (setting_by (as_told told (device_by (g.D.SwapDev.sizes c.args.dev.now) (g.D.SwapDev.pages c.args.dev.now)
-    (g.D.SwapDev.failures c.args.dev.now))) c.args.mem.now) spared l (from_tail c.args.count l.inactive) notes)
+    (λ spared l notes. Outcomes (setting_by (as_told told (seen_by g.D.SwapDev.sizes g.D.SwapDev.pages g.D.SwapDev.failures g.D.SwapDev.history c.args.dev.now)) c.args.mem.now) spared l (from_tail c.args.count l.inactive) notes)
     (λ m w l added. Reclaims m w l c.args.count (note_events added) Done [])
     (λ w l notes asked. (notes, asked, refl, refl, refl)) (c.in_ok-reclaim.ensures.gives told) (λ e. (search rules, search rules))
 

@@ -1,5 +1,5 @@
 use Rattle.std.proofs.Common.{[], rules, true}
-use Rattle.av_plain.specs.Device.{as_told, device_by}
+use Rattle.av_plain.specs.Device.{as_told, seen_by}
 use Rattle.av_plain.specs.Fault.{sparing}
 use Rattle.av_plain.specs.Pass.{Seeks}
 use Rattle.av_evict.specs.Pass.{IsEnd}
@@ -8,13 +8,12 @@ use Rattle.av_reclaim.proofs.CommandLaws.{added, count-lent, is-at, next-lent, s
 use Rattle.av_reclaim.proofs.commands.seek.Goals as goal
 
 pub seek-requires : goal.seek-requires
-seek-requires g c = is-at [] (device_by (g.D.SwapDev.sizes c.args.dev.now) (g.D.SwapDev.pages c.args.dev.now) (g.D.SwapDev.failures c.args.dev.now))
+seek-requires g c = is-at [] (seen_by g.D.SwapDev.sizes g.D.SwapDev.pages g.D.SwapDev.failures g.D.SwapDev.history c.args.dev.now)
     c.args.mem.now c.requires
 
 pub returns-clause-seeks : goal.returns-clause-seeks
 returns-clause-seeks g c = λ told.
-    let m = setting_by (as_told told (device_by (g.D.SwapDev.sizes c.args.dev.now) (g.D.SwapDev.pages c.args.dev.now)
-    (g.D.SwapDev.failures c.args.dev.now))) c.args.mem.now in
+    let m = setting_by (as_told told (seen_by g.D.SwapDev.sizes g.D.SwapDev.pages g.D.SwapDev.failures g.D.SwapDev.history c.args.dev.now)) c.args.mem.now in
     added _ _ _ _ _ _ _ _ _ _ c.args.pinned
     (λ spared l notes. Seeks m spared l notes × IsEnd m spared c.in_ok-end.end l notes)
     (λ m w l added. Seeks m (sparing w l c.args.pinned) l added × IsEnd m (sparing w l c.args.pinned) c.in_ok-end.end l added)

@@ -1,6 +1,6 @@
 use Rattle.std.proofs.Common.{◌≡◌, [], ◌∷◌, ◌++◌, length, length-append, sym, ap, subst, ◌∙◌, arith}
 use Rattle.std.specs.Prelude.{if◌then◌else◌}
-use Rattle.av_step.specs.Step.{seen_by}
+use Rattle.av_plain.specs.Device.{seen_by}
 use Rattle.av_replay.specs.Attach.{Attaches}
 use Rattle.av_replay.proofs.Attached.{attached_more}
 use Rattle.av_replay.proofs.attach.attach_all.Goals as goal
@@ -16,8 +16,8 @@ returns-then-is_err-clause-wanting g c = λ wanting. (
 
 pub loop-area-preserved : goal.loop-area-preserved
 loop-area-preserved g c =
-    let old = seen_by g.D.SwapDev.sizes g.D.SwapDev.pages g.D.SwapDev.failures c.args.dev.now in
-    let new = seen_by g.D.SwapDev.sizes g.D.SwapDev.pages g.D.SwapDev.failures c.attach.new.self in
+    let old = seen_by g.D.SwapDev.sizes g.D.SwapDev.pages g.D.SwapDev.failures g.D.SwapDev.history c.args.dev.now in
+    let new = seen_by g.D.SwapDev.sizes g.D.SwapDev.pages g.D.SwapDev.failures g.D.SwapDev.history c.attach.new.self in
     let items : c.push.new.self.items ≡ c.loop-area.pages.items ++ c.in_ok-size.size ∷ [] = c.push.ensures.items
     ∙ ap (λ b. if b then c.loop-area.pages.items ++ c.in_ok-size.size ∷ [] else c.loop-area.pages.items) c.if-is_err.ensures.negation in
     record {

@@ -1,5 +1,5 @@
 use Rattle.std.proofs.Common.{Err, ap, refl}
-use Rattle.av_step.specs.Step.{seen_by}
+use Rattle.av_plain.specs.Device.{seen_by}
 use Rattle.av_replay.proofs.Endings.{nothing_done}
 use Rattle.av_replay.proofs.over.run_over.Goals as goal
 
@@ -11,7 +11,9 @@ returns-in-Err-Memory-clause-replayed g c = λ other.
       pages = some.0;
       few = some.1;
       all = λ not. absurd (not refl);
-      attached = seen_by g.D.SwapDev.sizes g.D.SwapDev.pages g.D.SwapDev.failures c.attach_all.new.dev;
+      attached = seen_by g.D.SwapDev.sizes g.D.SwapDev.pages g.D.SwapDev.failures g.D.SwapDev.history c.attach_all.new.dev;
       attaches = some.2;
+      failed = some.3;
+      tries = some.4;
       does = nothing_done c.args.frames _;
     }

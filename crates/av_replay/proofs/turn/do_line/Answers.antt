@@ -20,6 +20,7 @@ returns-clause-ok g c =
             said = rw (append-nil, c.in_ok-reply_text.ensures, c.clear.ensures) refl;
             stands = steps.stands;
             failures = let within = steps.failures in omega (arith, within);
+            asked = rw append-nil steps.wrote;
             counts = record {
               steps = counted.steps;
               tally = counted.tally;

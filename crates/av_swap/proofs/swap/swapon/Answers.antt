@@ -5,7 +5,7 @@ use Rattle.std.proofs.lemmas.Option.{slice_get_within}
 use Rattle.av_swapcache.specs.Calls.{Answers}
 use Rattle.av_swapcache.specs.Swap.{shown as shown_swap}
 use Rattle.av_trace.specs.declared.command.Command.TheVariants.{Swapon}
-use Rattle.av_plain.specs.Device.{device_by}
+use Rattle.av_plain.specs.Device.{seen_by}
 use Rattle.av_step.specs.Step.{Does}
 use Rattle.av_swap.specs.Swap.{on_answer}
 use Rattle.av_step.proofs.StepLaws.{only_answer}
@@ -36,13 +36,13 @@ returns g c =
     let fits : to_z w32 (of_z w32 c.priority_of.result) ≡ c.priority_of.result = omega (arith, ints) in
     let answers = subst (λ priority. Answers (dev.pages old) c.args.area c.in_ok-pages.pages priority c.in_ok-came.came
     (shown_swap k.swap) (shown_swap c.swapon.new.self)) (fits ∙ c.priority_of.ensures) did.answers in
-    subst (λ reply. Does (device_by (dev.sizes old) (dev.pages old) (dev.failures old))
-    (device_by (dev.sizes new) (dev.pages new) (dev.failures new)) k later
+    subst (λ reply. Does (seen_by dev.sizes dev.pages dev.failures dev.history old)
+    (seen_by dev.sizes dev.pages dev.failures dev.history new) k later
     (Swapon c.args.area c.args.priority) (Ok reply)) (sym (c.answer_with.ensures
     ∙ ap (λ a. record c.args.reply.now { answer = a }) c.on_answer.ensures
     ∙ only_answer c.args.reply.now (on_answer c.in_ok-came.came) c.requires.cleared))
-    (swapon-does (dev.sizes old) (dev.sizes new) (dev.pages old) (dev.pages new) (dev.failures old) (dev.failures new) did.same_sizes did.same_pages
-    did.never_falls
+    (swapon-does (dev.sizes old) (dev.sizes new) (dev.pages old) (dev.pages new) (dev.failures old, dev.history old)
+    (dev.failures new, dev.history new) did.same_sizes did.same_pages did.never_falls did.asked
     k c.swapon.new.self c.args.area c.in_ok-pages.pages c.args.priority
     (ap (λ sizes. sizes c.args.area) c.requires.attached ∙ c.in_ok-pages.ensures.1) c.in_ok-pages.ensures.0
     c.in_ok-came.came answers (λ e. did.cause (ap Ok e)) (λ other. did.unfailed (λ e. other (one_ok _ _ _ refl e))))

@@ -1,13 +1,15 @@
 use Rattle.std.proofs.Common.{◌≡◌, ◌+◌, ◌<◌, ◌^◌, sym, subst, arith}
-use Rattle.av_plain.specs.Device.{setting_of}
+use Rattle.av_plain.specs.Device.{setting_of, seen_by}
 use Rattle.av_plain.specs.Transcript.{IsStep}
 use Rattle.av_mem.specs.Mem.{Keeps}
 use Rattle.av_kernel.specs.Machine.{Machine}
-use Rattle.av_step.specs.Step.{seen_by, sizes_of}
+use Rattle.av_step.specs.Step.{sizes_of}
 use Rattle.av_mem.specs.Mem.{IsSteadyAt}
 use Rattle.av_kernel.specs.Tally.{IsAtMost}
 use Rattle.av_kernel.proofs.TallyCounts.{counted-few, few-enough}
 use Rattle.av_kernel.proofs.kernel.Kernel.answer.Goals as goal
+use Rattle.av_plain.proofs.Faultless.{unused-writes}
+use Rattle.av_plain.proofs.Wrote.{wrote-nothing}
 
 pub count-requires : goal.count-requires
 count-requires g c = few-enough c.self.inside.tally c.self.inside.steps (2 ^ 24)
@@ -30,7 +32,7 @@ invariant_of-self g c =
 
 pub returns-in-Ok-clause-stands : goal.returns-in-Ok-clause-stands
 returns-in-Ok-clause-stands g c = λ s stands.
-    let d = seen_by g.D.SwapDev.sizes g.D.SwapDev.pages g.D.SwapDev.failures c.args.dev.now in
+    let d = seen_by g.D.SwapDev.sizes g.D.SwapDev.pages g.D.SwapDev.failures g.D.SwapDev.history c.args.dev.now in
     let keeps = subst (λ (k : Machine). Keeps d k.mem s) (sym c.self.view_is) stands in
     let after = c.in-Ok.ensures.step s keeps in
     record {
@@ -38,5 +40,8 @@ returns-in-Ok-clause-stands g c = λ s stands.
       step = subst (λ (k : Machine). IsStep (setting_of k.frames d) s c.args.command.now c.perform.new.reply after.next) c.self.view_is after.step;
       same = after.same;
       stands = after.keeps;
+      wrote = after.wrote;
+      unused = λ unused. wrote-nothing d.history _ _
+          (unused-writes _ s.world s.ledger c.args.command.now c.perform.new.reply after.step.events unused after.step.legal) after.wrote;
       failures = after.failures;
     }

@@ -1,5 +1,5 @@
 use Rattle.std.proofs.Common.{None, Some, [], ap}
-use Rattle.av_plain.specs.Device.{device_by}
+use Rattle.av_plain.specs.Device.{seen_by}
 use Rattle.av_reclaim.proofs.FinishMakes.{finish-told, first-told}
 use Rattle.av_reclaim.proofs.LeavesMakes.{finish-leaves}
 use Rattle.av_reclaim.proofs.driver.DriverSystem.finish.Goals as goal
@@ -8,16 +8,16 @@ pub returns-in_err-finished-clause-first : goal.returns-in_err-finished-clause-f
 returns-in_err-finished-clause-first g c =
     let dev = c.args.self.now.dev.now in
     let dev' = c.finish.new.dev in
-    let d = device_by (g.D.SwapDev.sizes dev) (g.D.SwapDev.pages dev) (g.D.SwapDev.failures dev) in
-    let d' = device_by (g.D.SwapDev.sizes dev') (g.D.SwapDev.pages dev') (g.D.SwapDev.failures dev') in
+    let d = seen_by g.D.SwapDev.sizes g.D.SwapDev.pages g.D.SwapDev.failures g.D.SwapDev.history dev in
+    let d' = seen_by g.D.SwapDev.sizes g.D.SwapDev.pages g.D.SwapDev.failures g.D.SwapDev.history dev' in
     first-told [] d d' c.args.self.now.mem.now c.finish.new.self None _ c.from_residual.ensures c.in_err-finished.ensures.ends
 
 pub returns-in_err-finished-clause-ends : goal.returns-in_err-finished-clause-ends
 returns-in_err-finished-clause-ends g c =
     let dev = c.args.self.now.dev.now in
     let dev' = c.finish.new.dev in
-    let d = device_by (g.D.SwapDev.sizes dev) (g.D.SwapDev.pages dev) (g.D.SwapDev.failures dev) in
-    let d' = device_by (g.D.SwapDev.sizes dev') (g.D.SwapDev.pages dev') (g.D.SwapDev.failures dev') in
+    let d = seen_by g.D.SwapDev.sizes g.D.SwapDev.pages g.D.SwapDev.failures g.D.SwapDev.history dev in
+    let d' = seen_by g.D.SwapDev.sizes g.D.SwapDev.pages g.D.SwapDev.failures g.D.SwapDev.history dev' in
     finish-told _ d d' c.args.self.now.mem.now c.finish.new.self None _ c.from_residual.ensures c.in_err-finished.ensures.same_sizes
     c.in_err-finished.ensures.never_falls c.in_err-finished.ensures.parts c.in_err-finished.ensures.ends
 
@@ -25,8 +25,8 @@ pub returns-clause-first : goal.returns-clause-first
 returns-clause-first g c =
     let dev = c.args.self.now.dev.now in
     let dev' = c.finish.new.dev in
-    let d = device_by (g.D.SwapDev.sizes dev) (g.D.SwapDev.pages dev) (g.D.SwapDev.failures dev) in
-    let d' = device_by (g.D.SwapDev.sizes dev') (g.D.SwapDev.pages dev') (g.D.SwapDev.failures dev') in
+    let d = seen_by g.D.SwapDev.sizes g.D.SwapDev.pages g.D.SwapDev.failures g.D.SwapDev.history dev in
+    let d' = seen_by g.D.SwapDev.sizes g.D.SwapDev.pages g.D.SwapDev.failures g.D.SwapDev.history dev' in
     first-told [] d d' c.args.self.now.mem.now c.finish.new.self (Some c.in_ok-finished.finished) _ (ap (λ e. Some e) c.end_of.ensures)
     c.in_ok-finished.ensures.ends
 
@@ -34,8 +34,8 @@ pub returns-clause-ends : goal.returns-clause-ends
 returns-clause-ends g c =
     let dev = c.args.self.now.dev.now in
     let dev' = c.finish.new.dev in
-    let d = device_by (g.D.SwapDev.sizes dev) (g.D.SwapDev.pages dev) (g.D.SwapDev.failures dev) in
-    let d' = device_by (g.D.SwapDev.sizes dev') (g.D.SwapDev.pages dev') (g.D.SwapDev.failures dev') in
+    let d = seen_by g.D.SwapDev.sizes g.D.SwapDev.pages g.D.SwapDev.failures g.D.SwapDev.history dev in
+    let d' = seen_by g.D.SwapDev.sizes g.D.SwapDev.pages g.D.SwapDev.failures g.D.SwapDev.history dev' in
     finish-told _ d d' c.args.self.now.mem.now c.finish.new.self (Some c.in_ok-finished.finished) _ (ap (λ e. Some e) c.end_of.ensures)
     c.in_ok-finished.ensures.same_sizes c.in_ok-finished.ensures.never_falls c.in_ok-finished.ensures.parts c.in_ok-finished.ensures.ends
 
@@ -43,8 +43,8 @@ pub returns-in_err-finished-clause-stays : goal.returns-in_err-finished-clause-s
 returns-in_err-finished-clause-stays g c =
     let dev = c.args.self.now.dev.now in
     let dev' = c.finish.new.dev in
-    let d = device_by (g.D.SwapDev.sizes dev) (g.D.SwapDev.pages dev) (g.D.SwapDev.failures dev) in
-    let d' = device_by (g.D.SwapDev.sizes dev') (g.D.SwapDev.pages dev') (g.D.SwapDev.failures dev') in
+    let d = seen_by g.D.SwapDev.sizes g.D.SwapDev.pages g.D.SwapDev.failures g.D.SwapDev.history dev in
+    let d' = seen_by g.D.SwapDev.sizes g.D.SwapDev.pages g.D.SwapDev.failures g.D.SwapDev.history dev' in
     finish-leaves _ d d' c.args.self.now.mem.now c.finish.new.self None _ c.from_residual.ensures c.in_err-finished.ensures.same_sizes
     c.in_err-finished.ensures.never_falls c.in_err-finished.ensures.parts c.in_err-finished.ensures.ends c.requires
 
@@ -52,7 +52,7 @@ pub returns-clause-stays : goal.returns-clause-stays
 returns-clause-stays g c =
     let dev = c.args.self.now.dev.now in
     let dev' = c.finish.new.dev in
-    let d = device_by (g.D.SwapDev.sizes dev) (g.D.SwapDev.pages dev) (g.D.SwapDev.failures dev) in
-    let d' = device_by (g.D.SwapDev.sizes dev') (g.D.SwapDev.pages dev') (g.D.SwapDev.failures dev') in
+    let d = seen_by g.D.SwapDev.sizes g.D.SwapDev.pages g.D.SwapDev.failures g.D.SwapDev.history dev in
+    let d' = seen_by g.D.SwapDev.sizes g.D.SwapDev.pages g.D.SwapDev.failures g.D.SwapDev.history dev' in
     finish-leaves _ d d' c.args.self.now.mem.now c.finish.new.self (Some c.in_ok-finished.finished) _ (ap (λ e. Some e) c.end_of.ensures)
     c.in_ok-finished.ensures.same_sizes c.in_ok-finished.ensures.never_falls c.in_ok-finished.ensures.parts c.in_ok-finished.ensures.ends c.requires

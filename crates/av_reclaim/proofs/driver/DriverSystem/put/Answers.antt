@@ -1,5 +1,5 @@
 use Rattle.std.proofs.Common.{[]}
-use Rattle.av_plain.specs.Device.{as_told, device_by}
+use Rattle.av_plain.specs.Device.{as_told, seen_by}
 use Rattle.av_reclaim.proofs.PutMakes.{put-makes, put-slot}
 use Rattle.av_reclaim.proofs.LeavesMakes.{mem-leaves, put-left}
 use Rattle.av_reclaim.proofs.StepMakes.{put-uncached}
@@ -10,7 +10,7 @@ put-requires-clause-uncached g c = put-uncached _ _ _ _ _ _ c.args.frame c.requi
 
 pub returns-clause-slot : goal.returns-clause-slot
 returns-clause-slot g c = let dev = c.args.self.now.dev.now in λ told.
-    put-slot [] (as_told told (device_by (g.D.SwapDev.sizes dev) (g.D.SwapDev.pages dev) (g.D.SwapDev.failures dev)))
+    put-slot [] (as_told told (seen_by g.D.SwapDev.sizes g.D.SwapDev.pages g.D.SwapDev.failures g.D.SwapDev.history dev))
     c.args.self.now.mem.now c.put.new.self
     c.args.frame c.put.result c.put.ensures.put
 

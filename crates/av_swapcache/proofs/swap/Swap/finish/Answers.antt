@@ -26,4 +26,5 @@ returns-clause-finishes g c =
       on_ok c.write.result _ c.write.ensures.written ok,
       refl,
       on_ok c.write.result _ c.write.ensures.unfailed ok,
+      c.write.ensures.asked,
     )

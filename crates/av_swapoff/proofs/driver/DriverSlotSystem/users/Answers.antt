@@ -1,5 +1,5 @@
 use Rattle.std.proofs.Common.{[], ◌∷◌, Bool}
-use Rattle.av_plain.specs.Device.{as_told, device_by}
+use Rattle.av_plain.specs.Device.{as_told, seen_by}
 use Rattle.av_swapoff.proofs.UsersTold.{all-told, within}
 use Rattle.av_swapoff.proofs.driver.DriverSlotSystem.users.Goals as goal
 
@@ -11,5 +11,5 @@ returns-clause-users g c =
     let driver = c.args.self.now in
     let dev = driver.dev.now in
     all-told (λ users. users.items) (driver.mem.ghost_name ∷ driver.dev.ghost_name ∷ [])
-    (λ (told : Bool). as_told told (device_by (g.D.SwapDev.sizes dev) (g.D.SwapDev.pages dev) (g.D.SwapDev.failures dev)))
+    (λ (told : Bool). as_told told (seen_by g.D.SwapDev.sizes g.D.SwapDev.pages g.D.SwapDev.failures g.D.SwapDev.history dev))
     driver.mem.now c.args.area c.users.result c.users.ensures.users
