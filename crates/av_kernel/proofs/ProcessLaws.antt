@@ -2,7 +2,7 @@
 use Rattle.std.proofs.Common.{◌≡◌, ℕ, suc, ◌+◌, nat_le, Bool, true, false, cond, not, T, [], ◌∷◌, length, Some, None, is_some, option_map, refl, sym, ap, subst, ◌∙◌, arith, ◌==◌, Option, List}
 use Rattle.std.proofs.lemmas.Bool.Decides.{nat_tests}
 use Rattle.std.proofs.lemmas.Bool.{false≢true}
-use Rattle.std.specs.Prelude.{IsSomeAnd, MatchOption, map, option_and_then}
+use Rattle.std.specs.Prelude.{MatchOption, map}
 use Rattle.std.specs.Ordering.{nat_cmp, is_eq, is_lt}
 use Rattle.std.specs.FinMap.Entries.{is_sorted, below_all, find}
 use Rattle.av_base.specs.Limits.{most_processes}
@@ -20,8 +20,8 @@ use Rattle.av_pagetable.specs.declared.pte.Pte.{Pte}
 use Rattle.av_pagetable.specs.declared.pte.Pte.TheVariants.{Empty}
 use Rattle.av_pagetable.specs.Entries.{ProcessTables, entry_at, has}
 use Rattle.av_plain.specs.Device.{Device}
-use Rattle.av_plain.specs.World.{Process, World, Page, no_pages, lives, pages, set_process, end_process}
-use Rattle.av_plain.specs.Ledger.{Entry, Key, Ledger, entry, names_frame}
+use Rattle.av_plain.specs.World.{World, Page, no_pages, lives, pages, set_process, end_process}
+use Rattle.av_plain.specs.Ledger.{Key, Ledger, entry, names_frame}
 use Rattle.av_plain.specs.Event.{Event, after_all, notes_of}
 use Rattle.av_plain.specs.Fault.{asks_copy}
 use Rattle.av_plain.specs.Zap.{keys_of_process, zaps_of}
@@ -42,7 +42,7 @@ use Rattle.av_plain.proofs.Sound.Zap.{process-ended, pages-ended}
 use Rattle.av_mem.specs.declared.mem.Mem.{Mem}
 use Rattle.av_spaces.specs.Spaces.{AllSpaces, Spaces, areas_of, pages_of, IsSpawned, IsEnded}
 use Rattle.av_plain.specs.Report.{range_of}
-use Rattle.av_mem.specs.Mem.{ranges_of, setting_by, plain, view, frame_count, HasTables, Keeps, HasLedger}
+use Rattle.av_mem.specs.Mem.{ranges_of, setting_by, plain, view, HasTables, Keeps, HasLedger}
 use Rattle.av_kernel.specs.Process.{new_tests}
 use Rattle.av_step.specs.Step.{StepsBeside}
 use Rattle.av_mem.specs.Zap.{HasZapped}

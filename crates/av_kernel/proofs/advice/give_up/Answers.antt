@@ -1,4 +1,4 @@
-use Rattle.std.proofs.Common.{◌≡◌, ◌+◌, ◌-◌, ◌/◌, ap, subst, ◌∙◌}
+use Rattle.std.proofs.Common.{◌+◌, ◌/◌, ap, subst, ◌∙◌}
 use Rattle.av_merge.specs.Pages.{GoesTo}
 use Rattle.av_spaces.specs.Spaces.{is_taken}
 use Rattle.av_trace.specs.declared.command.Command.TheVariants.{Madvise}
