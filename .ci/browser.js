@@ -67,5 +67,56 @@ facts.lit = [...document.querySelectorAll("#spaces .lit[data-at]")].map(it => it
 at("find").value = "20123";
 at("find").dispatchEvent(new Event("input"));
 facts.found = at("found").textContent;
+// the pages that each step used, text that is found and stepped through, and a cell by the keys
+const usedNow = () => [...document.querySelectorAll("#spaces .used")].map(it => it.dataset.at);
+facts.used = [];
+for (let n = 1; n <= Math.min(last, 12); n++) { go(n); facts.used.push(usedNow().join(", ")); }
+go(last);
+const [outer, inner] = ["#scroll", "#spaces .used"]
+  .map(it => document.querySelector(it)?.getBoundingClientRect());
+facts.inSight = inner && [at("scroll").scrollTop > 0, outer.top <= inner.top,
+  inner.bottom <= outer.bottom];
+const type = text => {
+  at("find").value = text;
+  at("find").dispatchEvent(new Event("input"));
+};
+go(0);
+type("fork");
+const pressIn = (key, shiftKey) =>
+  at("find").dispatchEvent(new KeyboardEvent("keydown", {key, shiftKey, bubbles: true}));
+facts.texts = [at("found").textContent];
+for (const isBack of [false, false, true]) {
+  pressIn("Enter", isBack);
+  facts.texts.push(`${here}: ${at("found").textContent}`);
+}
+type("");
+go(last);
+const cell = document.querySelector("#spaces [data-at]");
+cell?.focus();
+facts.told = at("found").textContent;
+cell?.dispatchEvent(new KeyboardEvent("keydown", {key: "Enter", bubbles: true}));
+facts.focus = [document.activeElement.dataset.at, lit.frame];
+// captions and names at the first steps, and what is hidden of one until it is asked for
+at("find").value = "";
+at("find").dispatchEvent(new Event("input"));
+toggled.clear();
+const texts = selector => [...document.querySelectorAll(selector)].map(it => it.textContent);
+facts.named = [];
+for (let n = 1; n <= Math.min(last, 12); n++) {
+  go(n);
+  const names = texts("#spaces h3:not(.gone), #spaces .row:not(.gone) .name");
+  facts.named.push([at("comment").textContent, ...names].join("; "));
+}
+const isEmpty = () => !document.querySelectorAll("#spaces .new, #cards .new").length;
+const answer = () => [at("reply").textContent, texts("#lines [aria-current] .soft")[0], isEmpty()];
+at("hide").click();
+go(Math.min(last, 3));
+facts.hidden = [answer()];
+press("Enter");
+facts.hidden.push(answer());
+press("ArrowLeft");
+facts.hidden.push(answer());
+at("hide").click();
+facts.hidden.push(answer());
 const result = {walks, facts, height: document.documentElement.scrollHeight - window.innerHeight};
 document.body.replaceChildren(make("pre", "", JSON.stringify(result)));

@@ -1,61 +1,130 @@
 """What the gate's own checks share: the program, a run of it, what documents show, and how a
 failure is told.
 
-Each check is called as `.ci/NAME [PROGRAM]`; the program is the proved one that `rt ci` left,
-unless another is named.
+The program is the proved one that `rt ci` left, unless another is named.
 """
+import argparse
 import difflib
 import os
 import re
 import subprocess
 import sys
+import tempfile
+import unittest
+from typing import Any, Callable, Iterable, Iterator
 
-ROOT = os.path.dirname(os.path.dirname(os.path.abspath(__file__)))
-sys.path.insert(0, f"{ROOT}/tools")
+from shared import ROOT
 
-import swapfile  # pylint: disable=wrong-import-position
+import swapfile
+
+# what a run ended with: status, standard output and standard error
+Ran = tuple[int, str, str]
+# a change of a file: its name, the old text and the new one
+Change = tuple[str, str, str]
+
+
+class Case(unittest.TestCase):
+    """A case of a check: a function, run in a folder of its own or at the top of the repository."""
+
+    def __init__(self, check: "Check", does: Callable[..., None]):
+        super().__init__()
+        self.check, self.does = check, does
+
+    def id(self) -> str:
+        return f"{self.check.name}.{self.does.__name__}"
+
+    def runTest(self) -> None:
+        self.check.running = self
+        with tempfile.TemporaryDirectory() as room:
+            os.chmod(room, 0o755)
+            os.chdir(room if self.check.in_room else ROOT)
+            try:
+                self.does(*[room][: self.does.__code__.co_argcount])
+            finally:
+                os.chdir(ROOT)
 
 
 class Check:
-    """The results of one check: a line for each thing that failed, and how many passed."""
+    """A check: its cases, a line for each thing that failed, and how many passed.
 
-    def __init__(self, name, needs_program=True):
-        self.name, self.passed, self.failed = name, 0, 0
+    It is called as `.ci/NAME [PROGRAM] [-k PART] [-l]`: -k runs the cases that have PART in their
+    names, -l lists all. With `in_room` each case is run in a folder of its own, which one that has
+    a parameter is told.
+    """
+
+    def __init__(
+        self, name: str, needs_program: bool = True, in_room: bool = False, more: Iterable[str] = ()
+    ):
+        self.name, self.in_room, self.passed, self.failed = name, in_room, 0, 0
+        self.cases: list[Case] = []
+        self.running: Case | None = None
+        parser = argparse.ArgumentParser(prog=f".ci/{name}")
+        parser.add_argument("program", nargs="?", default=f"{ROOT}/crates/avsim/out/avsim")
+        for word in more:
+            parser.add_argument(word, nargs="?")
+        parser.add_argument("-k", dest="parts", metavar="PART", action="append", default=[])
+        parser.add_argument("-l", dest="lists", action="store_true")
+        self.words = parser.parse_args()
+        self.program = os.path.abspath(self.words.program)
         os.chdir(ROOT)
-        if not needs_program:
-            return
-        self.program = (
-            os.path.abspath(sys.argv[1]) if len(sys.argv) > 1 else f"{ROOT}/crates/avsim/out/avsim"
-        )
-        if not os.access(self.program, os.X_OK):
+        if needs_program and not self.words.lists and not os.access(self.program, os.X_OK):
             print(
                 f"{name}: FAILED: there is no program {self.program}: "
                 "`rt ci` or `./avsim build` makes it"
             )
             sys.exit(1)
 
-    def expect(self, what, given, wanted):
-        """Passes where the two are equal; else shows where they differ."""
-        if given == wanted:
-            self.passed += 1
-            return
-        self.failed += 1
-        print(f"{self.name}: FAILED: {what}")
-        lines = [it if isinstance(it, str) else repr(it) for it in (wanted, given)]
-        for line in difflib.unified_diff(
-            *(it.splitlines() for it in lines), "wanted", "given", lineterm="", n=2
-        ):
-            print(f"    {line}")
-        if lines[0].splitlines() == lines[1].splitlines():
-            print("    they differ only in how a line ends")
+    def case(self, does: Callable[..., None]) -> Callable[..., None]:
+        """Makes a function a case; cases run in the order in which they stand."""
+        self.cases.append(Case(self, does))
+        return does
 
-    def end(self):
-        """Says how it went, and ends the check."""
-        print(f"{self.name}: {self.passed} passed, {self.failed} failed")
-        sys.exit(1 if self.failed or not self.passed else 0)
+    def expect(self, what: str, given: object, wanted: object) -> None:
+        """Passes where the two are equal; else shows where they differ, and the case goes on."""
+        assert self.running
+        with self.running.subTest(what):
+            if given == wanted:
+                self.passed += 1
+                return
+            self.failed += 1
+            print(f"{self.name}: FAILED: {what}")
+            lines = [it if isinstance(it, str) else repr(it) for it in (wanted, given)]
+            for line in difflib.unified_diff(
+                *(it.splitlines() for it in lines), "wanted", "given", lineterm="", n=2
+            ):
+                print(f"    {line}")
+            if lines[0].splitlines() == lines[1].splitlines():
+                print("    they differ only in how a line ends")
+            self.running.fail(what)
+
+    def skip(self, why: str) -> None:
+        """Ends a case that can't be run here."""
+        raise unittest.SkipTest(why)
+
+    def expect_none(self, what: str, found: Iterable[str]) -> None:
+        """Passes where nothing was found; else each thing is shown on a line of its own."""
+        self.expect(what, "\n".join(found), "")
+
+    def end(self) -> None:
+        """Runs the cases, says how it went, and ends the check."""
+        parts = self.words.parts or [""]
+        chosen = [it for it in self.cases if any(part in it.does.__name__ for part in parts)]
+        if self.words.lists:
+            for case in chosen:
+                print(case.does.__name__, "-", (case.does.__doc__ or "").strip().split("\n")[0])
+            sys.exit(0)
+        result = unittest.TestResult()
+        unittest.TestSuite(chosen).run(result)
+        for case, why in result.skipped:
+            print(f"{case.id()} is passed over: {why}")
+        for case, why in result.errors:
+            print(f"{self.name}: FAILED: {case.id()}\n{why}")
+        failed = self.failed + len(result.errors)
+        print(f"{self.name}: {self.passed} passed, {failed} failed")
+        sys.exit(1 if failed or not self.passed else 0)
 
 
-def run(program, words, given=b"", **how):
+def run(program: str, words: list, given: bytes = b"", **how: Any) -> Ran:
     """Runs the program: its status, standard output and standard error. `given` are the bytes of
     standard input.
     """
@@ -67,18 +136,18 @@ def run(program, words, given=b"", **how):
     return ran.returncode, text(ran.stdout), text(ran.stderr)
 
 
-def replies_of(transcript):
+def replies_of(transcript: str) -> list[str]:
     """A transcript cut into replies: each begins with the line that has no space in front."""
     return re.findall(r"^(?! ).*\n(?:^ .*\n)*", transcript, re.M)
 
 
-def bytes_of(shown):
+def bytes_of(shown: str) -> bytes:
     """A line whose invisible bytes are shown."""
     shown = shown.replace(r"\s", " ").replace(r"\r", "\r").replace(r"\t", "\t").encode()
     return re.sub(rb"\\x([0-9a-f]{2})", lambda it: bytes([int(it[1], 16)]), shown)
 
 
-def edit_of(file):
+def edit_of(file: str) -> tuple[list[Change], dict[str, list[str]]]:
     """What an edit says: its changes, each with its file, the old text and the new one; and what
     its other lines say, by their first word. Lines of one kind in a row are lines of one text.
     """
@@ -108,21 +177,21 @@ class Session:
     A later block that begins with `> ` goes on with it.
     """
 
-    def __init__(self, frames, place, swaps=()):
+    def __init__(self, frames: str, place: str, swaps: Iterable[list[str]] = ()):
         self.frames, self.place, self.swaps = frames, place, list(swaps)
         self.lines, self.text = [], ""
 
-    def trace(self):
+    def trace(self) -> str:
         return "".join(f"{it}\n" for it in self.lines)
 
-    def add(self, block):
+    def add(self, block: list[str]) -> None:
         for line in block:
             if line.startswith("> "):
                 self.lines.append(line[2:])
             else:
                 self.text += f"{line}\n"
 
-    def words(self, room):
+    def words(self, room: str) -> list[str]:
         """The words behind `run`. The swap files are made in a folder."""
         files = [os.path.join(room, it) for it in swapfile.files_for(len(self.swaps))]
         words = [it for area, file in zip(self.swaps, files) for it in (*area, file)]
@@ -132,7 +201,7 @@ class Session:
         return [self.frames, *files]
 
 
-def blocks_of(text):
+def blocks_of(text: str) -> Iterator[tuple[int, list[str]]]:
     """The indented blocks of code of a Markdown text, each with the number of its first line."""
     block, first = [], 0
     for number, line in enumerate([*text.split("\n"), "end"], 1):
@@ -146,7 +215,7 @@ def blocks_of(text):
             block, first = [], 0
 
 
-def swaps_made(line):
+def swaps_made(line: str) -> list[tuple[list[str], str]]:
     """The swap files that a line of a document makes by `$ tools/make-swap`: the words before the
     name of each, and the name.
     """
@@ -157,7 +226,7 @@ def swaps_made(line):
     ]
 
 
-def sessions_of(file):
+def sessions_of(file: str) -> list[Session]:
     """The sessions that a document shows."""
     found, swaps = [], {}
     with open(f"{ROOT}/{file}", encoding="utf-8") as it:

@@ -16,6 +16,7 @@ import re
 import subprocess
 import sys
 import tempfile
+from typing import Iterable, Iterator
 
 from common import ROOT, replies_of, run, swapfile
 
@@ -36,19 +37,19 @@ class Drawn:
         # the slots of an area that the last operations turned off, with what was said of them
         self.off = {}
 
-    def apply(self, ops):
+    def apply(self, ops: list[list]) -> None:
         self.off.clear()
         for name, *of in ops:
             getattr(self, f"op_{name}")(*of)
 
-    def op_p(self, process):
+    def op_p(self, process: int) -> None:
         self.tables[process], self.rows[process] = {}, {}
         self.dim.discard(process)
 
-    def op_x(self, process):
+    def op_x(self, process: int) -> None:
         del self.tables[process], self.rows[process]
 
-    def op_f(self, process, child):
+    def op_f(self, process: int, child: int) -> None:
         self.op_p(child)
         self.tables[child] = {
             page: it.replace("F", "f") for page, it in self.tables[process].items()
@@ -56,63 +57,69 @@ class Drawn:
         if process in self.dim:
             self.dim.add(child)
 
-    def op_e(self, process, page, code):
+    def op_n(self, process: int, name: str) -> None:
+        """(Names are no answers of the program.)"""
+
+    def op_b(self, process: int, page: int, count: int, name: str) -> None:
+        """(Nor are these.)"""
+
+    def op_e(self, process: int, page: int, code: str) -> None:
         self.tables[process][page] = code
 
-    def op_d(self, process, first, count):
+    def op_d(self, process: int, first: int, count: int) -> None:
         table = self.tables[process]
         for page in [it for it in table if first <= it < first + count]:
             del table[page]
 
-    def op_m(self, process, first, to, count):
+    def op_m(self, process: int, first: int, to: int, count: int) -> None:
         table = self.tables[process]
         for page in [it for it in table if first <= it < first + count]:
             table[page - first + to] = table.pop(page)
 
-    def op_u(self, process):
+    def op_u(self, process: int) -> None:
         self.tables[process] = {}
         self.dim.add(process)
 
-    def op_a(self, process, gone, new):
+    def op_a(self, process: int, gone: list[int], new: list[str]) -> None:
         for start in gone:
             del self.rows[process][start]
         for row in new:
             self.rows[process][int(row.split("-")[0], 16) >> 12] = row
 
-    def op_c(self, slot, frame):
+    def op_c(self, slot: str, frame: int) -> None:
         self.cached.pop(slot, None)
         if frame >= 0:
             self.cached[slot] = frame
 
-    def op_k(self, slot, text):
+    def op_k(self, slot: str, text: str) -> None:
         if text:
             self.counts[slot] = text
         else:
             self.off[slot] = self.counts.pop(slot, None)
 
-    def op_l(self, frame, which, place):
+    def op_l(self, frame: int, which: int, place: int) -> None:
         self.listed.pop(frame, None)
         if which:
             self.listed[frame] = which, place
 
-    def op_w(self, slot, place):
+    def op_w(self, slot: str, place: int) -> None:
         self.flight.pop(slot, None)
         if place:
             self.flight[slot] = place
 
-    def off_in_use(self):
+    def off_in_use(self) -> list[str]:
         """The slots of areas that have just gone off, as far as something had named them."""
         return [it for it, text in self.off.items() if text != "count 0" and it not in self.counts]
 
-    def op_o(self, is_known):
+    def op_o(self, is_known: int) -> None:
         self.lists = is_known
 
-    def op_t(self, area, text):
+    def op_t(self, area: int, text: str) -> None:
         self.areas_on.pop(area, None)
         if text:
             self.areas_on[area] = text
 
-    def slots_told(self):
+    def slots_told(self) -> dict[int, tuple[int, str, int, bool]]:
         """Of each area that is on: its priority, its free slots and all of them (? where that
         isn't known), and whether it gives the next one.
         """
@@ -120,18 +127,18 @@ class Drawn:
         found = {area: re.fullmatch(words, text) for area, text in self.areas_on.items()}
         return {area: (int(it[1]), it[2], int(it[3]), bool(it[4])) for area, it in found.items()}
 
-    def in_list(self, which):
+    def in_list(self, which: int) -> list[int]:
         """The frames of a list (1 inactive, 2 active), from the tail."""
         found = [it for it, (of, _) in self.listed.items() if of == which]
         return sorted(found, key=lambda it: self.listed[it][1])
 
-    def in_flight(self):
+    def in_flight(self) -> list[str]:
         return sorted(self.flight, key=lambda it: self.flight[it])
 
-    def op_s(self, text):
+    def op_s(self, text: str) -> None:
         self.stat = text
 
-    def entry(self, process, page):
+    def entry(self, process: int, page: int) -> str:
         """What stands in the cell of a page, in the words of `entry`; `?` where it isn't known."""
         code = self.tables[process].get(page, "?" if process in self.dim else "-")
         if code[0] in "fF":
@@ -143,10 +150,10 @@ class Drawn:
             return f"slot {code[1:]}{cached}"
         return {"-": "empty", "z": "zero"}.get(code, "?")
 
-    def areas(self, process):
+    def areas(self, process: int) -> list[str]:
         return [row for _, row in sorted(self.rows[process].items())]
 
-    def pages(self, process):
+    def pages(self, process: int) -> Iterator[int]:
         """Pages of its areas: of a long area the first ones, and those that have a code."""
         for start, row in sorted(self.rows[process].items()):
             end = int(re.match(r"\w+-(\w+)", row)[1], 16) >> 12
@@ -155,7 +162,7 @@ class Drawn:
                 it for it in self.tables[process] if start + MOST_PAGES <= it < end
             )
 
-    def owners(self):
+    def owners(self) -> dict[int, set[tuple[int, int]]]:
         """The pages that name each frame."""
         found = {}
         for process, table in self.tables.items():
@@ -164,7 +171,7 @@ class Drawn:
                     found.setdefault(int(code[1:]), set()).add((process, page))
         return found
 
-    def answers(self):
+    def answers(self) -> Iterator[tuple[str, str]]:
         """Reports, each with the answer that this state stands for."""
         for process in self.tables:
             rows = self.areas(process)
@@ -186,12 +193,12 @@ class Drawn:
         yield "stat", f"stat {self.stat}"
 
 
-def data_in(page):
+def data_in(page: str) -> dict:
     data = re.search(r'<script type="application/json" id="data">(.*?)</script>', page)
     return json.loads(data[1])
 
 
-def numbers_wrong(drawn):
+def numbers_wrong(drawn: Drawn) -> dict[str, tuple[int, str]]:
     """Whether what is drawn adds up otherwise than `stat` says."""
     numbers = dict(it.split("=") for it in drawn.stat.split())
     in_use = set(drawn.owners()) | set(drawn.cached.values())
@@ -208,7 +215,7 @@ def numbers_wrong(drawn):
     return {key: (it, numbers[key]) for key, it in told.items() if int(numbers[key]) != it}
 
 
-def slots_wrong(drawn, step):
+def slots_wrong(drawn: Drawn, step: dict) -> list[str]:
     """Whether the first slot that a step takes is of another area than the one that was drawn as
     that which gives next. (An area that is emptied gives none, and a slot that was dropped before
     may be of any.)
@@ -222,7 +229,7 @@ def slots_wrong(drawn, step):
     return [f"line {step['n']}: area {area} gives, drawn was {gives}"] * (gives != [area])
 
 
-def compare(program, words, data):
+def compare(program: str, words: list[str], data: dict) -> tuple[list[str], int]:
     """What is wrong in the steps of a page: a list of texts; and how many answers were held
     against each other.
     """
@@ -251,7 +258,7 @@ def compare(program, words, data):
     return wrong + found, len(wanted) + count
 
 
-def order_in(notes, frame_at):
+def order_in(notes: list[str], frame_at: dict[str, int] | None) -> Iterator[int | str]:
     """The frames or slots in the order in which notes end their part: of `age 16384` and
     `complete 16384` all, of `reclaim 16384` the frames.
     """
@@ -267,7 +274,7 @@ def order_in(notes, frame_at):
                 yield slot
 
 
-def compare_lists(program, words, data):
+def compare_lists(program: str, words: list[str], data: dict) -> tuple[list[str], int]:
     """What is wrong in the order of the lists and of what is in flight, at some steps: commands
     that go through all of them show it.
     """
@@ -296,7 +303,10 @@ def compare_lists(program, words, data):
     return wrong, count
 
 
-def random_lines(pick, live):
+ADVICE = ["dontneed"] * 3 + ["dontfork", "dofork", "wipeonfork", "keeponfork"]
+
+
+def random_lines(pick: random.Random, live: set[int]) -> Iterator[str]:
     """A few lines to choose from, for processes that live, as far as one knows."""
     p = pick.choice(sorted(live)) if pick.random() < 0.95 else pick.randint(1, 5)
     n, k = pick.randint(1, 3), pick.randint(1, 4)
@@ -315,20 +325,22 @@ def random_lines(pick, live):
         f"mremap {p} {at:x} {length} {4096 * k} fixed {at + 0x5000:x}",
         f"mremap {p} {at:x} {length} {length} dontunmap",
         f"mremap {p} {at:x} {length} {length} dontunmap {at - 0x4000:x}",
+        f"madvise {p} {at:x} {length} {pick.choice(ADVICE)}",
+        f"madvise {p} {at:x} {4 * length} {pick.choice(ADVICE)}",
         f"rmap {p} {at:x}",
     ]
     if len(live) > 2 or pick.random() < 0.1:
         yield f"exit {p}"
 
 
-def swapon_lines(pick, swap, areas):
+def swapon_lines(pick: random.Random, swap: str, areas: int) -> Iterator[str]:
     """The lines that turn areas on, some of them with a priority, as far as the program has any."""
     for area in range(areas):
         priority = pick.choice(["", "", " prio 0", " prio 5", " prio 32767"])
         yield f"swapon {area}" + priority * ("prio" in swap)
 
 
-def random_trace(seed, lines, swap="", areas=1):
+def random_trace(seed: int, lines: int, swap: str = "", areas: int = 1) -> Iterator[str]:
     """A trace of commands, most of them good, of processes that share pages. `swap` are the
     commands of swap that may stand in it, over so many areas.
     """
@@ -357,7 +369,7 @@ def random_trace(seed, lines, swap="", areas=1):
             live.add(1)
 
 
-def swap_of(program):
+def swap_of(program: str) -> str:
     """The commands of swap that a program has."""
     some = ("swapon 0", "swapon 0 prio 5", "swapoff 0", "reclaim 1", "age 1", "complete 1")
     some += ("slot 0 1",)
@@ -365,7 +377,7 @@ def swap_of(program):
     return " ".join(has) if "reclaim 1" in has else ""
 
 
-def page_of(program, words, trace):
+def page_of(program: str, words: list[str], trace: Iterable[str]) -> str:
     """The page that view/run makes of a trace, or what it says instead."""
     with open("random.trace", "w", encoding="ascii") as it:
         it.writelines(f"{line}\n" for line in trace)
@@ -378,7 +390,7 @@ def page_of(program, words, trace):
     return ran.stdout.decode() or ran.stderr.decode()
 
 
-def swaps_asked(text):
+def swaps_asked(text: str) -> list[tuple[int, list[int]]]:
     """The swap files that a generator names: of each its pages and the bad ones. (What else it may
     ask of a header isn't made.)
     """
@@ -390,7 +402,7 @@ def swaps_asked(text):
         yield max(int(named[1]), 2) if named else 2, bad
 
 
-def machine_of(program, seed, trace, areas):
+def machine_of(program: str, seed: int, trace: list[str], areas: int) -> list[str]:
     """The words behind `run` for a random trace, or one of a generator."""
     pick = random.Random(seed)
     frames = re.search(r"frames=(\d+)", trace[0])
@@ -404,7 +416,9 @@ def machine_of(program, seed, trace, areas):
     return words
 
 
-def compare_random(program, seed, lines, generator=None):
+def compare_random(
+    program: str, seed: int, lines: int, generator: list[str] | None = None
+) -> tuple[list[str], int]:
     """What is wrong in the page of one random trace, and how many answers were compared."""
     areas = 1 + seed % 5 // 2
     if generator:
@@ -434,7 +448,7 @@ def compare_random(program, seed, lines, generator=None):
     return wrong + [data["said"]] * ("fault" in data["said"]), count
 
 
-def main():
+def main() -> None:
     program, count, *generator = sys.argv[1:]
     program, total, bad = os.path.abspath(program), 0, 0
     with tempfile.TemporaryDirectory() as room:

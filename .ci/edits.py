@@ -15,7 +15,7 @@ NO_CONTROL = {}
 class Edit:
     """Texts that stand once in a crate's files, and what comes in their place."""
 
-    def __init__(self, path):
+    def __init__(self, path: str):
         self.path = path
         self.crate = os.path.basename(os.path.dirname(path.replace("/must-fail", "")))
         self.key = f"{self.crate}/{os.path.basename(path)}".removesuffix(".edit")
@@ -29,11 +29,11 @@ class Edit:
             else:
                 self.pairs.append((file, old, text))
 
-    def own_text(self, file):
+    def own_text(self, file: str) -> str:
         """A file of the crate as it is."""
         return text_of(f"crates/{self.crate}/{file}")
 
-    def texts(self):
+    def texts(self) -> dict[str, str] | None:
         """The files that it changes, by name, as it leaves them. None where a text that it replaces
         doesn't stand there once, with its earlier changes.
         """
@@ -45,7 +45,7 @@ class Edit:
             texts[file] = text.replace(old, new)
         return texts
 
-    def places(self):
+    def places(self) -> list[tuple[str, int]]:
         """What it replaces of the crate as it is: of each text the file and the line."""
         places = []
         for file, old, _ in self.pairs:
@@ -54,7 +54,7 @@ class Edit:
                 places.append((file, before.count("\n") + 1))
         return places
 
-    def is_control_of(self, other):
+    def is_control_of(self, other: "Edit") -> bool:
         """Whether it changes no line but those that another edit changes, the last of the code
         among them, and isn't the same.
         """
@@ -63,7 +63,7 @@ class Edit:
         return set(last) <= set(own) <= set(others) and self.pairs != other.pairs
 
 
-def edits(folders):
+def edits(folders: str) -> list[Edit]:
     """The edits of the folders that a pattern names, by their paths."""
     found = sorted(glob.glob(f"{ROOT}/{folders}/*.edit"))
     return [Edit(os.path.relpath(it, ROOT)) for it in found]

@@ -4,14 +4,24 @@ A header is made of its fields here, and of nothing else of the repository. The 
 written by hand: `on SLOTS BAD`, or `err EINVAL`.
 """
 import struct
+from typing import Iterator, Sequence
 
 PAGE, MOST_U32 = 4096, 2**32 - 1
 # pages of an area that are used at most
 MOST_PAGES = 1_048_576
 REFUSED = "err EINVAL"
+# its name, how many pages the file has, its first page, and what is answered
+Header = tuple[str, int, bytes, str]
 
 
-def header(last=7, bad=(), order="<", version=1, count=None, signature=b"SWAPSPACE2"):
+def header(
+    last: int = 7,
+    bad: Sequence[int] = (),
+    order: str = "<",
+    version: int = 1,
+    count: int | None = None,
+    signature: bytes = b"SWAPSPACE2",
+) -> bytes:
     """The first page of a swap area."""
     page = bytearray(PAGE)
     number_of_bad = len(bad) if count is None else count
@@ -21,12 +31,12 @@ def header(last=7, bad=(), order="<", version=1, count=None, signature=b"SWAPSPA
     return bytes(page)
 
 
-def with_bytes(page, at, some):
+def with_bytes(page: bytes, at: int, some: bytes) -> bytes:
     """A page with some of its bytes changed."""
     return page[:at] + some + page[at + len(some) :]
 
 
-def of_signature():
+def of_signature() -> Iterator[Header]:
     """The ten bytes at the end."""
     good = header()
     for at in range(4086, 4096):
@@ -39,7 +49,7 @@ def of_signature():
     yield "ones", 8, b"\xff" * PAGE, REFUSED
 
 
-def of_version():
+def of_version() -> Iterator[Header]:
     """The number at 1024, by which the byte order is told."""
     for version in (0, 2, 256, 65536, 0x01000001, MOST_U32):
         yield f"version {version:x}", 8, header(version=version), REFUSED
@@ -50,7 +60,7 @@ def of_version():
     yield "a little version alone", 8, with_bytes(big, 1024, little[1024:1028]), REFUSED
 
 
-def of_last_page():
+def of_last_page() -> Iterator[Header]:
     """The number at 1028, against the size of the device."""
     for order, name in (("<", ""), (">", ", big")):
         for last, pages, answer in (
@@ -76,7 +86,7 @@ def of_last_page():
             yield f"last page {last} of {pages} pages{name}", pages, page, answer
 
 
-def of_bad_pages():
+def of_bad_pages() -> Iterator[Header]:
     """The count at 1032, and the numbers from 1536 on."""
     for order, name in (("<", ""), (">", ", big")):
         for last, bad, answer in (
@@ -115,7 +125,7 @@ def of_bad_pages():
         yield f"a bad page above the last one{name}", MOST_PAGES, page, REFUSED
 
 
-def headers():
+def headers() -> Iterator[Header]:
     """Name, pages of the file, first page, and the answer."""
     yield from of_signature()
     yield from of_version()

@@ -3,15 +3,16 @@
 The commands are those of docs/REFERENCE.md: a heading for each, and the first sentence below it.
 What is proved of a crate is the head of its lib.rt (or main.rt).
 """
+import glob
 import os
 import re
 import subprocess
-import sys
+from typing import Iterator
 
-ROOT = os.path.dirname(os.path.dirname(os.path.abspath(__file__)))
-sys.path.insert(0, f"{ROOT}/shell")
+from shared import ROOT
 
-from reference import Reference  # pylint: disable=wrong-import-position
+from common import edit_of
+from reference import Reference
 
 # the items of a crate whose contracts carry what its head says; a crate without an entry has none
 CARRIERS = {
@@ -61,41 +62,42 @@ CARRIERS = {
     "av_kernel": "Kernel",
     "av_words": "read_words",
     "av_ports": "Ports Pending read_on read_line write_all",
-    "av_replay": "run good_traces_are_done done_runs_write_their_transcript",
+    "av_replay": "run good_traces_are_done done_runs_write_their_transcript bad_lines_end_runs "
+    "lines_are_done_up_to_the_most replies_are_out_before_a_read failed_writes_cut_the_last_reply",
     "avsim": "text_for exit_number Failure",
     "av_sample": "ask",
 }
 
 
-def text_of(file):
+def text_of(file: str) -> str:
     """The text of a file of the repository."""
     with open(f"{ROOT}/{file}", encoding="utf-8") as it:
         return it.read()
 
 
-def crates():
+def crates() -> list[str]:
     """The names of the crates, lowest first."""
     return re.findall(r"^(\w+)(?: \w+)?:", text_of("crates.txt"), re.M)
 
 
-def root_file(crate):
+def root_file(crate: str) -> str:
     """The file that a crate begins with."""
     library = f"crates/{crate}/src/lib.rt"
     return library if os.path.exists(f"{ROOT}/{library}") else f"crates/{crate}/src/main.rt"
 
 
-def head_of(crate):
+def head_of(crate: str) -> list[str]:
     """The paragraphs of a crate's head."""
     lines = re.findall(r"^//! ?(.*)$", text_of(root_file(crate)), re.M)
     return [" ".join(it.split("\n")) for it in re.split(r"\n\n+", "\n".join(lines).strip())]
 
 
-def anchor_of(heading):
+def anchor_of(heading: str) -> str:
     """The name by which a page is led to one of its headings."""
     return re.sub(r"[^\w -]", "", heading.lower()).replace(" ", "-")
 
 
-def commands_table():
+def commands_table() -> Iterator[str]:
     """The commands, each with what it does in a sentence, and the way to its section."""
     yield "| Command | What it does |"
     yield "|---|---|"
@@ -106,32 +108,64 @@ def commands_table():
         yield f"| [`{words}`]({place}) | {reference.first_sentence(form.name)} |"
 
 
-def crates_table():
-    """What the heads of the crates say."""
-    yield "| Crate | What its head says | Carried by |"
+def crates_table() -> Iterator[str]:
+    """What each crate is, and what carries what is proved of it."""
+    yield "| Crate | What it is | Carried by |"
     yield "|---|---|---|"
     for crate in crates():
-        head = " <br><br> ".join(head_of(crate)).replace("|", "\\|")
+        what = re.split(r"(?<=[^.][.])\s", head_of(crate)[0])[0]
         names = ", ".join(f"`{it}`" for it in CARRIERS.get(crate, "").split())
-        yield f"| [{crate}](../{root_file(crate)}) | {head} | {names} |"
+        yield f"| [{crate}](../{root_file(crate)}) | {what} | {names} |"
+
+
+def definition_at(file: str, text: str) -> str:
+    """The name of the definition of `av_plain` that a text stands in."""
+    code = text_of(f"crates/av_plain/{file}")
+    behind = code[: code.index(text) + len(text)]
+    names = re.findall(r"^(?:(?:abbrev|pub|record|data) )*(?!use\b|mod\b)(\w+)\b", behind, re.M)
+    return names[-1] if names else ""
+
+
+def wrong_versions() -> Iterator[tuple[str, str, str, list[str]]]:
+    """The wrong definitions, each with the definition and the examples that break."""
+    for path in sorted(glob.glob(f"{ROOT}/.ci/definitions/*.edit")):
+        changes, others = edit_of(path)
+        # (an import, or what is put before a comment, is no version of a definition)
+        file, old, _ = next(it for it in changes if not it[1].startswith(("use ", "--")))
+        topic = os.path.basename(file).removesuffix(".antt")
+        broken = [it.split()[-1] for it in others.get("breaks", [])]
+        yield topic, definition_at(file, old), os.path.basename(path), broken
+
+
+def examples_table() -> Iterator[str]:
+    """The wrong definitions, by the definition that each is a version of."""
+    yield "| Definition | Wrong version: the examples that break |"
+    yield "|---|---|"
+    rows = {}
+    for topic, name, edit, broken in wrong_versions():
+        shown = ", ".join(f"`{it}`" for it in broken)
+        link = f"[{edit.removesuffix('.edit')}](../.ci/definitions/{edit})"
+        rows.setdefault((topic, name), []).append(f"{link}: {shown}")
+    for (topic, name), versions in sorted(rows.items()):
+        yield f"| `{topic}`: `{name}` | {'; '.join(versions)} |"
 
 
 # the parts of documents that are made: the name that stands in the marks around each
-PARTS = {"commands": commands_table, "crates": crates_table}
+PARTS = {"commands": commands_table, "crates": crates_table, "examples": examples_table}
 MARKED = re.compile(r"(<!-- made: (\w+) -->\n).*?(<!-- end -->)", re.S)
 
 
-def with_parts(text):
+def with_parts(text: str) -> str:
     """A document with its made parts as they should be."""
     return MARKED.sub(lambda it: it[1] + "\n".join(PARTS[it[2]]()) + "\n" + it[3], text)
 
 
-def without_parts(text):
+def without_parts(text: str) -> str:
     """What is written by hand in a document."""
     return MARKED.sub("", text)
 
 
-def help_texts():
+def help_texts() -> tuple[str, str, str]:
     """The texts of `--help`, `run --help` and `work --help`, as the program's source has them."""
     source = text_of("crates/avsim/src/help.rt")
     found = re.findall(r'const (\w+): &str = "\\\n(.*?)";', source, re.S)
@@ -139,7 +173,7 @@ def help_texts():
     return texts["HELP"], texts["RUN_HELP"], texts["WORK_HELP"]
 
 
-def man_page():
+def man_page() -> str:
     """The reference as a man page."""
     ran = subprocess.run([f"{ROOT}/.ci/man"], stdout=subprocess.PIPE, text=True, check=True)
     return ran.stdout
@@ -149,5 +183,6 @@ def man_page():
 FILES = {
     "README.md": lambda: with_parts(text_of("README.md")),
     "docs/PROVED.md": lambda: with_parts(text_of("docs/PROVED.md")),
+    "docs/EXAMPLES.md": lambda: with_parts(text_of("docs/EXAMPLES.md")),
     "docs/avsim.1": man_page,
 }

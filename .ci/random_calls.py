@@ -6,11 +6,14 @@ machine it is run. The same seed makes the same trace.
 """
 import random
 import sys
+from typing import Iterator
 
 PAGE, HUGE, TOP = 4096, 1 << 21, 0x7FFFFFFFF000
 # where the pages are: low, in the middle, and where automatic places are; each with how many
 PLACES = ((0x20000, 14), (0x555555554000, 6), (TOP - 20 * PAGE, 20))
 PROTS = ["rw-"] * 12 + ["r--"] * 3 + ["rwx", "r-x", "-w-", "---", "--x"]
+# (a process with pages that are left out can't be copied, and then fewer lines are tried)
+ADVICE = ["dontneed"] * 4 + ["wipeonfork"] * 3 + ["keeponfork", "dofork", "dofork", "dontfork"]
 # what a range may be that is refused, or at a border
 ODD_PLACES = (0, 1, 0xF000, 0x10000, 0x20001, TOP - PAGE, TOP, 2**47, 2**63, 2**64 - PAGE)
 ODD_LENGTHS = (0, 1, PAGE + 1, TOP - 0x10000, TOP, 2**47, 2**63, 2**64 - PAGE, 2**64 - 1)
@@ -20,6 +23,7 @@ KINDS = {
     "munmap": 5,
     "mprotect": 7,
     "mremap": 14,
+    "madvise": 5,
     "read": 10,
     "write": 18,
     "fork": 5,
@@ -40,34 +44,34 @@ MACHINES = (
 class Trace:
     """The lines of a trace, as they are drawn."""
 
-    def __init__(self, seed):
+    def __init__(self, seed: int):
         self.pick, self.machine = random.Random(seed), MACHINES[seed % len(MACHINES)]
         self.live, self.areas = {1}, self.machine.count(" pages")
         # (areas behind a dontunmap are otherwise on Linux, so two traces of three have none)
         self.modes = ["", " maymove", " fixed", " fixed", " dontunmap", " dontunmap to"]
         self.modes = self.modes[: 6 if seed % 3 == 0 else 4]
 
-    def page(self):
+    def page(self) -> int:
         """A page of one of the places, low ones most often."""
         first, count = self.pick.choices(PLACES, (3, 1, 1))[0]
         return first + PAGE * self.pick.randrange(count)
 
-    def range(self):
+    def range(self) -> str:
         """A range, as two words."""
         if self.pick.random() < 0.04:
             at = self.pick.choice([self.page(), self.pick.choice(ODD_PLACES)])
             return f"{at:x} {self.pick.choice(ODD_LENGTHS)}"
         return f"{self.page():x} {self.length()}"
 
-    def length(self):
+    def length(self) -> int:
         pages = self.pick.choice([1, 1, 1, 2, 2, 3, 4, 6])
         return pages * PAGE - self.pick.choice([0] * 9 + [1, 4095])
 
-    def process(self):
+    def process(self) -> int:
         """A process, most often one that lives."""
         return self.pick.choice(sorted(self.live)) if self.pick.random() < 0.98 else 6
 
-    def mmap(self):
+    def mmap(self) -> str:
         how = self.pick.choice(["", " fixed", " fixed", " fixed", " noreplace", " at"])
         length = self.length() if how or self.pick.random() < 0.9 else HUGE
         begin = f"mmap {self.process()} {length} {self.pick.choice(PROTS)}"
@@ -76,13 +80,13 @@ class Trace:
             place += self.pick.choice([0, 5])
         return f"{begin}{how} {place:x}" if how else begin
 
-    def munmap(self):
+    def munmap(self) -> str:
         return f"munmap {self.process()} {self.range()}"
 
-    def mprotect(self):
+    def mprotect(self) -> str:
         return f"mprotect {self.process()} {self.range()} {self.pick.choice(PROTS)}"
 
-    def mremap(self):
+    def mremap(self) -> str:
         at, old = self.range().split(" ")
         new = self.pick.choice([old, self.length(), self.length()])
         how = self.pick.choice(self.modes)
@@ -92,50 +96,53 @@ class Trace:
         how = f"{how.removesuffix(' to')} {to}" if how in (" fixed", " dontunmap to") else how
         return f"mremap {self.process()} {at} {old} {new}{how}"
 
-    def access(self):
+    def madvise(self) -> str:
+        return f"madvise {self.process()} {self.range()} {self.pick.choice(ADVICE)}"
+
+    def access(self) -> str:
         """An address, often just before a border of pages, and a number of bytes."""
         at = self.page() + self.pick.choice([0, 0, 5, PAGE - 1, PAGE - 2])
         return f"{self.process()} {at:x}", self.pick.choice([1, 2, 3, 8, 8, 60])
 
-    def read(self):
+    def read(self) -> str:
         return " ".join(map(str, ["read", *self.access()]))
 
-    def write(self):
+    def write(self) -> str:
         at, count = self.access()
         return f"write {at} {self.pick.randbytes(count).hex()}"
 
-    def fork(self):
+    def fork(self) -> str:
         parent, child = self.process(), self.pick.randint(1, 5)
         if parent in self.live:
             self.live.add(child)
         return f"fork {parent} {child}"
 
-    def exit(self):
+    def exit(self) -> str:
         process = self.process()
         if self.live == {process}:
             return self.spawn()
         self.live.discard(process)
         return f"exit {process}"
 
-    def spawn(self):
+    def spawn(self) -> str:
         process = self.pick.randint(1, 5)
         self.live.add(process)
         return f"spawn {process}"
 
-    def entry(self):
+    def entry(self) -> str:
         return f"entry {self.process()} {self.page():x}"
 
-    def rmap(self):
+    def rmap(self) -> str:
         return f"rmap {self.process()} {self.page():x}"
 
-    def swap(self):
+    def swap(self) -> str:
         """What the model alone does."""
         words = ["reclaim 4", "reclaim 2", "age 4", "complete 3", "stat"]
         words += [f"swapoff {it}" for it in range(self.areas)]
         words += [f"swapon {it}" for it in range(self.areas)]
         return self.pick.choice(words)
 
-    def lines(self, count):
+    def lines(self, count: int) -> Iterator[str]:
         yield f"# Random calls. Run it with {self.machine}."
         yield from (f"swapon {it}" for it in range(self.areas))
         yield from ("spawn 1", "mmap 1 57344 rw- fixed 20000", "mmap 1 8192 rw-")
@@ -152,7 +159,7 @@ class Trace:
             yield from (f"{it} {process} 20000" for it in ("rmap", "entry"))
 
 
-def trace_of(seed, count=150):
+def trace_of(seed: int, count: int = 150) -> str:
     """The trace of a seed, with so many drawn lines and reports between."""
     return "".join(f"{it}\n" for it in Trace(seed).lines(count))
 

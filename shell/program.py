@@ -8,17 +8,19 @@ import signal
 import subprocess
 import tempfile
 import threading
+from typing import Any, BinaryIO, Iterable, Iterator
+
+from shared import saying
 
 
-class Refused(Exception):
-    """What the user is told: one sentence. `status` is the exit status where nothing goes on."""
+class Refused(saying.Refused):
+    """What the user is told, where nothing goes on."""
 
-    def __init__(self, sentence, status=125):
-        super().__init__(sentence)
-        self.status = status
+    def __init__(self, sentence: str, status: int = 125):
+        super().__init__(sentence, status)
 
 
-def lines_from(file, limit=-1):
+def lines_from(file: BinaryIO, limit: int = -1) -> Iterator[bytes]:
     """The lines of standard input, each with its newline, if it has one; what is beyond the limit
     comes as a line, too.
     """
@@ -35,7 +37,7 @@ def lines_from(file, limit=-1):
 class EarlyEnd(Exception):
     """The program ended while it was to answer: its status, and why in a few words."""
 
-    def __init__(self, status, said):
+    def __init__(self, status: int, said: str):
         super().__init__(why_ended(status, said))
         self.status = status
 
@@ -46,7 +48,7 @@ MOST_AT_ONCE = min(4, os.cpu_count() or 1)
 SMALL = 16_384
 
 
-def start(words, **how):
+def start(words: list[str], **how: Any) -> subprocess.Popen:
     """Starts the program."""
     try:
         return subprocess.Popen(words, **how)
@@ -55,7 +57,7 @@ def start(words, **how):
         raise Refused(f"the program can't be run ({error.strerror}){hint}") from None
 
 
-def why_ended(status, said):
+def why_ended(status: int, said: str) -> str:
     """Why the program ended, by its status and its last words."""
     if status < 0:
         try:
@@ -67,7 +69,7 @@ def why_ended(status, said):
     return f"the program ended with status {status}" + (f" ({said})" if said else "")
 
 
-def parts_of(lines):
+def parts_of(lines: list[bytes]) -> list[list[bytes]]:
     """Lines cut into as many parts as are judged at once, if they are many."""
     size = max(-(-len(lines) // MOST_AT_ONCE), 256)
     return [lines[at : at + size] for at in range(0, len(lines), size)]
@@ -81,17 +83,17 @@ class Judge:
     that lives, and what a line costs doesn't depend on the lines before it.
     """
 
-    def __init__(self, program):
+    def __init__(self, program: str):
         self.program = program
 
-    def bad_of(self, lines):
+    def bad_of(self, lines: Iterable[bytes]) -> set[bytes]:
         """Those of the lines (bytes, without their newlines) that are no commands."""
         try:
             return self.bad_by_parts(lines)
         except OSError as error:
             raise Refused(f"lines can't be judged: {error.strerror}") from None
 
-    def bad_by_parts(self, lines):
+    def bad_by_parts(self, lines: Iterable[bytes]) -> set[bytes]:
         """As above."""
         asked = list(dict.fromkeys(lines))
         spawns = [it for it in asked if it.startswith(b"spawn")]
@@ -102,7 +104,7 @@ class Judge:
         with concurrent.futures.ThreadPoolExecutor(MOST_AT_ONCE) as pool:
             return {line for bad in pool.map(self.bad_of_part, parts) for line in bad}
 
-    def bad_of_part(self, lines):
+    def bad_of_part(self, lines: list[bytes]) -> list[bytes]:
         """The lines that the program refuses."""
         found = []
         begins = list(itertools.accumulate((len(it) + 1 for it in lines), initial=0))
@@ -119,7 +121,7 @@ class Judge:
                     at += 1
         return found
 
-    def good_before(self, trace, said):
+    def good_before(self, trace: BinaryIO, said: BinaryIO) -> int:
         """How many lines are good before the first that isn't; more than there are if all are."""
         os.ftruncate(said.fileno(), 0)
         os.lseek(said.fileno(), 0, os.SEEK_SET)
@@ -141,7 +143,7 @@ class Live:
     reply says that all replies before it are whole.
     """
 
-    def __init__(self, program, words):
+    def __init__(self, program: str, words: list[str]):
         # (in a group of its own, so that control-C doesn't end it)
         self.ran = start(
             [program, "run", *words],
@@ -151,7 +153,7 @@ class Live:
             stderr=subprocess.PIPE,
         )
 
-    def answers(self, lines):
+    def answers(self, lines: list[bytes]) -> list[list[str]]:
         """The replies to commands, each a list of lines. Lines that say nothing aren't for here."""
         data = b"".join(it + b"\n" for it in (*lines, b"stat"))
         # a program whose replies nobody reads waits: so much is written while these are read
@@ -166,7 +168,7 @@ class Live:
             if writer.is_alive():
                 writer.join()
 
-    def write(self, data):
+    def write(self, data: bytes) -> None:
         """Sends bytes. That the program has ended is seen where its replies are read."""
         try:
             self.ran.stdin.write(data)
@@ -174,7 +176,7 @@ class Live:
         except OSError:
             pass
 
-    def read(self, count):
+    def read(self, count: int) -> list[list[str]]:
         """So many replies, and the first line of one more, which isn't kept."""
         found = []
         while len(found) <= count:
@@ -188,7 +190,7 @@ class Live:
                 found.append([line[:-1]])
         return found[:count]
 
-    def end(self):
+    def end(self) -> None:
         """Ends the run: its input ends, and it is killed only if it doesn't end by that."""
         for pipe in (self.ran.stdin, self.ran.stdout, self.ran.stderr):
             try:

@@ -3,13 +3,21 @@
 Whether it is none is for the program to say; here only its reason is sought. The tests stand in the
 order in which people would look: the line as bytes, its blanks, its first word, and then its words
 from left to right.
+
 """
+import difflib
 import re
 
-from reference import LATER
+from reference import LATER, Form, Reference
+from shared import saying
 
 LINE_LIMIT = 8448
-WORDS_OF_TALK = ("touch", "undo", "save", "load", "help", "quit")
+# characters of a word that are shown at most
+MOST_SHOWN = 40
+WORDS_OF_TALK = ("show", "view", "touch", "undo", "save", "load", "help", "quit")
+# what a madvise may say, and what it may in a later version
+ADVICE = ("dontneed", "dontfork", "dofork", "wipeonfork", "keeponfork")
+ADVICE_LATER = ("mergeable", "unmergeable")
 # sections of the reference
 TRACE, COMMANDS, TALK = "Trace", "Commands", "Talk"
 
@@ -17,22 +25,22 @@ TRACE, COMMANDS, TALK = "Trace", "Commands", "Talk"
 class Reason(Exception):
     """The reason that was found, and the section with the rule."""
 
-    def __init__(self, sentence, place=TRACE):
+    def __init__(self, sentence: str, place: str = TRACE):
         super().__init__(sentence)
         self.sentence, self.place = sentence, place
 
-    def __str__(self):
+    def __str__(self) -> str:
         return f'{self.sentence} (docs/REFERENCE.md, "{self.place}")'
 
 
-def reason_of(line, reference):
+def reason_of(line: bytes, reference: Reference) -> Reason:
     """The reason of a line that the program refuses: it says where to look if none is seen."""
     return fault_of(line, reference) or Reason(
         "the program takes this line for no command", line.split(b" ")[0].decode("ascii")
     )
 
 
-def fault_of(line, reference):
+def fault_of(line: bytes, reference: Reference) -> Reason | None:
     """What is wrong with a line, which is bytes without the newline, as far as it is seen here."""
     if not line or line.startswith(b"#") and len(line) <= LINE_LIMIT:
         return None
@@ -47,15 +55,12 @@ def fault_of(line, reference):
     return None
 
 
-def printable(word):
-    """A word as it can be shown: in ASCII, and not too long."""
-    text = word if isinstance(word, str) else word.decode("utf-8", "backslashreplace")
-    text = text.encode("ascii", "backslashreplace").decode()
-    text = "".join(it if it.isprintable() else f"\\x{ord(it):02x}" for it in text)
-    return text if len(text) <= 40 else f"{text[:37]}.."
+def printable(word: str | bytes) -> str:
+    """A word as it can be shown."""
+    return saying.printable(word, MOST_SHOWN)
 
 
-def of_bytes(line):
+def of_bytes(line: bytes) -> None:
     """Bytes that no line has."""
     if len(line) > LINE_LIMIT:
         raise Reason(f"a line has at most {LINE_LIMIT} bytes")
@@ -74,7 +79,7 @@ def of_bytes(line):
             raise Reason(f"a control byte: \\x{byte:02x}")
 
 
-def of_blanks(text):
+def of_blanks(text: str) -> None:
     """Spaces where none may stand, and comments that don't begin with the line."""
     if not text.strip(" "):
         raise Reason("a line of spaces isn't empty")
@@ -92,7 +97,7 @@ def of_blanks(text):
         raise Reason("two spaces stand in a row")
 
 
-def form_of(name, reference):
+def form_of(name: str, reference: Reference) -> Form:
     """The form of the command of this name."""
     if name in reference.forms:
         return reference.forms[name]
@@ -102,12 +107,17 @@ def form_of(name, reference):
         raise Reason(f"the name of a command is lower case: {printable(name)}")
     if name in WORDS_OF_TALK:
         raise Reason(f"{name} is a word of avsim talk, and of no trace", TALK)
-    raise Reason(
-        f"there is no command {printable(name)}; there are {', '.join(reference.forms)}", COMMANDS
-    )
+    raise Reason(no_command(name, list(reference.forms)), COMMANDS)
 
 
-def of_words(words, form):
+def no_command(name: str, names: list[str]) -> str:
+    """What is said of a name that none of these is: which one may be meant, or all."""
+    near = difflib.get_close_matches(name, names, 1, 0.7)
+    hint = f"did you mean {near[0]}?" if near else f"there are {', '.join(names)}"
+    return f"there is no command {printable(name)}; {hint}"
+
+
+def of_words(words: list[str], form: Form) -> None:
     """The words behind the name, from left to right, and whether there are too few or too many."""
     for kind, word in zip(form.kinds, words):
         of_kind(kind, word, form)
@@ -124,7 +134,7 @@ def of_words(words, form):
         raise Reason(f"there is a word too many: {printable(rest[0])}", form.name)
 
 
-def of_way(rest, form):
+def of_way(rest: list[str], form: Form) -> None:
     """The last words of a command that may end in several ways."""
     firsts = list(dict.fromkeys(it[0] for it in form.ways))
     some = " or ".join(filter(None, [", ".join(firsts[:-1]), firsts[-1]]))
@@ -150,7 +160,7 @@ def of_way(rest, form):
 WHAT = {"A": "address", "B": "address", "N": "priority"}
 
 
-def no_way(word, firsts, some, form):
+def no_way(word: str, firsts: list[str], some: str, form: Form) -> str:
     """What is said of a word that begins none of the ways."""
     if word.lower() in firsts:
         return f"{word.lower()} is lower case: {printable(word)}"
@@ -164,7 +174,7 @@ def no_way(word, firsts, some, form):
     return f"{some} may stand here: {printable(word)}"
 
 
-def of_kind(kind, word, form):
+def of_kind(kind: str, word: str, form: Form) -> None:
     """A word that isn't of the kind that its place wants."""
     if kind in ("P", "Q"):
         of_decimal("a process", word, 1, 32767)
@@ -187,9 +197,11 @@ def of_kind(kind, word, form):
         of_hex(word)
     elif kind == "PROT":
         of_prot(word)
+    elif kind == "ADVICE":
+        of_advice(word)
 
 
-def of_decimal(what, word, least, most):
+def of_decimal(what: str, word: str, least: int, most: int) -> None:
     """A decimal number from least to most, without sign, leading zero or unit."""
     see = f": {printable(word)}"
     if re.fullmatch("0[xX].*", word):
@@ -212,7 +224,7 @@ def of_decimal(what, word, least, most):
         raise Reason(f"{what} {bound}{see}")
 
 
-def of_area(word):
+def of_area(word: str) -> None:
     """A swap area: its number, 0 to 7."""
     if re.fullmatch("[0-9]+:[0-9]+", word):
         raise Reason(f"area and page of a slot are two words: {printable(word)}", "slot")
@@ -225,7 +237,7 @@ def of_area(word):
     of_decimal("a swap area", word, 0, 7)
 
 
-def of_address(word):
+def of_address(word: str) -> None:
     """An address: 1 to 16 lower-case hexadecimal digits, without 0x or leading zero."""
     see = f": {printable(word)}"
     if re.fullmatch("0[xX].*", word):
@@ -244,7 +256,7 @@ def of_address(word):
         raise Reason(f"an address has at most 16 digits{see}")
 
 
-def of_hex(word):
+def of_hex(word: str) -> None:
     """Bytes: two lower-case hexadecimal digits for each, 1 to 4096 of them."""
     see = f": {printable(word)}"
     if re.fullmatch("0[xX].*", word):
@@ -259,7 +271,7 @@ def of_hex(word):
         raise Reason(f"a write has at most 4096 bytes, and here are {len(word) // 2}")
 
 
-def of_prot(word):
+def of_prot(word: str) -> None:
     """A protection: r or -, w or -, x or -."""
     see = f": {printable(word)}"
     if re.fullmatch("[rwxRWX-]*[RWX][rwxRWX-]*", word):
@@ -270,3 +282,14 @@ def of_prot(word):
         raise Reason(f"a protection has the letters r, w, x, or - in their place{see}")
     if not re.fullmatch("[r-][w-][x-]", word):
         raise Reason(f"a protection has its letters in the order r, w, x{see}")
+
+
+def of_advice(word: str) -> None:
+    """What a `madvise` says of pages."""
+    see = f": {printable(word)}"
+    if word in ADVICE_LATER:
+        raise Reason(f"{word} is no advice yet", "madvise")
+    if word.lower().removeprefix("madv_") in ADVICE and word not in ADVICE:
+        raise Reason(f"an advice is lower case, without MADV_{see}", "madvise")
+    if word not in ADVICE:
+        raise Reason(f"an advice is {', '.join(ADVICE[:-1])} or {ADVICE[-1]}{see}", "madvise")

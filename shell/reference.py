@@ -7,12 +7,13 @@ command that gets its section there is known here, too.
 import os
 import re
 import textwrap
+from typing import Iterator
 
 from program import Refused
 
 FILE = os.path.join(os.path.dirname(os.path.realpath(__file__)), "..", "docs", "REFERENCE.md")
 # commands that the program gets in a later version, as long as the reference has none of them
-LATER = ("madvise", "mlock", "munlock", "merge", "compact")
+LATER = ("mlock", "munlock", "merge", "compact")
 
 
 class Form:
@@ -20,7 +21,7 @@ class Form:
     ways in which it may end, each a list of words.
     """
 
-    def __init__(self, heading):
+    def __init__(self, heading: str):
         found = re.fullmatch(r"([a-z]+)((?: [A-Z]+)*)(?: \[(.*)\])?", heading)
         self.heading = heading
         self.name = heading.split(" ")[0]
@@ -30,7 +31,7 @@ class Form:
         self.ways = list(ways_of(found[3])) if found and found[3] else []
 
 
-def ways_of(text):
+def ways_of(text: str) -> Iterator[list[str]]:
     """The ways of `maymove | fixed B | dontunmap [B]`: what may be left out gives two of them."""
     for way in text.split(" | "):
         words, _, more = way.partition(" [")
@@ -42,7 +43,7 @@ def ways_of(text):
 class Reference:
     """The reference, cut into its sections."""
 
-    def __init__(self, file=FILE):
+    def __init__(self, file: str = FILE):
         try:
             with open(file, encoding="utf-8") as it:
                 self.text = it.read()
@@ -52,30 +53,30 @@ class Reference:
         self.headings = [it[4:] for it in commands if it.startswith("### ")]
         self.forms = {it.name: it for it in map(Form, self.headings)}
 
-    def section(self, heading):
+    def section(self, heading: str) -> str:
         """The text of a section, from its heading to the next one of its level or above."""
         level = heading.split(" ")[0]
         pattern = rf"^{re.escape(heading)}\b.*?(?=^#{{1,{len(level)}}} |\Z)"
         found = re.search(pattern, self.text, re.M | re.S)
         return found[0] if found else ""
 
-    def first_sentence(self, name):
+    def first_sentence(self, name: str) -> str:
         """What a command does, in a sentence."""
         paragraphs = self.section(f"### {name}").split("\n\n")
         return plain(re.split(r"(?<=[.]) ", paragraphs[1])[0]) if len(paragraphs) > 1 else ""
 
-    def help(self, name, width):
+    def help(self, name: str, width: int) -> list[str]:
         """The section of a command, as lines of plain text."""
         section = self.section(("### " if name in self.forms else "## ") + name)
         return list(lines_of(section, width)) if section else []
 
 
-def plain(text):
+def plain(text: str) -> str:
     """Text without the signs of Markdown."""
     return re.sub(r"\[([^][]*)\]\([^()]*\)|\*\*(.*?)\*\*|`(.*?)`", r"\1\2\3", text).strip()
 
 
-def lines_of(section, width):
+def lines_of(section: str, width: int) -> Iterator[str]:
     """A section of Markdown as lines of at most so many characters, where words allow that."""
     for paragraph in re.split(r"\n\n+", section.strip()):
         rows = paragraph.split("\n")
@@ -91,7 +92,7 @@ def lines_of(section, width):
         yield ""
 
 
-def table_lines(rows, width):
+def table_lines(rows: list[str], width: int) -> Iterator[str]:
     """A table: the first column beside the others."""
     cells = [[plain(it) for it in re.split(r" \| | \|$|^\| ", row)[1:-1]] for row in rows]
     del cells[1]

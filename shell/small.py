@@ -3,12 +3,25 @@ stands, `20000+3p` an address three pages on, and `touch P A LEN` a write to eac
 """
 import re
 
+from reference import Form, Reference
+
 PAGE = 4096
 # pages of one touch: as many as a machine has frames at most
 MOST_TOUCHED = 16384
 
 
-def lines_for(text, reference):
+def without_blanks(line: str) -> str:
+    """A line without the blanks that no trace has: tabs, spaces around it, and more than one."""
+    text = line.strip(" \t")
+    return line if line.startswith("#") else text if text.startswith("#") else spaced(text)
+
+
+def spaced(text: str) -> str:
+    """Words with one space between them."""
+    return re.sub("[ \t]+", " ", text)
+
+
+def lines_for(text: str, reference: Reference) -> list[str]:
     """The lines that are sent for a line that was typed: itself, where it has no small word. What
     makes no sense as a small word stays, so that the program refuses it.
     """
@@ -22,7 +35,7 @@ def lines_for(text, reference):
     return [" ".join([words[0], *map(plain_word, kinds, words[1:])])]
 
 
-def kinds_of(words, form):
+def kinds_of(words: list[str], form: Form) -> list[str]:
     """The kind of each word behind the name, as far as the form has one."""
     kinds, rest = list(form.kinds), words[1 + len(form.kinds) :]
     for way in form.ways:
@@ -31,7 +44,7 @@ def kinds_of(words, form):
     return kinds + [""] * len(words)
 
 
-def plain_word(kind, word):
+def plain_word(kind: str, word: str) -> str:
     """A word as the program has it."""
     if kind in ("LEN", "OLD", "NEW"):
         pages = re.fullmatch("(0|[1-9][0-9]{0,20})p", word)
@@ -43,7 +56,7 @@ def plain_word(kind, word):
     return word
 
 
-def writes_of_touch(words):
+def writes_of_touch(words: list[str]) -> list[str]:
     """The writes of `touch P A LEN`: one byte in each page that a range from A on begins in steps
     of a page.
     """

@@ -4,23 +4,31 @@ import re
 import shutil
 import signal
 import sys
+import tempfile
 import textwrap
+from typing import Iterator
+
+from shared.saying import count_of
 
 from program import EarlyEnd, Refused, lines_from
-from reasons import WORDS_OF_TALK, fault_of, reason_of, printable
+from reasons import WORDS_OF_TALK, fault_of, no_command, reason_of, printable
 from reference import Reference
 from session import BadLine, Session, Trouble, says_nothing
-from small import lines_for
-from terminal import Completion, Screen, Names, is_terminal, set_up
+from show import lines_of_show, processes_in
+from small import lines_for, without_blanks
+from terminal import Completion, History, Screen, Names, is_terminal, set_up
 
 PROMPT = "> "
-OWN_WORDS = "undo [N] | save FILE | load FILE | touch P A LEN | help [COMMAND] | quit"
+OWN_WORDS = (
+    "show [P] | view [FILE] | undo [N] | save FILE | load FILE | touch P A LEN | "
+    "help [COMMAND] | quit"
+)
 
 
 class Talk:
     """The prompt: reads a line, does it, and shows what came of it."""
 
-    def __init__(self, program, words):
+    def __init__(self, program: str, words: list[str]):
         self.reference = Reference()
         looks_good = lambda line: not fault_of(line, self.reference)
         self.session = Session(program, words, looks_good)
@@ -32,9 +40,12 @@ class Talk:
             "save": self.save,
             "load": self.load,
             "help": self.help,
+            "?": self.help,
+            "show": self.show,
+            "view": self.view,
         }
 
-    def lines(self):
+    def lines(self) -> Iterator[str]:
         """The lines of the session, as they come."""
         if not self.is_terminal:
             for line in lines_from(sys.stdin.buffer):
@@ -50,7 +61,7 @@ class Talk:
                 print()
                 return
 
-    def run(self):
+    def run(self) -> bool:
         """The session, up to its end; whether no line was refused."""
         for line in self.lines():
             if line.split() == ["quit"]:
@@ -69,26 +80,28 @@ class Talk:
         self.session.end()
         return not self.refusals
 
-    def refuse(self, text):
+    def refuse(self, text: str) -> None:
         """Says why something isn't done."""
         self.refusals += 1
         self.screen.own(text)
 
-    def sentence_for(self, line):
+    def sentence_for(self, line: bytes) -> str:
         """What is said of a bad line: its reason, and where the rule stands."""
         text = str(reason_of(line, self.reference))
         if line.split() == [b"exit"]:
             return f"{text}; quit leaves the session"
-        is_name = text.startswith("there is no command")
-        return text + f"; of the shell there are {', '.join(WORDS_OF_TALK)}" * is_name
+        if not text.startswith("there is no command"):
+            return text
+        name = line.split(b" ")[0].decode("ascii")
+        return no_command(name, [*self.reference.forms, *WORDS_OF_TALK])
 
-    def do(self, line):
+    def do(self, line: str) -> None:
         """Does a line: a word of the shell, or commands."""
         words = line.split()
         if words and words[0] in self.own_words:
             self.own_words[words[0]](words[1:])
             return
-        sent = lines_for(line, self.reference)
+        sent = lines_for(without_blanks(line), self.reference)
         given = [it.encode("utf-8", "surrogateescape") for it in sent]
         replies = self.session.do(given)
         for text, reply in zip(sent, replies):
@@ -97,11 +110,11 @@ class Talk:
             self.screen.reply(reply)
             self.remember(text, reply)
 
-    def remember(self, text, reply):
+    def remember(self, text: str, reply: list[str]) -> None:
         """Keeps what a command and its reply name, for completion."""
         self.names.see(text, self.reference.forms.get(text.split(" ")[0]), reply)
 
-    def undo(self, words):
+    def undo(self, words: list[str]) -> None:
         """`undo`, `undo N`: takes back the last command, or the last N."""
         if len(words) > 1 or words and not (words[0].isascii() and words[0].isdigit()):
             raise Trouble("undo has at most one word, how many commands to take back: undo 3")
@@ -109,19 +122,19 @@ class Talk:
         if not gone:
             self.screen.own("there is nothing to undo")
         for step in gone[:10]:
-            more = f" .. and {plural(len(step) - 1, 'more line')}" * (len(step) > 1)
+            more = f" .. and {count_of(len(step) - 1, 'more line')}" * (len(step) > 1)
             self.screen.own(f"undone: {step[0].decode('ascii', 'replace')[:80]}{more}")
         if len(gone) > 10:
             self.screen.own(f"undone: {len(gone) - 10} more commands")
 
-    def save(self, words):
+    def save(self, words: list[str]) -> None:
         """`save FILE`: writes the good lines so far."""
         if len(words) != 1:
             raise Trouble("save has one word, the name of a file: save my.trace")
         count = self.session.save(words[0])
-        self.screen.own(f"saved: {plural(count, 'command')} in {words[0]}")
+        self.screen.own(f"saved: {count_of(count, 'command')} in {words[0]}")
 
-    def load(self, words):
+    def load(self, words: list[str]) -> None:
         """`load FILE`: does the lines of a trace."""
         if len(words) != 1:
             raise Trouble("load has one word, the name of a file: load my.trace")
@@ -134,27 +147,42 @@ class Talk:
         commands = [it for it in self.session.lines() if not says_nothing(it)]
         for line, reply in zip(commands[-len(replies) :], replies):
             self.remember(line.decode("ascii"), reply)
-        self.screen.own(f"loaded: {plural(len(replies), 'command')} of {words[0]}")
+        self.screen.own(f"loaded: {count_of(len(replies), 'command')} of {words[0]}")
         asked = self.session.machine_asked()
         if asked and asked != self.session.machine():
             wanted = asked.removeprefix("# Run it with ").removesuffix(".")
             self.screen.own(f"it is for {wanted}, and not for this machine")
 
-    def help(self, words):
+    def show(self, words: list[str]) -> None:
+        """`show`, `show P`: what each page is, and who has each frame."""
+        if len(words) > 1 or words and not re.fullmatch("[1-9][0-9]{0,4}", words[0]):
+            raise Trouble("show has at most one word, a process: show 1")
+        numbers = [int(words[0])] if words else processes_in(self.session.lines())
+        for line in lines_of_show(self.session.ask, numbers):
+            self.screen.own(line)
+
+    def view(self, words: list[str]) -> None:
+        """`view`, `view FILE`: writes the page of the session."""
+        if len(words) > 1:
+            raise Trouble("view has at most one word, the name of a file: view my.html")
+        file = words[0] if words else f"{tempfile.mkdtemp(prefix='avsim-view-')}/session.html"
+        self.screen.own(self.session.write_page(os.path.expanduser(file)))
+
+    def help(self, words: list[str]) -> None:
         """`help`, `help COMMAND`: what the reference says."""
         width = min(shutil.get_terminal_size().columns, 100) - 2
         if not words:
             self.screen.own("\n".join(self.overview(width)))
             return
         lines = self.reference.help(words[0], width) if len(words) == 1 else []
-        if not lines and words[0] in (*self.own_words, "touch", "quit"):
+        if not lines and words[0] in ("?", *WORDS_OF_TALK):
             lines = self.reference.help("Talk", width)
         if not lines:
             name = printable(" ".join(words))
             raise Trouble(f"help knows no command {name}; help alone lists them")
         self.screen.own("\n".join(lines).rstrip("\n"))
 
-    def overview(self, width):
+    def overview(self, width: int) -> Iterator[str]:
         """A line for each command, and the words of the shell."""
         for form in self.reference.forms.values():
             yield form.heading
@@ -167,12 +195,7 @@ class Talk:
         yield OWN_WORDS
 
 
-def plural(count, what):
-    """A number of things."""
-    return f"{count} {what}{'s' * (count != 1)}"
-
-
-def fault_of_file(name):
+def fault_of_file(name: str) -> str:
     """Why a swap file can't be opened, as far as that is seen, or nothing."""
     if os.path.isdir(name):
         return f"{name} is a folder"
@@ -181,7 +204,7 @@ def fault_of_file(name):
     return "" if os.access(name, os.R_OK | os.W_OK) else f"{name} is not for you to read and write"
 
 
-def no_session(words, why):
+def no_session(words: list[str], why: EarlyEnd) -> Refused:
     """Why there is no session: the words, or what became of the program."""
     if why.status != 2:
         fault = next(filter(None, map(fault_of_file, words[1:])), "") if why.status == 8 else ""
@@ -189,7 +212,7 @@ def no_session(words, why):
     return Refused(f"the program takes no such words behind FRAMES: {' '.join(words[1:])}", 2)
 
 
-def talk(program, words):
+def talk(program: str, words: list[str]) -> int:
     """A session. The status is 0; from a pipe it is 3 where something was refused."""
     if not words:
         raise Refused("FRAMES is missing, 1 to 16384, as in avsim talk 4", 2)
@@ -206,7 +229,10 @@ def talk(program, words):
         # (a shell that starts this in the background has control-C ignored)
         signal.signal(signal.SIGINT, signal.default_int_handler)
         set_up(Completion(it.reference, it.names))
-        frames = plural(int(words[0]), "frame")
+        history = History()
+        frames = count_of(int(words[0]), "frame")
         it.screen.own(f"{frames}; help lists the commands, quit or control-D leaves")
     all_done = it.run()
+    if it.is_terminal:
+        history.save()
     return 0 if all_done or it.is_terminal else 3

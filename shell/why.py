@@ -1,9 +1,10 @@
 """`avsim why < TRACE`: each line of a trace that is no command, with its reason."""
 import itertools
 import sys
+from typing import BinaryIO, Iterator
 
 from program import Judge, Refused, lines_from
-from reasons import LINE_LIMIT, reason_of
+from reasons import LINE_LIMIT, Reason, reason_of
 from reference import Reference
 
 # lines that are judged together
@@ -12,7 +13,7 @@ BATCH = 8192
 KEPT = LINE_LIMIT + 1
 
 
-def lines_of(file):
+def lines_of(file: BinaryIO) -> Iterator[bytes]:
     """The lines of a trace, without their newlines; of one that is too long only its beginning."""
     pieces = lines_from(file, KEPT + 1)
     for line in pieces:
@@ -22,7 +23,9 @@ def lines_of(file):
         yield line[:-1] if line.endswith(b"\n") else line[:KEPT]
 
 
-def lines_with_reasons(judge, reference, file):
+def lines_with_reasons(
+    judge: Judge, reference: Reference, file: BinaryIO
+) -> Iterator[tuple[int, Reason | None]]:
     """The number of each line, with the reason of one that is no command."""
     lines = enumerate(lines_of(file), 1)
     while batch := list(itertools.islice(lines, BATCH)):
@@ -32,7 +35,7 @@ def lines_with_reasons(judge, reference, file):
             yield number, reasons.get(line)
 
 
-def why(program, words):
+def why(program: str, words: list[str]) -> int:
     """Tells the bad lines of standard input. The status is 0 if there is none, else 3."""
     if words:
         raise Refused("a trace comes on standard input: avsim why < my.trace", 2)

@@ -3,19 +3,15 @@ docs/LINUX.md others aren't.
 """
 import collections
 import enum
-import os
 import re
-import sys
 from typing import Iterator, NamedTuple
 
-ROOT = os.path.dirname(os.path.dirname(os.path.realpath(__file__)))
-sys.path.insert(0, f"{ROOT}/view")
+from shared.saying import Refused
 
-import making  # pylint: disable=wrong-import-position
+import making
 from kernel import NOBODY, Kernel, maps_of
 from proc import Area
 from rows import BOUNDS, KEYS, Line, Row, careful, mending, other_bounds, row_of
-from saying import Refused
 from shift import GAP, WIDE, NotAsked
 from stubs import Gone, Stub
 
@@ -24,6 +20,8 @@ NO_FRAME = "the model has no frame for it, or its device failed"
 LIMIT = "the model has as many processes as it takes"
 LOST = "its process went another way before, in line {}"
 CHANGES = "and other pages are mapped then"
+# the flag of an area whose pages a copy doesn't get, in smaps
+LEFT_OUT = "dc"
 # how often frames are looked at, which the kernel may move meanwhile
 TRIES = 3
 
@@ -74,10 +72,7 @@ def model_of(program: str, machine: list[str], trace: str) -> list[Asked]:
         lines.append(it)
         if it.line.startswith("rmap "):
             lines.append(it._replace(comment=None, line=f"entry {it.line[5:]}"))
-    try:
-        found = making.Run(program, machine, lines)
-    except making.Refused as why:
-        raise Refused(str(why)) from None
+    found = making.Run(program, machine, lines)
     if len(found) < len(lines):
         raise Refused(found.said)
     asked: list[Asked] = []
@@ -208,6 +203,8 @@ class Beside:
     def ask_carefully(self, line: Line, rows: list[Row]) -> Difference | None:
         """A line that Linux may answer otherwise: of a copy of its process first."""
         process = self.kernel.process(line.process)
+        if any(LEFT_OUT in it.flags for it in self.kernel.areas(process, "smaps")):
+            return self.ask_itself(process, line, rows)
         linux, changes = self.ask_copy(process, line)
         if linux != line.said:
             row = next((it for it in rows if it.says(line, linux)), None)
@@ -219,6 +216,18 @@ class Beside:
             return Difference(line, [line.said], [linux], row, CHANGES) if changes else None
         linux = self.kernel.call(process, line.words, line.said)
         return None if linux == line.said else Difference(line, [line.said], [linux], None)
+
+    def ask_itself(self, process: Stub, line: Line, rows: list[Row]) -> Difference | None:
+        """A line of a process of which a copy wouldn't have all pages. Where Linux answers
+        otherwise, or may have changed something, it goes another way from then on.
+        """
+        linux = self.kernel.call(process, line.words, line.said)
+        row = next((it for it in rows if it.says(line, linux)), None)
+        if linux != line.said and line.place >= 0 and linux.startswith("err "):
+            self.mend(line, process, row)
+        elif linux != line.said or line.place < 0 and any(it.changes for it in rows):
+            self.lost[line.process] = line.number
+        return Difference(line, [line.said], [linux], row) if linux != line.said else None
 
     def ask_copy(self, process: Stub, line: Line) -> tuple[str, bool]:
         """What a copy of a process answers, and whether other pages are mapped then."""
@@ -246,8 +255,8 @@ class Beside:
 
     def pass_over(self, line: Line, why: str) -> None:
         self.passed.setdefault(why, collections.Counter())[line.name] += 1
-        changes = line.name in ("write", "mmap", "munmap", "mprotect", "mremap")
-        is_refused = line.said.startswith("err ") and line.name != "mprotect"
+        changes = line.name in ("write", "mmap", "munmap", "mprotect", "mremap", "madvise")
+        is_refused = line.said.startswith("err ") and line.name not in ("mprotect", "madvise")
         if why in (GAP, WIDE) and changes and not is_refused:
             self.lost[line.process] = line.number
 

@@ -1,13 +1,12 @@
 """The words of the calls of memory, as strace prints them."""
-import os
 import re
 from typing import NamedTuple
 
-REFERENCE = os.path.join(os.path.dirname(os.path.realpath(__file__)), "..", "docs", "REFERENCE.md")
 AT, COUNT, FLAGS = r"(NULL|0x[0-9a-f]+)", r"(\d+)", r"([A-Z0-9a-fx_|<]+)"
 # what stands between the brackets of each call
 FORMS = {
-    "mmap": rf"{AT}, {COUNT}, {FLAGS}, {FLAGS}, (-?\d+)(?:<.*>)?, (?:0x[0-9a-f]+|\d+)",
+    "mmap": rf"{AT}, {COUNT}, {FLAGS}, {FLAGS}, (-?\d+)(?:<(.*)>)?(?:\(deleted\))?, "
+    r"(?:0x[0-9a-f]+|\d+)",
     "munmap": rf"{AT}, {COUNT}",
     "mprotect": rf"{AT}, {COUNT}, {FLAGS}",
     "pkey_mprotect": rf"{AT}, {COUNT}, {FLAGS}, (-?\d+)",
@@ -23,7 +22,8 @@ WITHOUT = set(
 )
 # those of them that map something
 MAPS_TOO = ("io_setup", "map_shadow_stack", "shmat")
-# the words of `madvise`, where the reference has that command
+# what `madvise` says, with its word in a trace. All else changes how memory is made ready, when it
+# is reclaimed or what is dumped, and no page's bytes or sharing: MADV_FREE may, but need not
 ADVICE = {
     "MADV_DONTNEED": "dontneed",
     "MADV_DONTFORK": "dontfork",
@@ -70,13 +70,3 @@ def kind_of(flags: list[str], file: str) -> str:
     if not is_private or not is_anonymous and file == "-1":
         raise ValueError("|".join(flags))
     return "anonymous" if is_anonymous else "file"
-
-
-def advice_of_model() -> set[str]:
-    """The words of `madvise` that the reference has: none as long as it has no such command."""
-    try:
-        with open(REFERENCE, encoding="utf-8") as it:
-            section = re.search(r"^### madvise\b.*?(?=^#{2,3} |\Z)", it.read(), re.M | re.S)
-    except OSError:
-        return set()
-    return {it for it in ADVICE.values() if section and f"`{it}`" in section[0]}

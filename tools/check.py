@@ -1,17 +1,16 @@
 """Where the model answers a trace otherwise than the kernel answered the program, and which rule
 of docs/LINUX.md explains it.
 """
-import os
 import re
-import sys
+import tempfile
 from typing import Iterator
 
-ROOT = os.path.dirname(os.path.dirname(os.path.realpath(__file__)))
-sys.path.insert(0, f"{ROOT}/view")
+from shared import ROOT
+from shared.saying import Refused, count_of
 
-import making  # pylint: disable=wrong-import-position
+import making
 from memory import Command
-from saying import Refused, count_of
+from swapfile import Machine, words_of
 
 # a rule is a section of docs/LINUX.md and the beginning of a row in it
 SPAWN = ("The calls", "`spawn P`")
@@ -23,16 +22,19 @@ RULES = (SPAWN, LOWEST, LIMITS, ONE_PROTECTION, SAME_LENGTH)
 NONE = "no rule of docs/LINUX.md explains it"
 
 
-def run(program: str, frames: int, commands: list[Command]) -> list[list[str]]:
-    """The replies of the model, each a list of lines."""
-    lines = [making.Command(number, "", it.line) for number, it in enumerate(commands, 1)]
+def run(program: str, machine: Machine, commands: list[Command]) -> list[list[str]]:
+    """The replies of the model on a machine, each a list of lines."""
+    on = [f"swapon {area}" for area in range(len(machine.areas))]
+    texts = [*on, *(it.line for it in commands)]
+    lines = [making.Command(number, "", it) for number, it in enumerate(texts, 1)]
     try:
-        found = making.Run(program, [str(frames)], lines)
-    except making.Refused as why:
+        with tempfile.TemporaryDirectory() as room:
+            found = making.Run(program, words_of(machine, room), lines)
+    except OSError as why:
         raise Refused(str(why)) from None
-    if len(found) < len(commands):
+    if len(found) < len(lines):
         raise Refused(f"the model ends early: {found.said}")
-    return found.replies
+    return found.replies[len(on) :]
 
 
 def rows_of(text: str) -> Iterator[tuple[list[str], list[str]]]:
@@ -65,7 +67,7 @@ def rule_of(command: Command, reply: str) -> tuple[str, str] | None:
     """The rule that explains a reply; None where there is none."""
     words, error = command.line.split(" "), reply.removeprefix("err ")
     match words[0], error:
-        case "mprotect", "ENOMEM":
+        case "mprotect" | "madvise", "ENOMEM":
             return SPAWN if command.missing == "execve" else None
         case "mremap", "EFAULT" if command.missing:
             return SPAWN if command.missing == "execve" else None
@@ -121,7 +123,7 @@ class Differences:
 def check(found, program: str) -> int:
     """Tells the differences, and how many there are; 3 where one isn't explained."""
     commands, differences = found.memory.commands, Differences()
-    for command, reply in zip(commands, run(program, found.frames(), commands)):
+    for command, reply in zip(commands, run(program, found.machine(), commands)):
         differences.take(command, reply[0])
     for why, told in differences.found.items():
         print(why, *told, sep="\n  ")

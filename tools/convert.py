@@ -2,18 +2,21 @@
 and the accesses that page faults tell of, by time.
 """
 import dataclasses
+import functools
 import re
 
-from calls import advice_of_model
+from shared.saying import Refused, count_of, name_of, printable
+
 from faults import Fault
 from memory import Command, Memory
-from saying import Refused, count_of, printable
+from peak import Peak
 from spaces import Space
 from strace import ALONE, NEVER, Call, Step
+from swapfile import MOST_FILES, MOST_FRAMES, MOST_PAGES, Machine, comment_for
 
 FORKS = ("clone", "clone3", "fork", "vfork")
-# numbers that a process may have, and frames that a machine may have
-MOST_PROCESSES, MOST_FRAMES = 32767, 16384
+# the greatest number that a process may have
+MOST_PROCESSES = 32767
 
 CHILD = re.compile(r"(\d+)(?: /\* (\d+) in strace's PID NS \*/)?(?: <\d+\.\d+>)?")
 
@@ -21,13 +24,15 @@ CHILD = re.compile(r"(\d+)(?: /\* (\d+) in strace's PID NS \*/)?(?: <\d+\.\d+>)?
 @dataclasses.dataclass(slots=True)
 class Options:
     """What the words of the command line ask for. `guess` is what a fault is that could be a read
-    or a write, and `touch` how many pages of a writable mapping are written.
+    or a write, `touch` how many pages of a writable mapping are written, and `frames` how many
+    the machine has: 0 means as many as are held at most.
     """
 
     anonymous_only: bool = False
     cut: bool = False
     guess: str = "write"
     touch: int = 0
+    frames: int = 0
 
 
 @dataclasses.dataclass(slots=True)
@@ -64,10 +69,12 @@ class Convert:
 
     def __init__(self, steps: list[Step], faults: list[Fault], options: Options):
         self.steps, self.faults, self.options = steps, faults, options
-        self.memory = Memory(options.anonymous_only, options.touch, advice_of_model())
+        self.memory = Memory(options.anonymous_only, options.touch)
         self.tally = self.memory.tally
         self.threads: dict[int, Thread] = {}
         self.all: list[Thread] = []
+        # the name of the program that runs first
+        self.program = ""
         # the calls that make a thread and haven't returned, by its number
         self.making: dict[int, Call] = {}
         self.made: set[int] = set()
@@ -148,7 +155,7 @@ class Convert:
                 "begun while the program ran"
             )
         space = Space(self.number(step.place), "log")
-        comment = f"process {space.number} is {step.thread}, and what it had before isn't known"
+        comment = f"process {space.number}: ? (thread {step.thread}; what it had isn't known)"
         self.memory.at(step.place, step.text)
         self.memory.add(f"spawn {space.number}", "ok", comment)
         return self.begin(Thread(step.thread, step.thread, space))
@@ -201,7 +208,8 @@ class Convert:
         child = Space(self.number(call.place), space.rest, space, call.time)
         self.tally.kept["fork"] += 1
         self.memory.at(call.place, str(call))
-        comment = f"process {child.number} is {number}, a child of {call.thread}"
+        whose = f"thread {number}, a child of {call.thread}"
+        comment = f"process {child.number}: {child.name or '?'} ({whose})"
         self.memory.add(f"fork {space.number} {child.number}", "ok", comment)
         return child
 
@@ -217,10 +225,13 @@ class Convert:
         old, is_free = thread.space, self.empty(thread)
         number = old.number if is_free else self.number(call.place)
         self.numbers.add(number)
-        thread.enter(Space(number, "execve"), call.time, self.now)
-        self.tally.kept["execve"] += 1
         path = re.search(r'"((?:[^"\\]|\\.)*)"', call.words)
-        comment = f"process {number} is {thread.number}: {path[1] if path else '?'}"
+        space = Space(number, "execve")
+        space.name = name_of(path[1]) if path else ""
+        self.program = self.program or space.name
+        thread.enter(space, call.time, self.now)
+        self.tally.kept["execve"] += 1
+        comment = f"process {number}: {space.name or '?'} (thread {thread.number})"
         self.memory.add(f"spawn {number}", "ok", comment)
 
     def empty(self, thread: Thread) -> bool:
@@ -313,14 +324,30 @@ class Convert:
 
     # the trace
 
-    def frames(self) -> int:
-        """As many frames as the trace takes at most, as far as there can be so many."""
-        writes = sum(it.line.startswith("write") for it in self.memory.commands)
-        return min(max(writes, 1), MOST_FRAMES)
+    @functools.cached_property
+    def most(self) -> int:
+        """How many frames the trace holds at most, where there are so many."""
+        peak = Peak()
+        for it in self.memory.commands:
+            if it.wanted.split(" ")[0] not in ("segv", "err"):
+                peak.take(it.line)
+        return peak.most
 
-    def text(self, title: str, with_origin: bool) -> str:
+    def machine(self) -> Machine:
+        """A machine on which each write finds room. Pages that have no frame are in slots, of which
+        each frame may hold one beside.
+        """
+        frames = self.options.frames or min(max(self.most, 1), MOST_FRAMES)
+        slots, areas = self.most + frames if self.most > frames else 0, []
+        while slots and len(areas) < MOST_FILES:
+            areas.append((min(slots, MOST_PAGES - 1) + 1, []))
+            slots -= areas[-1][0] - 1
+        return Machine(str(frames), areas)
+
+    def text(self, log: str, machine: Machine, with_origin: bool) -> str:
         """The trace. Its last line is a comment, so that one can see that it is whole."""
-        lines = [f"# {title}", f"# Run it with {count_of(self.frames(), 'frame')}."]
+        lines = [f"# {self.program or log} as a trace, by tools/from-strace", comment_for(machine)]
+        lines += [f"swapon {area}" for area in range(len(machine.areas))]
         for it in self.memory.commands:
             lines += [f"# {it.comment}"] if it.comment else []
             lines += [f"# {it.place}: {it.origin[:400]}"] if with_origin and it.origin else []

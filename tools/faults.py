@@ -9,11 +9,14 @@ import dataclasses
 import re
 from typing import Iterator
 
-from saying import Refused, lines_of, name_of, printable
+from shared.saying import Refused, lines_of, name_of, printable
+
 from strace import time_of
 
 # the first and the last line of what tools/record leaves, so that one sees whether it is whole
 HEAD, TAIL = "# faults, as perf script prints them", "# end"
+# the first line of accesses that were recorded with the log, so that they have its clock
+ON_CLOCK = "# accesses, on the clock of the log"
 # who runs beside the program
 OTHERS = ("strace", "perf", "perf-exec")
 # nanoseconds from the beginning of a call to the first touch of what it mapped, at the least
@@ -44,7 +47,7 @@ class Fault:
 def read_faults(file: str) -> list[Fault]:
     """The faults of a file, by time, without those of strace itself before it ran the program."""
     lines = lines_of(file)
-    if lines[0] == HEAD and lines[-1] != TAIL:
+    if lines[0] in (HEAD, ON_CLOCK) and lines[-1] != TAIL:
         raise Refused(f"{file}, line {len(lines)}: it doesn't end with {TAIL!r}, so it was cut")
     found = []
     for number, line in enumerate(lines, 1):
@@ -138,6 +141,11 @@ def most_common(spans: list[tuple[int, int]]) -> tuple[int, int]:
             if count > most:
                 is_best, most, low = True, count, at
     return low, high
+
+
+def is_on_clock(file: str) -> bool:
+    """Whether the times of a file are those of the log."""
+    return lines_of(file)[0] == ON_CLOCK
 
 
 def on_clock_of(threads: list, faults: list[Fault], file: str) -> tuple[int, int]:

@@ -10,14 +10,18 @@ import os
 import signal
 from typing import Callable, Iterator
 
+from shared.saying import Refused
+
 from proc import Area, Pagemap, areas_of, row_of
 from ranges import PAGE, Range, Ranges, up
-from saying import Refused
 from shift import GAP, SPLIT, TOP, NotAsked, Shift
-from stubs import ANONYMOUS, FIXED, MMAP, MUNMAP, NORESERVE, PRIVATE, Gone, Mother, Stub
+from stubs import ANONYMOUS, FIXED, MADVISE, MMAP, MUNMAP, NORESERVE, PRIVATE
+from stubs import Gone, Mother, Stub
 
 NOREPLACE, MAYMOVE, TO_PLACE, DONTUNMAP = 0x100000, 1, 2, 4
 MPROTECT, MREMAP = 10, 25
+# the numbers of what madvise says
+ADVICE = {"dontneed": 4, "dontfork": 10, "dofork": 11, "wipeonfork": 18, "keeponfork": 19}
 # a file descriptor that is none
 NONE = 2**64 - 1
 # the most pages of a process that are looked through for a frame
@@ -89,12 +93,21 @@ def mremap(shift: Shift, words: list[str]) -> Call:
     return MREMAP, address, old_there, new_there, flags, target
 
 
+def madvise(shift: Shift, words: list[str]) -> Call:
+    address, length = shift.range_there(int(words[2], 16), int(words[3]))
+    if address < shift.base < address + up(length) < 2**64:
+        # (it would go on behind the hole, over what the kernel has there)
+        length = shift.base + PAGE - address
+    return MADVISE, address, length, ADVICE[words[4]]
+
+
 # the calls that commands stand for: what each is asked with
 CALLS: dict[str, Callable[[Shift, list[str]], Call]] = {
     "mmap": mmap,
     "munmap": munmap,
     "mprotect": mprotect,
     "mremap": mremap,
+    "madvise": madvise,
 }
 
 
@@ -166,12 +179,12 @@ class Kernel:
 
     @contextlib.contextmanager
     def hole_at_top(self, process: Stub, asked: Call) -> Iterator[None]:
-        """Lets a `mprotect` that goes on above TOP find a hole there, as it does in the model. (No
-        other call that does so gets as far.)
+        """Lets a `mprotect` or `madvise` that goes on above TOP find a hole there, as it does in the
+        model. (No other call that does so gets as far.)
         """
         number, address, length = asked[:3]
         base = self.shift.base
-        is_needed = number == MPROTECT and address < base < address + up(length)
+        is_needed = number in (MPROTECT, MADVISE) and address < base < address + up(length)
         if is_needed:
             process.call(MUNMAP, base, PAGE)
         yield

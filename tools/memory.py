@@ -8,6 +8,8 @@ import dataclasses
 import re
 from typing import NoReturn
 
+from shared.saying import Refused, name_of, printable
+
 from calls import (
     ADVICE,
     ANSWER,
@@ -21,11 +23,13 @@ from calls import (
     kind_of,
     protection_of,
 )
+from labels import MAPPING
 from ranges import PAGE, Range, up
-from saying import Refused, printable
 from spaces import Space, runs_of
 from strace import Call
 
+# the name of what brk maps
+HEAP = "[heap]"
 # kinds of what is left out
 SHARED = "shared (its place is kept, as ---)"
 OF_FILE = "of a file"
@@ -64,8 +68,8 @@ class Tally:
 class Memory:
     """Calls of memory, one after the other."""
 
-    def __init__(self, anonymous_only: bool, touch: int, advice: set[str]):
-        self.anonymous_only, self.touch_pages, self.advice = anonymous_only, touch, advice
+    def __init__(self, anonymous_only: bool, touch: int):
+        self.anonymous_only, self.touch_pages = anonymous_only, touch
         self.tally, self.commands = Tally(), []
         self.place, self.origin, self.call = "", "", None
 
@@ -116,9 +120,13 @@ class Memory:
         getattr(self, name)(space, self.words(), number)
 
     def fail(self, space: Space, error: str) -> None:
-        """A call that failed; a mprotect that met a hole changed the pages before it."""
+        """A call that failed; a mprotect that met a hole changed the pages before it, and a madvise
+        all that are mapped.
+        """
         if self.call.name == "mprotect" and error == "ENOMEM":
             self.protect(space, self.words(), f"err {error}")
+        elif self.call.name == "madvise" and error == "ENOMEM":
+            self.advise(space, self.words(), f"err {error}")
         else:
             self.tally.failed[f"{self.call.name} {error}"] += 1
 
@@ -131,20 +139,22 @@ class Memory:
             self.refuse("an answer that no such call has")
         for flag in set(flags) & set(PASSED_OVER):
             self.tally.flags[flag] += 1
+        name = name_of(words[6] or "")
         if kind == "shared":
             self.tally.left_out[f"mmap, {SHARED}"] += 1
-            self.map(space, at, length, "---")
+            self.map(space, at, length, "---", name)
         elif not self.has(kind):
             self.tally.left_out[f"mmap {OF_FILE}"] += 1
             self.clear(space, at, length)
         else:
             self.tally.kept[f"mmap {OF_FILE}" if kind == "file" else "mmap"] += 1
-            self.map(space, at, length, prot)
+            self.map(space, at, length, prot, name)
         space.map(at, end, Mapped(prot, kind), self.call.time)
         self.touch(space, at, end)
 
-    def map(self, space: Space, at: int, length: int, prot: str) -> None:
-        self.add(f"mmap {space.number} {length} {prot} fixed {at:x}", f"map {at:x}")
+    def map(self, space: Space, at: int, length: int, prot: str, name: str = "") -> None:
+        line = f"mmap {space.number} {length} {prot} fixed {at:x}"
+        self.add(line, f"map {at:x}", f"{MAPPING}{name}" if name else "")
 
     def clear(self, space: Space, at: int, length: int) -> None:
         """Something comes that isn't in the trace: what it replaces goes."""
@@ -223,14 +233,23 @@ class Memory:
         )
 
     def madvise(self, space: Space, words: re.Match, _answer: int) -> None:
-        word = ADVICE.get(words[3], "")
-        if word not in self.advice:
-            self.tally.left_out[f"madvise {printable(words[3])}"] += 1
+        self.advise(space, words, "ok")
+
+    def advise(self, space: Space, words: re.Match, wanted: str) -> None:
+        """The pages that the trace has in a range are advised."""
+        start, length, word = address_of(words[1]), int(words[2]), ADVICE.get(words[3])
+        parts = space.ranges.within(start, start + up(length))
+        ours = [it for it in parts if self.has(it.of.kind)]
+        if not word or parts and not ours:
+            what = "of mappings that are left out" if word else printable(words[3])
+            self.tally.left_out[f"madvise {what}"] += 1
             return
         self.tally.kept["madvise"] += 1
-        start, length = address_of(words[1]), int(words[2])
-        line = f"madvise {space.number} {start:x} {length} {word}"
-        self.add(line, "ok", missing=space.missing(start, length))
+        if len(ours) == len(parts):
+            line = f"madvise {space.number} {start:x} {length} {word}"
+            self.add(line, wanted, missing=space.missing(start, length))
+        for at, end in runs_of(ours) if len(ours) < len(parts) else ():
+            self.add(f"madvise {space.number} {at:x} {end - at} {word}", "ok")
 
     def brk(self, space: Space, _words: re.Match, to: int) -> None:
         """The heap is a mapping of its own, from the first break on."""
@@ -240,7 +259,7 @@ class Memory:
             return
         self.tally.kept["brk"] += 1
         if new > old:
-            self.map(space, old, new - old, "rw-")
+            self.map(space, old, new - old, "rw-", HEAP)
             space.map(old, new, Mapped("rw-", "anonymous"), self.call.time)
             self.touch(space, old, new)
         else:

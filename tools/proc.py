@@ -4,7 +4,7 @@ import re
 import struct
 from typing import Iterator, NamedTuple
 
-from saying import Refused
+from shared.saying import Refused
 
 PAGE = 4096
 ROW = re.compile(r"([0-9a-f]+)-([0-9a-f]+) ([r-][w-][x-])([ps]) [0-9a-f]+ [0-9a-f:]+ \d+ *(.*)")

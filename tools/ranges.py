@@ -1,7 +1,7 @@
 """Ranges of addresses, each with what is known of it: kept in order, none over another."""
 import bisect
 import dataclasses
-from typing import Any, Iterator
+from typing import Any, Iterable
 
 PAGE = 4096
 
@@ -23,7 +23,7 @@ class Range:
 class Ranges:
     """Ranges in order."""
 
-    def __init__(self, ranges: Iterator[Range] = ()):
+    def __init__(self, ranges: Iterable[Range] = ()):
         self.ranges = [dataclasses.replace(it) for it in ranges]
 
     def __iter__(self):

@@ -249,6 +249,8 @@ def row_of(line: Line, reply: str, is_child: bool) -> Row | None:
             return LIMITED
         case "mmap" | "mprotect" | "mremap" | "munmap", _, "err ENOMEM" if is_tight(line):
             return ACCOUNTING
+        case "madvise", _, "err EAGAIN" if is_tight(line):
+            return ACCOUNTING
     return None
 
 

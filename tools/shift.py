@@ -5,8 +5,9 @@ the upper half of the addresses lies lower there, by one number for all: TOP is 
 has below `SPLIT` lies where the trace says, and so does what it names from TOP on. In between is a
 gap of that size, of which a trace can have no address.
 """
+from shared.saying import Refused
+
 from ranges import PAGE, up
-from saying import Refused
 
 LOW, TOP = 0x10000, 0x7FFFFFFFF000
 # between the addresses of most programs and those that mmap gives

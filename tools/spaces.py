@@ -5,11 +5,12 @@ from ranges import Range, Ranges, up
 
 class Space:
     """What calls mapped, and the end of the heap; the rest is `execve`'s, from before the `log`,
-    or of a call that is left out. `births` has the first time at which an address was mapped.
+    or of a call that is left out. `births` has the first time at which an address was mapped;
+    `name` is the program's.
     """
 
     def __init__(self, number: int, rest: str, parent: "Space | None" = None, now: int = -1):
-        self.number, self.rest = number, rest
+        self.number, self.rest, self.name = number, rest, parent.name if parent else ""
         self.ranges = Ranges(parent.ranges if parent else ())
         self.heap = parent.heap if parent else 0
         self.births = Ranges()

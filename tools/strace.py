@@ -10,7 +10,7 @@ import os
 import re
 from typing import NoReturn
 
-from saying import Refused, lines_of, name_of, printable
+from shared.saying import Refused, lines_of, name_of, printable
 
 # the number of the thread in a log without numbers
 ALONE = 0

@@ -19,9 +19,10 @@ import subprocess
 import tempfile
 from typing import Iterator
 
+from shared.saying import Refused, printable
+
 from proc import Pagemap, areas_of
 from ranges import PAGE
-from saying import Refused, printable
 from shift import TOP
 
 ROOT = os.path.dirname(os.path.dirname(os.path.realpath(__file__)))

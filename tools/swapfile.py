@@ -1,10 +1,12 @@
 """Swap files: the header that makes one, and the machine that the comments of a trace ask for."""
+import argparse
 import collections
 import itertools
 import os
 import re
 import stat
 import struct
+from typing import Sequence
 
 PAGE = 4096
 # where the fields of the header stand, and the words that end its page
@@ -12,8 +14,8 @@ VERSION, LAST, COUNT, BAD = 1024, 1028, 1032, 1536
 SIGNATURE = b"SWAPSPACE2"
 # bad pages that have room in a header, and pages of an area that are used
 MOST_BAD, MOST_PAGES = 637, 1_048_576
-# swap files that a machine has at most
-MOST_FILES = 8
+# frames and swap files that a machine has at most
+MOST_FRAMES, MOST_FILES = 16384, 8
 # a swap file in the words of a comment, and the machine that it speaks of
 AREA = r" of (\d{1,9}) pages?(?:, of which ([\d, to and]+) (?:is|are) bad)?"
 MACHINE = re.compile(
@@ -30,7 +32,7 @@ class Unfit(Exception):
     """Why a file isn't made, in one sentence."""
 
 
-def header(pages: int, bad: list[int] = ()) -> bytes:
+def header(pages: int, bad: Sequence[int] = ()) -> bytes:
     """The first page of an area of so many pages, as mkswap of a little-endian machine writes it,
     but without a UUID.
     """
@@ -49,7 +51,7 @@ def is_swap_file(file: str) -> bool:
         return it.read(PAGE)[-len(SIGNATURE) :] == SIGNATURE
 
 
-def make(file: str, pages: int, bad: list[int] = ()) -> None:
+def make(file: str, pages: int, bad: Sequence[int] = ()) -> None:
     """Makes a swap file: the header, and zeros that take no room on most disks. One that was there
     goes; any other file stays.
     """
@@ -125,6 +127,13 @@ def ranges_of(pages: list[int]) -> list[str]:
     return [f"{first} to {last}" if first < last else f"{first}" for first, last in found]
 
 
+def frames_of(word: str) -> int:
+    """The frames that a word of a command line asks for."""
+    if not re.fullmatch(r"[1-9][0-9]{0,4}", word) or int(word) > MOST_FRAMES:
+        raise argparse.ArgumentTypeError(f"it is 1 to {MOST_FRAMES}, and {word!r} isn't")
+    return int(word)
+
+
 def files_for(count: int) -> list[str]:
     """The names of so many swap files: `swap.img`, `swap1.img`, .."""
     return [f"swap{it or ''}.img" for it in range(count)]
@@ -132,7 +141,11 @@ def files_for(count: int) -> list[str]:
 
 def words_for(trace: str, room: str) -> list[str]:
     """The words behind `run` that a trace asks for. Its swap files are made in a folder."""
-    machine = asked_by(trace)[0]
+    return words_of(asked_by(trace)[0], room)
+
+
+def words_of(machine: Machine, room: str) -> list[str]:
+    """The words behind `run` of a machine, whose swap files are made in a folder."""
     files = [os.path.join(room, it) for it in files_for(len(machine.areas))]
     for file, area in zip(files, machine.areas):
         make(file, *area)

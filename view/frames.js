@@ -26,6 +26,7 @@ function cardOf(frame) {
   }
   if (gone.length || [...added].some(key => !lost.has(key))) card.classList.add("new");
   if (frame === lit.frame) card.classList.add("lit");
+  card.tabIndex = 0;
   card.dataset.frame = frame;
   return card;
 }
@@ -47,6 +48,7 @@ function newFrameCell(frame) {
   if (inUse(frame)) cell.style.background = colour(frame);
   if (change.frames.has(frame)) cell.classList.add("new");
   if (frame === lit.frame) cell.classList.add("lit");
+  cell.tabIndex = 0;
   cell.dataset.frame = frame;
   cell.title = `frame ${frame} maps ${owners}`;
   return cell;
@@ -95,10 +97,11 @@ function hasSwap() {
     || state.counts.size > 0 || change.off.size > 0;
 }
 
-function listOf(title, things, cellOf, said) {
+function listOf(title, things, cellOf, said, count = things.length) {
   const box = make("div", "cells");
-  const more = things.length - MOST_CELLS;
-  box.append(...things.slice(0, MOST_CELLS).map(cellOf));
+  const shown = things.slice(0, MOST_CELLS);
+  const more = count - shown.length;
+  box.append(...shown.map(it => cellOf(it)));
   if (more > 0) box.append(make("span", "soft", `and ${more} more`));
   if (!things.length) box.append(make("span", "soft", said));
   return [make("h3", "", title), box];
@@ -127,23 +130,37 @@ const framesIn = list => [...state.lists].filter(([, it]) => it.list === list)
   .sort(([, a], [, b]) => b.place - a.place).map(([frame]) => frame);
 const inFlight = () => [...state.flight].sort(([, a], [, b]) => a - b).map(([slot]) => slot);
 
-// the slots of each swap area that is on, or of which a slot is shown, with what is said of it
-const areaOf = slot => Number(slot.split(":")[0]), slotPage = slot => Number(slot.split(":")[1]);
+// the slots of an area that are drawn, in order; where they are too many, those that changed come
+// first. `gone` are those of an area that has just gone off.
+function slotsOf(area, gone) {
+  const named = state.named.get(area);
+  const pages = named ? sortedSlots(named) : [];
+  const count = pages.length + gone.length;
+  const inOrder = (a, b) => slotPage(a) - slotPage(b);
+  if (count <= MOST_CELLS) {
+    return {slots: [...[...pages].map(it => `${area}:${it}`), ...gone].sort(inOrder), count};
+  }
+  const isHere = it => areaOf(it) === area && state.counts.has(it);
+  const changed = [...[...change.slots].filter(isHere), ...gone].sort(inOrder);
+  const others = [];
+  for (let i = 0; i < pages.length && changed.length + others.length < MOST_CELLS; i++) {
+    if (!change.slots.has(`${area}:${pages[i]}`)) others.push(`${area}:${pages[i]}`);
+  }
+  return {slots: [...changed, ...others], count};
+}
 
+// the slots of each swap area that is on, or of which a slot is shown, with what is said of it
 function slotLists() {
   const isGone = it => !state.counts.has(it) && change.off.get(it) !== "count 0";
-  const gone = [...change.off.keys()].filter(isGone).map(it => [it]);
-  const all = [...state.counts, ...gone];
-  const areas = [...new Set([...state.areas.keys(), ...all.map(([it]) => areaOf(it))])];
+  const gone = [...change.off.keys()].filter(isGone);
+  const named = [...state.named].filter(([, it]) => it.pages.size).map(([area]) => area);
+  const areas = [...new Set([...state.areas.keys(), ...named, ...gone.map(areaOf)])];
   if (!areas.length) return listOf("slots", [], slotCell, "none was named");
   return areas.sort((a, b) => a - b).flatMap(area => {
-    const slots = all.filter(([it]) => areaOf(it) === area);
-    slots.sort(([a], [b]) => slotPage(a) - slotPage(b));
-    // (those that changed come first where there are too many)
-    const changedFirst = ([a], [b]) => change.slots.has(b) - change.slots.has(a);
-    if (slots.length > MOST_CELLS) slots.sort(changedFirst);
-    return listOf(`slots of area ${area}: ${state.areas.get(area) ?? "off"}`, slots,
-      ([slot, text]) => (text ? slotCell(slot, text) : goneSlotCell(slot)), "none was named");
+    const {slots, count} = slotsOf(area, gone.filter(it => areaOf(it) === area));
+    const cellOf = it => (state.counts.has(it) ? slotCell(it, state.counts.get(it)) : goneSlotCell(it));
+    const title = `slots of area ${area}: ${state.areas.get(area) ?? "off"}`;
+    return listOf(title, slots, cellOf, "none was named", count);
   });
 }
 

@@ -4,11 +4,14 @@ import os
 import queue
 import re
 import subprocess
-import sys
 import threading
-import time
 
-from told import BY_RANGE, Told, page_of
+from shared.meter import Progress
+from shared.saying import Refused
+
+from labels import is_label
+from names import Names
+from told import BY_RANGE, MIDWAY, Told, page_of
 
 # steps that one page has at most, and bytes
 MOST_STEPS, MOST_BYTES = 50_000, 90_000_000
@@ -16,34 +19,6 @@ MOST_STEPS, MOST_BYTES = 50_000, 90_000_000
 MOST_ROWS = 64
 # reports that are asked behind one command at most
 MOST_ASKED = 4096
-
-
-class Refused(Exception):
-    """What the user is told in place of a page."""
-
-
-class Progress:
-    """Says on standard error how far it is: on a terminal in one line that changes, elsewhere a
-    line now and then, from two seconds on.
-    """
-
-    def __init__(self):
-        self.is_terminal = sys.stderr.isatty()
-        self.next, self.shown = time.monotonic() + (0.2 if self.is_terminal else 2), False
-
-    def say(self, text: str) -> None:
-        now = time.monotonic()
-        if now < self.next:
-            return
-        self.next, self.shown = now + (0.2 if self.is_terminal else 2), True
-        print(*self.dressed(f"view: {text}"), end="", file=sys.stderr, flush=True)
-
-    def dressed(self, text: str) -> list[str]:
-        return [f"\r{text:<60}"] if self.is_terminal else [f"{text}\n"]
-
-    def end(self) -> None:
-        if self.shown and self.is_terminal:
-            print(f"\r{'':<60}\r", end="", file=sys.stderr, flush=True)
 
 
 Command = collections.namedtuple("Command", "number comment line")
@@ -96,7 +71,9 @@ def run_plainly(program: str, words: list[str], lines: list[str]) -> tuple[str, 
 
 
 class Run:
-    """A trace as avsim answers it. `said` is why it ended early, if it did."""
+    """A trace as avsim answers it. `said` is why it ended early, if it did, and `has_bad_line`
+    whether that was at a line that is no command.
+    """
 
     def __init__(self, program: str, words: list[str], commands: list[Command]):
         self.program, self.words, self.commands = program, words, commands
@@ -104,6 +81,7 @@ class Run:
         self.replies, self.said = replies_of(transcript), said
         if status == 2 or not self.replies and commands and status not in (0, 3):
             raise Refused(f"avsim ended with status {status}: {said or 'it says nothing'}")
+        self.has_bad_line = status == 3
         # (the program counts the lines that it was given, and here those without a command are
         # left out)
         if status == 3:
@@ -133,7 +111,7 @@ def pages_named(words: list[str]) -> range:
 def asks_areas(words: list[str], reply: list[str]) -> list[int]:
     """The processes whose areas a command may have changed."""
     is_done = not reply[0].startswith("err ")
-    if words[0] in BY_RANGE and (is_done or words[0] == "mprotect"):
+    if words[0] in BY_RANGE and (is_done or words[0] in MIDWAY):
         return [int(words[1])]
     if words[0] in ("read", "write") and any(it.startswith("new ") for it in reply[1:]):
         return [int(words[1])]
@@ -259,12 +237,17 @@ def step_of(command: Command, reply: list[str], ops: list[list]) -> dict:
     step = {"n": command.number, "c": command.line, "r": reply[:MOST_ROWS], "o": ops}
     if len(reply) > MOST_ROWS:
         step["more"] = len(reply) - MOST_ROWS
-    if command.comment:
-        step["t"] = command.comment
+    # (a comment that names something speaks of its own command alone, and ends the one before it)
+    lines = command.comment.split("\n") if command.comment else []
+    caption, label = ("\n".join(it for it in lines if is_label(it) == of) for of in (False, True))
+    if caption:
+        step["t"] = caption
+    if label:
+        step["l"] = label
     return step
 
 
-def follow(run: Run, progress: Progress):
+def follow(run: Run, progress: Progress, names: Names):
     """Each command with its reply, and what is known behind it. (The operations of `told` are
     those of this step, until the next one.)
     """
@@ -282,6 +265,7 @@ def follow(run: Run, progress: Progress):
             for slot in [it for it in told.counts if it.startswith(f"{words[1]}:")]:
                 told.answer_slot(slot, "")
         told.tell_of_areas()
+        told.ops += names.take(command.comment, words, reply)
         progress.say(f"{at} of {len(run)} commands")
         yield command, reply, told, same
 
@@ -300,6 +284,12 @@ def told_at(run: Run):
         told.ops.clear()
 
 
+def used_in(stat: str) -> int:
+    """The frames that are in use, by what `stat` says."""
+    numbers = dict(it.split("=") for it in stat.split())
+    return int(numbers.get("frames", 0)) - int(numbers.get("free", 0))
+
+
 def window_of(wanted: tuple[int, int] | None, count: int) -> tuple[int, int]:
     """The steps that a page shows, from 1: those that are wanted, else the last ones."""
     first, last = wanted or (max(1, count - MOST_STEPS + 1), count)
@@ -313,13 +303,15 @@ def window_of(wanted: tuple[int, int] | None, count: int) -> tuple[int, int]:
 
 def data_of(title: str, frames: int, run: Run, wanted: tuple[int, int] | None) -> dict:
     """What the page shows, as it stands in it."""
-    progress, steps, base, said, size = Progress(), [], [], [run.said], 0
+    progress, steps, base, said, size = Progress("view"), [], [], [run.said], 0
     first, last = window_of(wanted, len(run))
-    wrong = lost = 0
-    for at, (command, reply, told, same) in enumerate(follow(run, progress), 1):
+    wrong = lost = most = 0
+    names = Names()
+    for at, (command, reply, told, same) in enumerate(follow(run, progress, names), 1):
+        most = max(most, used_in(told.numbers))
         wrong, lost = wrong or (not same and command.number), lost or told.lost and command.number
         if at == first - 1:
-            base = told.all_ops()
+            base = told.all_ops() + names.all_ops(set(told.tables))
         if at < first:
             continue
         steps.append(step_of(command, reply, told.ops))
@@ -343,6 +335,7 @@ def data_of(title: str, frames: int, run: Run, wanted: tuple[int, int] | None) -
     return {
         "title": title,
         "frames": frames,
+        "most": most,
         "first": first,
         "total": len(run),
         "said": "; ".join(it for it in said if it),

@@ -14,7 +14,7 @@ function make(tag, kind, text) {
 }
 
 const many = (n, what) => `${n.toLocaleString("en")} ${what}${n === 1 ? "" : "s"}`;
-const colour = frame => `hsl(${(Number(frame) * 137.5) % 360} 75% 85%)`;
+const colour = frame => `hsl(${(Number(frame) * 137.5) % 360} var(--frame))`;
 
 function entryText(code) {
   const frame = frameOf(code);
@@ -40,24 +40,26 @@ function cellOf(number, page, code, kind, isNew) {
   if (frame >= 0) cell.style.background = colour(frame);
   if (isNew) cell.classList.add("new");
   if (frame >= 0 && frame === lit.frame || page === lit.page) cell.classList.add("lit");
+  if (change.used.has(keyOf(number, page))) cell.classList.add("used");
+  cell.tabIndex = 0;
   cell.dataset.at = `${number} ${page.toString(16)} ${code}`;
   return cell;
 }
 
-// the pages of a long area that are drawn: those that changed or are lit, and the first others
+// the pages of a long area that are drawn: those that changed, were used or are lit, and the first
+// others
 function chosenPages(number, process, row, isWanted) {
   const sorted = sortedPages(process);
-  const inside = [...sorted.subarray(lowerBound(sorted, row.start), lowerBound(sorted, row.end))];
+  const inside = sorted.subarray(lowerBound(sorted, row.start), lowerBound(sorted, row.end));
   const chosen = new Set();
-  for (const key of change.entries.keys()) {
+  for (const key of [...change.used, ...change.entries.keys()]) {
     const page = pageOf(key);
     const isHere = processOf(key) === number && row.start <= page && page < row.end;
     if (isHere && chosen.size < MOST_CHANGED) chosen.add(page);
   }
   if (row.start <= lit.page && lit.page < row.end) chosen.add(lit.page);
-  for (const page of inside.filter(isWanted)) chosen.add(page);
-  let room = MOST_CELLS - chosen.size;
-  for (const page of inside) if (room > 0 && !chosen.has(page)) { chosen.add(page); room--; }
+  if (lit.frame >= 0) for (const page of inside.filter(isWanted)) chosen.add(page);
+  for (const page of inside.subarray(0, MOST_CELLS)) if (chosen.size < MOST_CELLS) chosen.add(page);
   return {pages: [...chosen].sort((a, b) => a - b), inside};
 }
 
@@ -72,7 +74,7 @@ function cellsOf(number, process, row, codeAt, isNew) {
     }
     return cells;
   }
-  const isLit = page => lit.frame >= 0 && frameOf(codeAt(page)) === lit.frame;
+  const isLit = page => frameOf(codeAt(page)) === lit.frame;
   const {pages, inside} = chosenPages(number, process, row, isLit);
   const without = process.dim ? "not known" : "without entry";
   let next = row.start, passed = 0;
@@ -97,6 +99,8 @@ function rowElement(number, process, row, kind, isMarked) {
   const count = row.end - row.start;
   const box = make("div", `row ${kind}${count > BIG_CELLS ? " long" : ""}`);
   box.append(make("span", "text", `${kind === "gone" ? "was " : ""}${row.text}`));
+  const name = namesIn(number, row);
+  if (name) box.append(make("span", "name soft", name));
   const isGone = kind === "gone";
   const codeAt = page =>
     (isGone && change.entries.get(keyOf(number, page))) || codeIn(process, page);
@@ -141,9 +145,11 @@ function drawnRow(number, process, row, dirtyRows, marked) {
   const kept = cache.get(row.text);
   const isFresh = change.fresh.get(number)?.includes(row) || change.born.has(number);
   const isMarked = isFresh || marked.has(row);
-  if (kept && !kept.isMarked && !isMarked && !dirtyRows.has(row)) return kept.box;
+  const name = namesIn(number, row);
+  const isKept = kept && kept.name === name;
+  if (isKept && !kept.isMarked && !isMarked && !dirtyRows.has(row)) return kept.box;
   const box = rowElement(number, process, row, isFresh ? "new" : "", marked.has(row));
-  cache.set(row.text, {box, isMarked});
+  cache.set(row.text, {box, isMarked, name});
   return box;
 }
 
@@ -211,6 +217,8 @@ function boxOf(number) {
   if (!boxes.has(number)) {
     const box = make("div", "process");
     const head = make("h3");
+    head.tabIndex = 0;
+    head.dataset.process = number;
     head.onclick = () => toggle(number, false);
     box.append(head, make("div"));
     boxes.set(number, box);
@@ -226,7 +234,8 @@ function spaceBox(number, pagesChanged) {
   const rows = isGone
     ? rowsOf(process).map(row => ({row, box: rowElement(number, process, row, "gone")}))
     : spaceRows(number, process, pagesChanged);
-  const said = rows.length ? "" : ": no memory";
+  const title = state.titles.get(number);
+  const said = (title ? `: ${title}` : "") + (rows.length ? "" : `${title ? "," : ":"} no memory`);
   setText(box.firstChild, `${isGone ? "was " : ""}process ${number}${said}`, isGone ? "gone" : "");
   setChildren(box.lastChild, withHoles(rows));
   return box;
@@ -255,7 +264,7 @@ function namedIn(step) {
 function showSpaces(step) {
   const touched = step ? touchedBy(step) : new Set();
   const changedPages = new Map();
-  for (const key of change.entries.keys()) {
+  for (const key of [...change.used, ...change.entries.keys()]) {
     const number = processOf(key);
     if (!changedPages.has(number)) changedPages.set(number, []);
     changedPages.get(number).push(pageOf(key));
@@ -289,7 +298,8 @@ function folded(number) {
   const isGone = !state.processes.has(number);
   const {rows, table} = isGone ? change.died.get(number) : state.processes.get(number);
   const entries = `${table.size} ${table.size === 1 ? "entry" : "entries"}`;
-  const text = `process ${number}: ${many(rows.size, "area")}, ${entries}`;
+  const title = state.titles.has(number) ? `${state.titles.get(number)}, ` : "";
+  const text = `process ${number}: ${title}${many(rows.size, "area")}, ${entries}`;
   setText(buttons.get(number), `${isGone ? "was " : ""}${text}`, isGone ? "gone" : "");
   return buttons.get(number);
 }
@@ -337,7 +347,8 @@ function readScroll() {
   const box = at("scroll");
   const mark = lit.page >= 0 || lit.frame >= 0 ? box.querySelector(".lit") : null;
   const changed = () => box.querySelector(".cell.new, .dot.new");
-  const it = mark || changed() || box.querySelector(".row.new, .gone");
+  const it = mark || changed() || box.querySelector(".row.new, .gone") ||
+    box.querySelector(".used");
   if (!it) return box.scrollTop;
   const [outer, inner] = [box.getBoundingClientRect(), it.getBoundingClientRect()];
   const isSeen = inner.top >= outer.top && inner.bottom <= outer.bottom;
@@ -414,11 +425,9 @@ function showAnons({rows, em, height, isTall}) {
   const yOf = new Map(places.map(it => [it.name, it.y]));
   for (const {row, y, number} of rows) {
     for (const anon of row.chain) {
-      const isOwn = row.own === anon;
-      const stroke = chosen.has(anon) ? "#1864ab" : isOwn ? "#d9480f" : "#8a93a3";
+      const kind = `${row.own === anon ? "own" : ""} ${chosen.has(anon) ? "lit" : ""}`;
       draw(svg, "line", {
-        x1: 2, y1: y, x2: x - em, y2: yOf.get(nameOf(number, anon)),
-        stroke, "stroke-width": isOwn ? 3 : 1.4,
+        x1: 2, y1: y, x2: x - em, y2: yOf.get(nameOf(number, anon)), class: kind,
         "data-link": `${row.text.split(" ")[0]} ${anon}`,
       });
     }
@@ -428,13 +437,10 @@ function showAnons({rows, em, height, isTall}) {
 }
 
 function anonCircle(svg, anon, x, y, em, isLit) {
-  const group = draw(svg, "g", {"data-anon": anon});
-  const look = isLit
-    ? {stroke: "#1864ab", "stroke-width": 3, fill: "#e7f1fb"}
-    : {stroke: "#d9480f", fill: "#fff1e6"};
+  const group = draw(svg, "g", {"data-anon": anon, class: isLit ? "lit" : "", tabindex: 0});
   const wide = Math.max(1, String(anon).length * 0.32 + 0.35) * em;
   const box = {x: x - em, y: y - 0.9 * em, width: wide + em, height: 1.8 * em, rx: 0.9 * em};
-  draw(group, "rect", {...box, ...look});
+  draw(group, "rect", box);
   draw(group, "text", {x: x + (wide - em) / 2, y: y + 0.28 * em, "text-anchor": "middle"}, anon);
   group.addEventListener("click", () => light({anon: lit.anon === anon ? null : anon}));
 }

@@ -15,6 +15,10 @@ const state = {
   processes: new Map(), owners: new Map(), cached: new Map(), slots: new Map(),
   counts: new Map(), lists: new Map(), flight: new Map(), areas: new Map(), stat: "",
   listsKnown: true,
+  // the pages of each area whose slots have a text: a set, and the same in order
+  named: new Map(),
+  // the names of processes, and of what is mapped in them
+  titles: new Map(), mappings: new Map(),
 };
 // what the step shown changed: entries, rows and processes as they were, and frames
 let change = null;
@@ -24,7 +28,7 @@ let undo = [];
 function newChange() {
   return {
     entries: new Map(), gone: new Map(), fresh: new Map(), died: new Map(), born: new Set(),
-    frames: new Map(), slots: new Set(), off: new Map(),
+    frames: new Map(), slots: new Set(), off: new Map(), used: new Set(),
   };
 }
 
@@ -169,6 +173,25 @@ function cacheSlot(slot, frame) {
   change?.slots.add(slot);
 }
 
+const areaOf = slot => Number(slot.split(":")[0]), slotPage = slot => Number(slot.split(":")[1]);
+
+// adds a slot to those of its area that have a text, or takes it away
+function turnNamed(slot) {
+  const [area, page] = [areaOf(slot), slotPage(slot)];
+  if (!state.named.has(area)) state.named.set(area, {pages: new Set(), sorted: null});
+  const named = state.named.get(area);
+  if (!named.pages.delete(page)) named.pages.add(page);
+  named.sorted = null;
+}
+
+function setCount(slot, text) {
+  const isNew = state.counts.has(slot) !== Boolean(text);
+  setIn(state.counts, slot, text || undefined);
+  if (!isNew) return;
+  turnNamed(slot);
+  undo.push(() => turnNamed(slot));
+}
+
 function setField(object, name, value) {
   const old = object[name];
   object[name] = value;
@@ -176,7 +199,11 @@ function setField(object, name, value) {
 }
 
 const operations = {
-  p: number => addProcess(number, newProcess()),
+  p: number => {
+    addProcess(number, newProcess());
+    setIn(state.titles, number, undefined);
+    setIn(state.mappings, number, undefined);
+  },
   x: dropProcess,
   f: (number, child) => {
     const parent = state.processes.get(number);
@@ -184,6 +211,8 @@ const operations = {
     process.dim = parent.dim;
     for (const [page, code] of parent.table) process.table.set(page, code.replace("F", "f"));
     addProcess(child, process);
+    setIn(state.titles, child, state.titles.get(number));
+    setIn(state.mappings, child, state.mappings.get(number));
   },
   e: setEntry,
   d: (number, first, count) => {
@@ -203,7 +232,7 @@ const operations = {
   k: (slot, text) => {
     // (the area of a slot without a text is off)
     if (change && !text) change.off.set(slot, state.counts.get(slot));
-    setIn(state.counts, slot, text || undefined);
+    setCount(slot, text);
     change?.slots.add(slot);
   },
   l: (frame, list, place) => {
@@ -217,7 +246,26 @@ const operations = {
   t: (area, text) => setIn(state.areas, area, text || undefined),
   o: isKnown => setField(state, "listsKnown", Boolean(isKnown)),
   s: text => setField(state, "stat", text),
+  n: (number, name) => setIn(state.titles, number, name),
+  b: (number, first, count, name) => {
+    const all = state.mappings.get(number) || [];
+    const [end, rest] = [first + count, []];
+    for (const it of all) {
+      if (it.start < first) rest.push({...it, end: Math.min(it.end, first)});
+      if (it.end > end) rest.push({...it, start: Math.max(it.start, end)});
+    }
+    if (name) rest.push({start: first, end, name});
+    setIn(state.mappings, number, rest);
+  },
 };
+
+// the names of what is mapped in a row, by address
+function namesIn(number, row) {
+  const found = (state.mappings.get(number) || [])
+    .filter(it => it.start < row.end && row.start < it.end)
+    .sort((a, b) => a.start - b.start);
+  return [...new Set(found.map(it => it.name))].join(", ");
+}
 
 const apply = ops => ops.forEach(([name, ...of]) => operations[name](...of));
 
@@ -237,6 +285,14 @@ function move(wanted) {
 }
 
 // Goes to a step by way of the one before it, so that what it changes is seen.
+// goes to the state before a step, of which nothing is shown then
+function moveBefore(n) {
+  frameCells.clear();
+  change = null;
+  move(n - 1);
+  change = newChange();
+}
+
 function moveTo(n) {
   // (far away every frame may be another)
   if (Math.abs(n - done) > 1) frameCells.clear();
@@ -244,6 +300,20 @@ function moveTo(n) {
   move(Math.max(n - 1, 0));
   change = newChange();
   move(n);
+  if (n) change.used = new Set(pagesUsed(data.steps[n - 1]));
+}
+
+// the pages that a command read, wrote or asked of, also where it changed nothing; of one that
+// stopped at a byte those up to there
+function pagesUsed(step) {
+  const [name, process, address, word] = step.c.split(" ");
+  const [kind, byte] = step.r[0].split(" ");
+  const sizes = {read: () => Number(word), write: () => word.length / 2, entry: () => 1, rmap: () => 1};
+  if (!sizes[name] || kind === "err") return [];
+  const count = /^(segv|oom|bus)$/.test(kind) ? Number(byte) + 1 : sizes[name]();
+  const first = parseInt(address, 16);
+  const [from, to] = [Math.floor(first / 4096), Math.floor((first + count - 1) / 4096)];
+  return Array.from({length: to - from + 1}, (_, i) => keyOf(Number(process), from + i));
 }
 
 apply(data.base);
@@ -257,6 +327,11 @@ function rowsOf(process) {
 function sortedPages(process) {
   process.sorted ??= Float64Array.from(process.table.keys()).sort();
   return process.sorted;
+}
+
+function sortedSlots(named) {
+  named.sorted ??= Float64Array.from(named.pages).sort();
+  return named.sorted;
 }
 
 // the first place in a sorted list whose value isn't below

@@ -2,8 +2,9 @@
 
 `Told` is no second model of memory. It takes what the program's own words say: a note names an
 entry and what it becomes. Three things are told by a command as a whole, and are copies that no
-note repeats: a fork gives the child its parent's entries, unseen; an `mremap` takes the entries
-along to the new range; what is unmapped or mapped anew has no entry. A note also says where a
+note repeats: a fork gives the child its parent's entries, unseen, but those of areas that say
+otherwise; an `mremap` takes the entries along to the new range; what is unmapped, mapped anew or
+needed no more has no entry. A note also says where a
 frame goes in the lists, by the rule of its kind: `new`, `copy`, `load` and `age` to the head of
 inactive, `done` to its tail, `keep` to the head of the list that its cause names. Whatever else a
 line may do is not known, and is said to be so.
@@ -41,7 +42,11 @@ REPORTS = {"maps", "areas", "entry", "rmap", "slot", "stat"}
 # commands that notes tell all of, but for a seen bit
 BY_NOTES = {"read", "write", "reclaim", "age", "complete", "swapon", "swapoff"}
 # commands that change which areas there are
-BY_RANGE = {"mmap", "munmap", "mprotect", "mremap"}
+BY_RANGE = {"mmap", "munmap", "mprotect", "mremap", "madvise"}
+# those of them that change areas where they are refused, too
+MIDWAY = {"mprotect", "madvise"}
+# the flags of an area whose entries a child doesn't get
+KEPT_BACK = ("dontfork", "wipeonfork")
 
 
 def page_of(address: int) -> int:
@@ -224,15 +229,25 @@ class Told:
             self.dim.add(child)
             self.ops.append(["u", child])
             return
+        kept_back = self.kept_back(process)
         self.tables[child] = {
             page: "f" + code[1:] if code[0] == "F" else code
             for page, code in self.tables[process].items()
+            if not any(page in it for it in kept_back)
         }
         self.rows[child] = []
         (self.dim.add if process in self.dim else self.dim.discard)(child)
         for page, code in self.tables[child].items():
             self.link(child, page, code)
         self.ops.append(["f", process, child])
+        for it in kept_back:
+            self.ops.append(["d", child, it.start, len(it)])
+
+    def kept_back(self, process: int) -> list[range]:
+        """The pages whose entries a child doesn't get, by the areas that were last shown."""
+        rows = [it.split(" ") for it in self.rows.get(process, [])]
+        bounds = [it[0].split("-") for it in rows if set(it).intersection(KEPT_BACK)]
+        return [range(page_of(int(it[0], 16)), page_of(int(it[1], 16))) for it in bounds]
 
     def exit(self, process: int) -> None:
         if process not in self.tables:
@@ -251,6 +266,11 @@ class Told:
             self.move(process, first, place, min(old, new))
         if new < old:
             self.drop(process, first + new, old - new)
+
+    def give_up(self, words: list[str], reply: str) -> None:
+        """`madvise P A LEN dontneed`: refused, too, it may have done its pages that are mapped."""
+        if reply == "ok" or reply == "err ENOMEM":
+            self.drop(int(words[1]), page_of(int(words[2], 16)), pages_of(int(words[3])))
 
     def forget(self) -> None:
         """A line of which it isn't told what it changed: nothing is known of any entry."""
@@ -407,6 +427,8 @@ class Told:
             self.drop(int(words[1]), page_of(int(reply[0][4:], 16)), pages_of(int(words[2])))
         elif name == "mremap" and is_done:
             self.mremap(words, page_of(int(reply[0][4:], 16)))
+        elif name == "madvise" and words[4] == "dontneed":
+            self.give_up(words, reply[0])
         elif name == "swapon" and reply[0].startswith("on "):
             self.swapon(words, int(reply[0].split(" ")[1]))
         elif name not in BY_NOTES | BY_RANGE | {"spawn", "fork", "exit"}:

@@ -10,3 +10,4 @@ pub mod PassLaws
 pub mod OrderLaws
 pub mod SeekLaws
 pub mod OutLaws
+pub mod CountLaws

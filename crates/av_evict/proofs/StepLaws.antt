@@ -133,25 +133,13 @@ age-sound m l f sound used = head-kept m no_excuse (change_entries f without_see
 
 -- ---- the slot of a frame
 
--- where a slot may be given there is one
-gives-slot : (m : Setting) (closing : Option ℕ) (l : Ledger) (s : Slot) → may_give m closing l s ≡ true → no_slot m closing l ≡ false
-gives-slot m closing l s gives = each l.on (last (is_free_slot m l s) (is_open closing s.area) (has_free_slot m l s.area) gives)
+-- where an open area has a free slot there is one that may be given
+pub open-gives : (m : Setting) (closing : Option ℕ) (l : Ledger) (k : ℕ) → is_open closing k ≡ true → has_free_slot m l k ≡ true →
+    no_slot m closing l ≡ false
+open-gives m closing l k open_is = each l.on
   where
-    last : (a b c : Bool) → (a && b && c) ≡ true → c ≡ true
-    last true true c h = h
-    last true false c h = cc
-    last false b c h = cc
-
-    open_is : is_open closing s.area ≡ true
-    open_is = mid (is_free_slot m l s) (is_open closing s.area) (has_free_slot m l s.area) gives
-      where
-        mid : (a b c : Bool) → (a && b && c) ≡ true → b ≡ true
-        mid true true c h = refl
-        mid true false c h = cc
-        mid false b c h = cc
-
     free : Option SwapArea → Bool
-    free o = option_map_or (λ area. nat_lt 0 (free_slots m l (s.area, area))) o false
+    free o = option_map_or (λ area. nat_lt 0 (free_slots m l (k, area))) o false
 
     test : ℕ × SwapArea → Bool
     test a = not (is_open closing a.0) || free_slots m l a == 0
@@ -160,22 +148,37 @@ gives-slot m closing l s gives = each l.on (last (is_free_slot m l s) (is_open c
     here true n is h = grind (arith, nat_tests, h)
     here false n is h = cc
 
-    each : (areas : List (ℕ × SwapArea)) → free (find_area nat_cmp s.area areas) ≡ true → list_all test areas ≡ false
+    each : (areas : List (ℕ × SwapArea)) → free (find_area nat_cmp k areas) ≡ true → list_all test areas ≡ false
     each [] h = cc
-    each (a ∷ areas) h = by (eq_by_cmp nat_cmp s.area a.0) refl (each areas) h
+    each (a ∷ areas) h = by (eq_by_cmp nat_cmp k a.0) refl (each areas) h
       where
-        by : (b : Bool) → eq_by_cmp nat_cmp s.area a.0 ≡ b → (free (find_area nat_cmp s.area areas) ≡ true → list_all test areas ≡ false) →
-            free (cond b (Some a.1) (find_area nat_cmp s.area areas)) ≡ true → (test a && list_all test areas) ≡ false
+        by : (b : Bool) → eq_by_cmp nat_cmp k a.0 ≡ b → (free (find_area nat_cmp k areas) ≡ true → list_all test areas ≡ false) →
+            free (cond b (Some a.1) (find_area nat_cmp k areas)) ≡ true → (test a && list_all test areas) ≡ false
         by true is others h = ap (λ b. b && list_all test areas) (here (is_open closing a.0) (free_slots m l a)
-            (ap (is_open closing) (sym same) ∙ open_is) (ap (λ k. nat_lt 0 (free_slots m l (k, a.1))) (sym same) ∙ h))
+            (ap (is_open closing) (sym same) ∙ open_is) (ap (λ j. nat_lt 0 (free_slots m l (j, a.1))) (sym same) ∙ h))
           where
-            same : s.area ≡ a.0
+            same : k ≡ a.0
             same = grind (arith, nat_tests, is)
         by false is others h = ap (λ b. test a && b) (others h) ∙ none (test a)
           where
             none : (b : Bool) → (b && false) ≡ false
             none true = refl
             none false = refl
+
+-- so there is where one may be given
+gives-slot : (m : Setting) (closing : Option ℕ) (l : Ledger) (s : Slot) → may_give m closing l s ≡ true → no_slot m closing l ≡ false
+gives-slot m closing l s gives = open-gives m closing l s.area (mid (is_free_slot m l s) (is_open closing s.area) (has_free_slot m l s.area) gives)
+    (last (is_free_slot m l s) (is_open closing s.area) (has_free_slot m l s.area) gives)
+  where
+    mid : (a b c : Bool) → (a && b && c) ≡ true → b ≡ true
+    mid true true c h = refl
+    mid true false c h = cc
+    mid false b c h = cc
+
+    last : (a b c : Bool) → (a && b && c) ≡ true → c ≡ true
+    last true true c h = h
+    last true false c h = cc
+    last false b c h = cc
 
 -- a frame in use that is not cached has an entry
 pub send-may_put : (l : Ledger) (f : ℕ) → MaySend f l → None ≡ slot_of l f → MayPut f l

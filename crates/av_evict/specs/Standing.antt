@@ -1,8 +1,9 @@
 -- What a pass finds of a frame, each decided once: the first of five that it is.
-use Rattle.std.specs.Prelude.{ℕ, Bool, true, false, is_none, if◌then◌else◌}
+use Rattle.std.specs.Prelude.{ℕ, Bool, true, false, is_none, nat_lt, if◌then◌else◌, None, Some}
+use Rattle.std.specs.Prelude.{Option, is_some, not, ◌||◌}
 use Rattle.av_trace.specs.declared.reply.OutOf.{OutOf}
-use Rattle.av_plain.specs.Ledger.{Ledger, is_merged, slot_of}
-use Rattle.av_plain.specs.Pass.{Spared, is_pinned}
+use Rattle.av_plain.specs.Ledger.{Ledger, Setting, is_merged, no_slot, slot_of}
+use Rattle.av_plain.specs.Pass.{Spared, how_many_frames, is_pinned}
 use Rattle.av_evict.specs.declared.standing.Standing.{Standing}
 use Rattle.av_evict.specs.declared.standing.Standing.TheVariants.{Pinned, Locked, Merged, Uncached}
 use Rattle.av_evict.specs.declared.standing.Standing.TheVariants.{Cached}
@@ -33,3 +34,23 @@ numbers_of Locked = record { pinned = 0; noslot = 0; fault = 0; locked = 1; ksm 
 numbers_of Merged = record { pinned = 0; noslot = 0; fault = 0; locked = 0; ksm = 1 }
 numbers_of Uncached = record { pinned = 0; noslot = 1; fault = 0; locked = 0; ksm = 0 }
 numbers_of Cached = record { pinned = 0; noslot = 0; fault = 1; locked = 0; ksm = 0 }
+
+-- and what the pinned frame would add if it were not pinned: nothing where there is none
+abbrev pub adds_unpinned : Setting → Spared → Ledger → Option ℕ → OutOf
+adds_unpinned m spared l None = numbers_of Pinned
+adds_unpinned m spared l (Some p) =
+    numbers_of (if nat_lt p m.frames then stands_as (record spared { pinned = None }) l p else Pinned)
+
+abbrev pub pinned_adds : Setting → Spared → Ledger → OutOf
+pinned_adds m spared l = adds_unpinned m spared l spared.pinned
+
+-- how many frames are cached, and how many are merged
+abbrev pub cached_count : Setting → Ledger → ℕ
+cached_count m l = how_many_frames m (λ f. is_some (slot_of l f))
+
+abbrev pub merged_count : Setting → Ledger → ℕ
+merged_count m l = how_many_frames m (is_merged l)
+
+-- whether a frame can go to a slot: it is cached at one, or one may be given
+abbrev pub can_go : Setting → Option ℕ → Ledger → Bool
+can_go m closing l = nat_lt 0 (cached_count m l) || not (no_slot m closing l)

@@ -12,6 +12,7 @@
 
 mod flight;
 mod inactive;
+mod out;
 mod pass;
 mod standing;
 mod steps;

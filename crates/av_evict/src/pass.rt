@@ -4,15 +4,16 @@
 ghost use Rattle.std.specs.Prelude.{◌≡◌, ◌∷◌, ◌++◌, ℕ, List, slice_get, IfOk, OnOk};
 ghost use Rattle.std.specs.Prelude.{Bool, false};
 ghost use Rattle.av_plain.specs.Ledger.{has_free as is_any_free};
-ghost use Rattle.av_plain.specs.Pass.{IsPass, Seeks, out_of as numbers};
+ghost use Rattle.av_plain.specs.Pass.{IsPass, Seeks};
 ghost use Rattle.av_evict.specs.Pass.{AreTurns, IsEnd, IsLanded, IsNext, IsPassed};
 ghost use Rattle.av_evict.specs.Pass.{turn_order};
+ghost use Rattle.av_evict.specs.Standing.{can_go};
 ghost use Rattle.av_evict.specs.Steps.{IsUsed};
 ghost use Rattle.av_evict.specs.System.{Always, Gives, IsAt, Knows, Leaves, Tells};
 ghost use Rattle.av_evict.specs.System.{spares};
 
 use crate::flight::complete;
-use crate::standing::{counts, standing_of};
+use crate::out::{has_cached, out_of};
 use crate::system::System;
 use crate::turn::turn_if_any;
 use av_trace::{Notes, OutOf};
@@ -86,7 +87,7 @@ fn pass<S: System>(system: &mut S, pinned: Option<u32>, notes: &mut Notes) -> Re
     if has_free(system) {
         return Ok(());
     }
-    turns(system, pinned, notes)?;
+    turns_if_any(system, pinned, notes)?;
     Ok(())
 }
 
@@ -98,30 +99,31 @@ fn has_free<S: System>(system: &S) -> bool
     system.free_frame().is_some()
 }
 
-// The numbers that say why no frame is free.
-fn out_of<S: System>(system: &S, pinned: Option<u32>) -> OutOf
-    requires { Knows (S.view system.now false) Always }
-    ensures { (told : Bool) → let now = S.view system.now told in Tells now (λ l.
-        result ≡ numbers now.setting (spares now pinned) l) }
+// The frames in use have their turns, unless these would change nothing.
+fn turns_if_any<S: System>(
+    system: &mut S,
+    pinned: Option<u32>,
+    notes: &mut Notes,
+) -> Result<(), AllocError>
+    requires { IsAt (S.view system.old false) IsLanded }
+    ensures gives { OnOk result ((told : Bool) → let old = S.view system.old told in
+        Gives old (S.view system.new told) notes.old notes.new IsLanded
+        (AreTurns old.setting (spares old pinned))) }
+    ensures stays { (told : Bool) → Leaves (S.view system.old told) (S.view system.new told) }
 {
-    let mut noslot = 0;
-    let mut fault = 0;
-    let mut locked = 0;
-    let mut ksm = 0;
-    for frame in 0..system.frames() {
-        let one = counts(standing_of(system, pinned, frame));
-        noslot += one.noslot;
-        fault += one.fault;
-        locked += one.locked;
-        ksm += one.ksm;
+    if !any_can_go(system) {
+        return Ok(());
     }
-    OutOf {
-        pinned: u32::from(pinned.is_some()),
-        noslot,
-        fault,
-        locked,
-        ksm,
-    }
+    turns(system, pinned, notes)?;
+    Ok(())
+}
+
+// Whether a frame can go to a slot: it is cached at one, or one may be given.
+fn any_can_go<S: System>(system: &S) -> bool
+    ensures { (told : Bool) → let now = S.view system.now told in Tells now
+        (λ l. result ≡ can_go now.setting now.closing l) }
+{
+    has_cached(system) || system.has_slot()
 }
 
 // The frames in use have their turns, but for those that are left alone, until one is free.

@@ -12,6 +12,7 @@ ghost use Rattle.av_plain.specs.Ledger.{Ledger, has_free, in_flight, is_free, is
 ghost use Rattle.av_plain.specs.Ledger.{is_stale, map_count, may_give, no_slot, slot_of};
 ghost use Rattle.av_plain.specs.Reclaim.{is_referenced};
 ghost use Rattle.av_plain.specs.World.{World};
+ghost use Rattle.av_evict.specs.Standing.{cached_count, merged_count};
 ghost use Rattle.av_evict.specs.Steps.{IsUsed, MayDrop, MayPut, MayStart, MayUnmap, notes_of_end};
 ghost use Rattle.av_evict.specs.Steps.{put_notes, referenced_notes, slot_of_end};
 ghost use Rattle.av_evict.specs.System.{Always, Knows, Makes, Leaves, SystemView, Tells};
@@ -51,17 +52,38 @@ pub trait System {
         requires { frame < (view self.now false).setting.frames }
         ensures { (told : Bool) → Tells (view self.now told) (λ l. result ≡ slot_of l frame) };
 
+    /// How many frames are cached.
+    fn cached_len(&self) -> u32
+        ensures { (told : Bool) → let now = view self.now told in Tells now
+            (λ l. result ≡ cached_count now.setting l) };
+
+    /// Whether a slot may be given.
+    fn has_slot(&self) -> bool
+        ensures { (told : Bool) → let now = view self.now told in Tells now
+            (λ l. result ≡ not (no_slot now.setting now.closing l)) };
+
     /// Whether a page of the frame's walk is locked.
     fn is_locked(&self, frame: u32) -> bool
         requires in_range { frame < (view self.now false).setting.frames }
         requires stands { Knows (view self.now false) Always }
         ensures { (told : Bool) → result ≡ (view self.now told).locked frame };
 
+    /// Whether any area is locked. Where none is, no frame is.
+    fn any_locked(&self) -> bool
+        requires { Knows (view self.now false) Always }
+        ensures { (told : Bool) → result ≡ false → (f : ℕ) → (view self.now told).locked f
+            ≡ false };
+
     /// Whether pages with equal bytes share the frame.
     fn is_merged(&self, frame: u32) -> bool
         requires in_range { frame < (view self.now false).setting.frames }
         requires stands { Knows (view self.now false) Always }
         ensures { (told : Bool) → Tells (view self.now told) (λ l. result ≡ is_merged l frame) };
+
+    /// How many frames are merged.
+    fn merged_len(&self) -> u32
+        ensures { (told : Bool) → let now = view self.now told in Tells now
+            (λ l. result ≡ merged_count now.setting l) };
 
     /// Whether an entry names the frame.
     fn is_mapped(&self, frame: u32) -> bool

@@ -60,8 +60,8 @@ pub(crate) fn read_in(
 }
 
 /// Makes a page ready that may be written and has this frame: a copy where others have the frame or
-/// its slot or it is merged, else its own, whose slot is dropped where it is needed no more. What it has is at home
-/// there then. Where the entry is settled, it is marked as written already.
+/// its slot or it is merged, else its own, whose slot is dropped where it is needed no more. What
+/// it has is at home there then. Where the entry is settled, it is marked as written already.
 pub(crate) fn write_frame<D: SwapDev>(
     mem: &mut Mem,
     dev: &mut D,

@@ -6,6 +6,7 @@ use Rattle.std.proofs.lemmas.Bool.{false≢true}
 use Rattle.av_base.specs.declared.slot.Slot.{Slot}
 use Rattle.av_base.specs.Words.{how_many, with_at, is_in}
 use Rattle.av_frames.specs.Store.{IsWhole, itself, Store, shown}
+use Rattle.av_base.proofs.Counted.{count-set}
 
 same_is : (f : ℕ) → (f == f) ≡ true
 same_is f = grind (arith, nat_tests)
@@ -37,19 +38,6 @@ none_in f (g ∷ fs) h = elim (f == g) as (λ b. b || is_in f fs ≡ false → c
   | true ↦ λ e. cc
   | false ↦ λ e. let rest = none_in f fs e in omega (arith, rest)
 ] h
-
--- how many flags stand, after one is set
-pub flagged : (flags : List Bool) (f : ℕ) (b : Bool) → f < length flags →
-    how_many itself (slice_set flags f b) + cond (get_or flags f true) 1 0 ≡ how_many itself flags + cond b 1 0
-flagged [] f b h = absurd (omega (arith, h))
-flagged (x ∷ flags) zero b h = swap (cond x 1 0) (cond b 1 0) (how_many itself flags)
-  where
-    swap : (x b n : ℕ) → (b + n) + x ≡ (x + n) + b
-    swap x b n = omega arith
-flagged (x ∷ flags) (suc f) b h = deeper (cond x 1 0) _ _ _ _ (flagged flags f b (omega (arith, h)))
-  where
-    deeper : (x m c n d : ℕ) → m + c ≡ n + d → (x + m) + c ≡ (x + n) + d
-    deeper x m c n d h = omega arith
 
 pub any_default : {X : Type 0} (xs : List X) (f : ℕ) (a b : X) → f < length xs → get_or xs f a ≡ get_or xs f b
 any_default [] f a b h = absurd (omega (arith, h))
@@ -102,7 +90,7 @@ module _ (frees : List ℕ) (n room : ℕ) (pages : List (List ℕ)) (flags : Li
         slots = w.slots;
         len = len;
         room = subst (λ r. length pages ≤ r) (sym same) w.room;
-        total = sum (length rest) _ _ _ _ (sym (ap (λ fs. length fs + how_many itself flags) is) ∙ w.total) (flagged flags f true below)
+        total = sum (length rest) _ _ _ _ (sym (ap (λ fs. length fs + how_many itself flags) is) ∙ w.total) (count-set itself flags f true true below)
             (ap (λ b. cond b 1 0) both.0);
         once = λ g. others g (g == f) refl both.1 below (sym (ap (how_many (λ x. g == x)) is) ∙ w.once g);
       }
@@ -131,7 +119,7 @@ module _ (frees : List ℕ) (n room : ℕ) (pages : List (List ℕ)) (flags : Li
   has_room f w below h =
       let used = is_used f w h in
       let below' : f < length flags = subst (λ m. f < m) (sym w.used) below in
-      fits _ _ _ _ (ap (λ b. cond b 1 0) used) (flagged flags f false below') w.total w.len w.room
+      fits _ _ _ _ (ap (λ b. cond b 1 0) used) (count-set itself flags f false true below') w.total w.len w.room
     where
       fits : (c k m p : ℕ) → c ≡ 1 → k + c ≡ m + 0 → length frees + m ≡ p → n ≡ length frees → p ≤ room → n < room
       fits c k m p a b d e g = omega arith
@@ -150,7 +138,7 @@ module _ (frees : List ℕ) (n room : ℕ) (pages : List (List ℕ)) (flags : Li
         slots = w.slots;
         len = let l = w.len in omega (arith, len, l);
         room = subst (λ r. length pages ≤ r) (sym same) w.room;
-        total = sum _ _ _ _ w.total (flagged flags f false below') (ap (λ b. cond b 1 0) (is_used f w h));
+        total = sum _ _ _ _ w.total (count-set itself flags f false true below') (ap (λ b. cond b 1 0) (is_used f w h));
         once = λ g. others g (g == f) refl below';
       }
     where

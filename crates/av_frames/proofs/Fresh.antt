@@ -5,6 +5,7 @@ use Rattle.std.proofs.lemmas.Bool.Decides.{nat_tests}
 use Rattle.av_base.specs.Words.{how_many}
 use Rattle.std.specs.List.{range_with_len}
 use Rattle.av_frames.specs.Store.{IsWhole, itself, shown, fresh}
+use Rattle.av_base.proofs.Counted.{count-none}
 use Rattle.av_frames.proofs.Free.{zeros}
 
 one_more : (a n : ℕ) → (a + 1) + n ≡ a + suc n
@@ -27,10 +28,6 @@ numbers_next n m e = ap (λ x. range_with_len 0 n ++ x ∷ []) (sym (none_plus n
 length-numbers : (a n : ℕ) → length (range_with_len a n) ≡ n
 length-numbers a zero = refl
 length-numbers a (suc n) = ap suc (length-numbers (a + 1) n)
-
-none_set : (n : ℕ) → how_many itself (replicate n false) ≡ 0
-none_set zero = refl
-none_set (suc n) = none_plus _ ∙ none_set n
 
 same_value : {X : Type 0} (n i : ℕ) (x : X) → get_or (replicate n x) i x ≡ x
 same_value zero i x = refl
@@ -71,7 +68,7 @@ whole_fresh n len room page few same wide = record {
   slots = length-replicate n _ ∙ sym (length-replicate n page);
   len = same ∙ sym (length-numbers 0 n);
   room = subst (λ m. m ≤ room) (sym (length-replicate n page)) wide;
-  total = (λ i. length-numbers 0 n i + none_set n i) ∙ plus_zero n ∙ sym (length-replicate n page);
+  total = (λ i. length-numbers 0 n i + count-none itself false n refl i) ∙ plus_zero n ∙ sym (length-replicate n page);
   once = once n;
 }
 

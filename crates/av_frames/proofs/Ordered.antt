@@ -5,7 +5,8 @@ use Rattle.std.specs.List.{range_with_len}
 use Rattle.av_base.specs.declared.slot.Slot.{Slot}
 use Rattle.av_base.specs.Words.{how_many, is_in}
 use Rattle.av_frames.specs.Store.{IsWhole, Shown, itself, without, relocated, with_bytes, with_maps, with_home, with_dirty, with_slot}
-use Rattle.av_frames.proofs.Free.{flagged, not_in, none_in, within_flags}
+use Rattle.av_base.proofs.Counted.{count-set}
+use Rattle.av_frames.proofs.Free.{not_in, none_in, within_flags}
 use Rattle.av_frames.proofs.Fresh.{once_from, numbers-suc}
 
 zero_plus : (n : ℕ) → 0 + n ≡ n
@@ -170,7 +171,7 @@ module _ (frees : List ℕ) (n room : ℕ) (pages : List (List ℕ)) (flags : Li
         slots = w.slots;
         len = len;
         room = subst (λ r. length pages ≤ r) (sym same) w.room;
-        total = sum _ _ _ _ _ _ _ w.total (length-without f frees) (w.once f ∙ ap (λ b. cond b 0 1) unset) (flagged flags f true below)
+        total = sum _ _ _ _ _ _ _ w.total (length-without f frees) (w.once f ∙ ap (λ b. cond b 0 1) unset) (count-set itself flags f true true below)
             (ap (λ b. cond b 1 0) unset);
         once = λ g. others g (g == f) refl below;
       }

@@ -2,7 +2,7 @@
 
 ghost use Rattle.std.specs.Prelude.{◌≡◌, ℕ, ◌+◌, ◌<◌, ◌≤◌, ◌^◌, ◌-◌, ◌∷◌, ◌==◌, [], length};
 ghost use Rattle.std.specs.Prelude.{slice_index, MatchOption, IfOk, true, false, replicate, not};
-ghost use Rattle.std.specs.Prelude.{filter, slice_index_or};
+ghost use Rattle.std.specs.Prelude.{filter, is_some, slice_index_or};
 ghost use Rattle.av_frames.specs.Store.{shown, first_of, fresh, overlaid, with_bytes, with_maps};
 ghost use Rattle.av_frames.specs.Store.{with_home, with_dirty, with_slot, relocated, without};
 ghost use Rattle.av_frames.specs.Store.{free_in_order};
@@ -12,6 +12,7 @@ ghost use Rattle.std.specs.List.{range_with_len};
 ghost use Rattle.std.specs.VecDeque.{deque_len, deque_capacity};
 
 use crate::pages::{Pages, SIZE};
+use crate::slots::Slots;
 use av_base::Slot;
 use std::alloc::{AllocError, Global};
 use std::collections::VecDeque;
@@ -28,7 +29,7 @@ pub struct Frames {
     maps: Vec<u64>,
     homes: Vec<Option<(u64, u64)>>,
     dirty: Vec<bool>,
-    slots: Vec<Option<Slot>>,
+    slots: Slots,
 }
 
 impl Model for Frames {
@@ -44,11 +45,11 @@ impl Model for Frames {
       maps = a.maps.items;
       homes = a.homes.items;
       dirty = a.dirty.items;
-      slots = a.slots.items;
+      slots = a.slots;
     } };
 
     ghost invariant = { λ a. IsWhole a.free.items (deque_len a.free) (deque_capacity a.free) a.bytes
-        a.used.items a.maps.items a.homes.items a.dirty.items a.slots.items };
+        a.used.items a.maps.items a.homes.items a.dirty.items a.slots };
 }
 
 impl Frames {
@@ -64,7 +65,7 @@ impl Frames {
             maps: fill(alloc, 0, len)?,
             homes: fill(alloc, None, len)?,
             dirty: fill(alloc, false, len)?,
-            slots: fill(alloc, None, len)?,
+            slots: Slots::new(alloc, count)?,
         })
     }
 
@@ -225,7 +226,7 @@ impl Frames {
         requires { frame < (shown self.now).count }
         ensures { result ≡ (shown self.now).slot frame }
     {
-        self.slots[frame as usize]
+        self.slots.get(frame as usize)
     }
 
     /// Sets that slot.
@@ -233,7 +234,15 @@ impl Frames {
         requires { frame < (shown self.old).count }
         ensures { shown self.new ≡ with_slot frame slot (shown self.old) }
     {
-        self.slots[frame as usize] = slot;
+        self.slots.set(frame as usize, slot);
+    }
+
+    /// How many frames are in the swap cache: those that have a slot.
+    pub fn cached_len(&self) -> u32
+        ensures { result ≡ how_many (λ f. is_some ((shown self.now).slot f))
+            (range_with_len 0 (shown self.now).count) }
+    {
+        self.slots.cached_len()
     }
 
     /// How many frames are free.
@@ -328,7 +337,7 @@ fn page_of(bytes: &[u8]) -> [u8; SIZE]
 }
 
 /// The same value, this many times.
-fn fill<T: Copy>(alloc: Global, value: T, count: usize) -> Result<Vec<T>, AllocError>
+pub fn fill<T: Copy>(alloc: Global, value: T, count: usize) -> Result<Vec<T>, AllocError>
     ensures { IfOk result (λ v. v.items ≡ replicate count value) }
 {
     let mut values = Vec::new(alloc);

@@ -1,9 +1,11 @@
 pub mod ProcessLaws
 pub mod ForkLaws
 pub mod MapSteps
+pub mod ChangeLaws
 pub mod MapLaws
 pub mod MapMarks
 pub mod MremapRefusals
 pub mod MremapLaws
 pub mod MremapGoes
+pub mod AdviceLaws
 pub mod TallyCounts

@@ -1,9 +1,9 @@
 -- Commands on ranges of pages: what they leave of the pages, the entries and the areas.
-use Rattle.std.proofs.Common.{◌≡◌, inl, inr, Ok, Err, ℕ, ◌+◌, ◌-◌, ◌<◌, ◌≤◌, Bool, true, false, cond, not, ◌&&◌, ◌||◌, List, [], ◌∷◌, slice_index, Option, Some, None, is_some, option_map, Result, refl, sym, ap, subst, ◌∙◌, arith, ◌==◌, nat_lt, IsSomeAnd}
+use Rattle.std.proofs.Common.{◌≡◌, inl, inr, Ok, Err, ℕ, ◌+◌, ◌-◌, ◌<◌, ◌≤◌, Bool, true, false, cond, not, ◌&&◌, ◌||◌, List, [], Option, Some, None, is_some, option_map, Result, refl, sym, ap, subst, ◌∙◌, arith, ◌==◌, nat_lt}
 use Rattle.std.proofs.lemmas.Bool.Decides.{nat_tests}
 use Rattle.std.proofs.lemmas.Bool.{false≢true}
 use Rattle.std.proofs.lemmas.List.{append-nil}
-use Rattle.std.specs.Prelude.{IfSome, MatchOption, OnOk}
+use Rattle.std.specs.Prelude.{MatchOption, OnOk}
 use Rattle.av_base.specs.Flags.{no_flags}
 use Rattle.av_base.specs.declared.flags.Flags.{Flags}
 use Rattle.av_base.specs.declared.prot.Prot.{Prot}
@@ -26,7 +26,7 @@ use Rattle.av_plain.specs.Device.{Device}
 use Rattle.av_plain.specs.Fork.{IsRmapNext}
 use Rattle.av_plain.specs.World.{lives, Process, Page, zeros, pages, is_mapped, pages_to_hole, set_process, with_pages, with_prot_on, with_prot}
 use Rattle.av_base.specs.Page.{page_of, pages_of, address_of, is_on_page}
-use Rattle.av_plain.specs.Ledger.{Ledger, Entry, Setting, Zero, InFrame, InSlot, entry, frame_at}
+use Rattle.av_plain.specs.Ledger.{Ledger, Entry, Setting, entry}
 use Rattle.av_plain.specs.Event.{Event, after_all, notes_of}
 use Rattle.av_plain.specs.Sound.{IsSound}
 use Rattle.av_plain.specs.Zap.{keys_in, zaps_of}
@@ -37,7 +37,7 @@ use Rattle.av_plain.specs.Map.{zaps_for_place, with_prot_to_hole}
 use Rattle.av_plain.specs.Mremap.{marks_at}
 use Rattle.av_anon.specs.declared.anons.Anons.{Anons as AnonSet}
 use Rattle.av_merge.specs.Kin.{lengths}
-use Rattle.av_merge.proofs.Lengths.{map_alike, pages_alike}
+use Rattle.av_merge.proofs.Lengths.{map_alike}
 use Rattle.av_spaces.specs.Kin.{AnonsStay}
 use Rattle.av_spaces.proofs.Kin.{stay_both, stay_same}
 use Rattle.av_mem.proofs.AnonLaws.{are_left, lengths_alike}
@@ -45,12 +45,11 @@ use Rattle.av_plain.proofs.AreasLeft.{rmap_after_all-zaps}
 use Rattle.av_plain.proofs.Covered.Swap.{Reach}
 use Rattle.av_plain.proofs.Covered.Zaps.{zaps-reach}
 use Rattle.av_plain.specs.Areas.{Rmap, rmap_after_all}
-use Rattle.av_vma.proofs.Homes.{KeepsHomes}
 use Rattle.av_plain.specs.Areas.{areas_to_hole, chain_length, next_areas, with_room}
 use Rattle.av_plain.specs.Choice.{ChoosesAll}
 use Rattle.av_plain.specs.Report.{ShowsAreas}
 use Rattle.av_plain.specs.Transcript.{State, rmap_of}
-use Rattle.av_plain.specs.Stands.{AreasAre, IsKept, IsKeptAt, free_of}
+use Rattle.av_plain.specs.Stands.{AreasAre, IsKept, free_of}
 use Rattle.av_plain.specs.World.{Holds}
 use Rattle.av_vma.specs.Pages.{Pages, home_of, after_map, pages_changed, to_prot, after_unmap}
 use Rattle.av_plain.proofs.World.Ranges.{is-pages_to_hole}
@@ -58,7 +57,7 @@ use Rattle.av_plain.proofs.Zap.{entry-range}
 use Rattle.av_mem.specs.declared.mem.Mem.{Mem}
 use Rattle.av_spaces.specs.Spaces.{AllSpaces, Spaces, areas_of, is_taken, pages_of as areas_on}
 use Rattle.av_plain.proofs.Transcript.{is_fork, next-plain}
-use Rattle.av_kernel.specs.Map.{changed_on, marks_on, marks_with, set_on, GetsAreas, GetsMarks, HomesStay, AreUnmapped}
+use Rattle.av_kernel.specs.Map.{marks_on, set_on, GetsAreas, GetsMarks, HomesStay, AreUnmapped}
 use Rattle.av_kernel.proofs.MapMarks.{marks_kept, marks_there, page_marks}
 use Rattle.av_mem.specs.Mem.{ranges_of, setting_by, view, frame_count, Keeps, IsSteady, HasLedger}
 use Rattle.av_mem.specs.Steps.{KeepsRest, KeepsSwap}
@@ -70,8 +69,9 @@ use Rattle.av_mem.proofs.LetGoLaws.{rest-none}
 use Rattle.av_mem.proofs.MemLaws.{lives_is, alive_is, taken_has, mapped_is}
 use Rattle.av_place.proofs.PlaceLaws.{page_back, IsSuited, suited}
 use Rattle.av_step.proofs.CacheLeft.{KeepsCached, cached-itself, zaps-cached}
-use Rattle.av_step.proofs.StepLaws.{areas_kept, is_number, moved_on, noted, orderly, reach_of, refused, state_after, stays_orderly, changed, swap_alike, swap_itself}
-use Rattle.av_kernel.proofs.MapSteps.{areas_changed, tables_kept}
+use Rattle.av_step.proofs.StepLaws.{areas_kept, is_number, moved_on, noted, reach_of, refused, state_after, stays_orderly, changed, swap_alike}
+use Rattle.av_kernel.proofs.ChangeLaws.{AreChanged, anons_left, change-steps, prot_effect}
+use Rattle.av_kernel.proofs.MapSteps.{areas_changed, areas_so, re_areas, tables_kept, unplaced}
 use Rattle.av_step.proofs.Loads.{place-loads, world_as}
 use Rattle.av_plain.proofs.Load.{loads_nothing, zaps-load_nothing}
 use Rattle.std.specs.List.{list_all}
@@ -121,29 +121,6 @@ twice_placed s t u p change on first second q page = second q page ∙ by (q == 
     by : (b : Bool) → (q == p) ≡ b → (cond b (change (areas_on t p)) (areas_on t q)) page ≡ (cond b (change on) (areas_on s q)) page
     by true e = λ i. change (λ o. own o i) page
     by false e = first q page ∙ ap (λ b. (cond b on (areas_on s q)) page) e
-
--- areas that are these are those, too
-re_areas : (s t : Spaces) (p : ℕ) (on on' : Pages) → ((page : ℕ) → on page ≡ on' page) → GetsAreas s t p on → GetsAreas s t p on'
-re_areas s t p on on' same h q page = h q page ∙ by (q == p)
-  where
-    by : (b : Bool) → (cond b on (areas_on s q)) page ≡ (cond b on' (areas_on s q)) page
-    by true = same page
-    by false = refl
-
--- the areas of a process that stay are its own
-unplaced : (s : Spaces) (p : ℕ) → GetsAreas s s p (areas_on s p)
-unplaced s p q page = by (q == p) refl
-  where
-    by : (b : Bool) → (q == p) ≡ b → areas_on s q page ≡ (cond b (areas_on s p) (areas_on s q)) page
-    by true e = ap (λ n. areas_on s n page) (is_number q p e)
-    by false e = refl
-
--- what the kernel's areas become, those of the state do
-areas_so : {d : Device} (old new : Mem) (s : State) (p : ℕ) (change : Pages → Pages) → Keeps d old s →
-    GetsAreas old.spaces.processes new.spaces.processes p (change (areas_on old.spaces.processes p)) →
-    AreasAre (view new) (with_at p (change (s.areas p)) s.areas)
-areas_so {d} old new s p change keeps h q page = h q page
-    ∙ (λ i. with_at p (change (λ o. keeps.stands.areas p o i)) (λ r o. keeps.stands.areas r o i) q page)
 
 -- ---- the pages of a range go
 
@@ -349,7 +326,7 @@ module _ {d : Device} (old new : Mem) (s : State) (command : Command) (reply : R
 -- ---- what is refused
 
 -- the process lives
-lived : {d : Device} (k : Mem) (s : State) (p : ℕ) → Keeps d k s → is_some (areas_of k.spaces.processes p) ≡ true → (rest : Option Errno) →
+pub lived : {d : Device} (k : Mem) (s : State) (p : ℕ) → Keeps d k s → is_some (areas_of k.spaces.processes p) ≡ true → (rest : Option Errno) →
     cond (not (lives s.world p)) (Some Esrch) rest ≡ rest
 lived {d} k s p keeps alive rest = ap (λ b. cond (not b) (Some Esrch) rest) (sym (lives_is d k s keeps p) ∙ alive)
 
@@ -531,17 +508,23 @@ module _ {d : Device} (old : Mem) (s : State) (p len : ℕ) (prot : Prot) (place
 
 -- ---- mprotect
 
+-- so many pages are mapped before the first that isn't
+pub leads : {d : Device} (k : Mem) (s : State) (p from n reached : ℕ) → Keeps d k s
+    → GoesTo (is_taken k.spaces.processes p) from (from + n) reached → pages_to_hole (pages s.world p) from n ≡ reached - from
+leads k s p from n reached keeps reaches = is-pages_to_hole (pages s.world p) from n (reached - from) (record {
+  most = let high = reaches.highest in omega (arith, high);
+  mapped = λ page low high. sym (taken_is k s p keeps page) ∙ reaches.all page low (let least = reaches.lowest in omega (arith, high, least));
+  ends = λ less. let least = reaches.lowest in
+      let end : from + (reached - from) ≡ reached = omega (arith, least) in
+      ap (is_mapped (pages s.world p)) end ∙ sym (taken_is k s p keeps reached) ∙ reaches.end (omega (arith, less, least));
+})
+
 module _ {d : Device} (old : Mem) (spaces : AllSpaces) (anons : AnonSet) (s : State) (p a len reached : ℕ) (prot : Prot) (keeps : Keeps d old s)
-    (alive : is_some (ranges_of old.spaces.processes p) ≡ true) (passed : refusal ((not (is_on_page a), Einval) ∷ (wraps a len, Enomem) ∷ []) ≡ None)
+    (alive : is_some (ranges_of old.spaces.processes p) ≡ true) (passed : refusal (protect_tests a len) ≡ None)
     (reaches : GoesTo (is_taken old.spaces.processes p) (page_of a) (page_of a + pages_of len) reached)
-    (given : GetsMarks old.spaces.processes spaces.processes p (changed_on (page_of a) (reached - page_of a) (to_prot prot)
-    (marks_on (areas_on old.spaces.processes p))))
-    (areas : GetsAreas old.spaces.processes spaces.processes p (pages_changed (lengths old.spaces.areas old.anons) (to_prot prot) (page_of a)
-    (reached - page_of a) (areas_on old.spaces.processes p)))
-    (stay : AnonsStay old.spaces old.anons spaces anons) (homes : KeepsHomes (areas_on old.spaces.processes p) (areas_on spaces.processes p)) where
+    (are : AreChanged old spaces anons p (page_of a) (reached - page_of a) (to_prot prot)) where
   mprotect-allowed : refusal (tests (setting_by d old) s.world s.ledger (Mprotect p a len prot)) ≡ None
-  mprotect-allowed = ap (λ b. cond (not b) (Some Esrch) (refusal ((not (is_on_page a), Einval) ∷ (wraps a len, Enomem) ∷ [])))
-      (sym (lives_is d old s keeps p) ∙ sym (alive_is old.spaces.processes p) ∙ alive) ∙ passed
+  mprotect-allowed = lived old s p keeps (sym (alive_is old.spaces.processes p) ∙ alive) (refusal (protect_tests a len)) ∙ passed
 
   in_reach : wraps a len ≡ false
   in_reach = by (is_on_page a) (wraps a len) passed
@@ -551,81 +534,8 @@ module _ {d : Device} (old : Mem) (spaces : AllSpaces) (anons : AnonSet) (s : St
       by true true h = cc
       by true false h = refl
 
-  changed_alike : (q : ℕ) → pages_changed (lengths old.spaces.areas old.anons) (to_prot prot) (page_of a) (reached - page_of a)
-      (areas_on old.spaces.processes p) q
-      ≡ pages_changed (chain_length s.anons) (to_prot prot) (page_of a) (reached - page_of a) (areas_on old.spaces.processes p) q
-  changed_alike = pages_alike (lengths old.spaces.areas old.anons) (chain_length s.anons) (to_prot prot) (page_of a) (reached - page_of a)
-      (areas_on old.spaces.processes p)
-      (lengths_alike d old s keeps old.spaces old.anons (stay_same old.spaces old.anons keeps.anons) p)
-
-  -- so many pages are mapped before the first that isn't
-  leads : pages_to_hole (pages s.world p) (page_of a) (pages_of len) ≡ reached - page_of a
-  leads = is-pages_to_hole (pages s.world p) (page_of a) (pages_of len) (reached - page_of a) (record {
-    most = let high = reaches.highest in omega (arith, high);
-    mapped = λ page low high. sym (taken_is old s p keeps page) ∙ reaches.all page low (let least = reaches.lowest in omega (arith, high, least));
-    ends = λ less. let least = reaches.lowest in
-        let end : page_of a + (reached - page_of a) ≡ reached = omega (arith, least) in
-        ap (is_mapped (pages s.world p)) end ∙ sym (taken_is old s p keeps reached) ∙ reaches.end (omega (arith, less, least));
-  })
-
-  -- their marks are those of the pages, and their bytes are as they were
-  covered-protected : (page : ℕ) → changed_on (page_of a) (reached - page_of a) (to_prot prot) (marks_on (areas_on old.spaces.processes p)) page
-      ≡ marks_at (with_prot_on (pages s.world p) (page_of a) (reached - page_of a) prot) page
-  covered-protected page = by (within (page_of a) (reached - page_of a) page)
-    where
-      so : (o : Option Page) → option_map (marks_with (to_prot prot)) (option_map page_marks o) ≡ option_map page_marks (option_map (with_prot prot) o)
-      so None = refl
-      so (Some x) = refl
-
-      by : (b : Bool) → cond b (option_map (marks_with (to_prot prot)) (marks_on (areas_on old.spaces.processes p) page))
-          (marks_on (areas_on old.spaces.processes p) page)
-          ≡ option_map page_marks (cond b (option_map (with_prot prot) (pages s.world p page)) (pages s.world p page))
-      by true = ap (option_map (marks_with (to_prot prot))) (marks_kept old s keeps p page) ∙ so (pages s.world p page)
-      by false = marks_kept old s keeps p page
-
-  kept-protected : (page : ℕ) → IsKept (view old) d s.ledger (entry s.ledger (p, page))
-      (with_prot_on (pages s.world p) (page_of a) (reached - page_of a) prot page)
-  kept-protected page = by (within (page_of a) (reached - page_of a) page)
-    where
-      held : (o : Option Page) (at : ℕ → ℕ) → Holds o at → Holds (option_map (with_prot prot) o) at
-      held None at h = h
-      held (Some x) at h = h
-
-      kept : (e : Option Entry) (o : Option Page) → IsKept (view old) d s.ledger e o →
-          IsKept (view old) d s.ledger e (option_map (with_prot prot) o)
-      kept None o h = held o (λ _. 0) h
-      kept (Some Zero) o h = held o (λ _. 0) h
-      kept (Some (InFrame f seen)) o h = held o ((view old).bytes f) h
-      kept (Some (InSlot t)) o h = at (frame_at s.ledger t) h
-        where
-          told : (x : Option (ℕ → ℕ → List ℕ)) → IfSome x (λ told. Holds o (slice_index (told t.area t.page)))
-              → IfSome x (λ told. Holds (option_map (with_prot prot) o) (slice_index (told t.area t.page)))
-          told None h = tt
-          told (Some pages) h = held o (slice_index (pages t.area t.page)) h
-
-          at : (f : Option ℕ) → IsKeptAt (view old) d t o f → IsKeptAt (view old) d t (option_map (with_prot prot) o) f
-          at None h = told d.pages h
-          at (Some f) h = held o ((view old).bytes f) h
-
-      by : (b : Bool) → IsKept (view old) d s.ledger (entry s.ledger (p, page))
-          (cond b (option_map (with_prot prot) (pages s.world p page)) (pages s.world p page))
-      by true = kept (entry s.ledger (p, page)) (pages s.world p page) (keeps.stands.parts.bytes.kept p page)
-      by false = keeps.stands.parts.bytes.kept p page
-
-  home_protected : (page : ℕ) (home : ℕ × ℕ) → home_of page (s.areas p page) ≡ Some home →
-      home_of page (pages_changed (chain_length s.anons) (to_prot prot) (page_of a) (reached - page_of a) (s.areas p) page) ≡ Some home
-  home_protected page home is = sym (ap (home_of page) (now_there page)) ∙ homes page home (ap (home_of page) (keeps.stands.areas p page) ∙ is)
-    where
-      itself : (p : ℕ) → (p == p) ≡ true
-      itself p = grind (arith, nat_tests)
-
-      now_there : (page : ℕ) → areas_on spaces.processes p page ≡ pages_changed (chain_length s.anons) (to_prot prot) (page_of a)
-          (reached - page_of a) (s.areas p) page
-      now_there page =
-          areas p page ∙ ap (λ b. (cond b (pages_changed (lengths old.spaces.areas old.anons) (to_prot prot) (page_of a) (reached - page_of a)
-          (areas_on old.spaces.processes p)) (areas_on old.spaces.processes p)) page) (itself p)
-          ∙ changed_alike page ∙ (λ i. pages_changed (chain_length s.anons) (to_prot prot) (page_of a) (reached - page_of a)
-          (λ o. keeps.stands.areas p o i) page)
+  led : pages_to_hole (pages s.world p) (page_of a) (pages_of len) ≡ reached - page_of a
+  led = leads old s p (page_of a) (pages_of len) reached keeps reaches
 
   protected-steps : (answer : Answer)
       → answer ≡ (cond (pages_to_hole (pages s.world p) (page_of a) (pages_of len) == pages_of len) Done (Refused Enomem))
@@ -634,15 +544,8 @@ module _ {d : Device} (old : Mem) (spaces : AllSpaces) (anons : AnonSet) (s : St
       (chain_length s.anons) s.areas s.world (Mprotect p a len prot) answer
       → StepsBeside d old (moved_on old old.tables spaces anons) s (Mprotect p a len prot) (answer_only answer)
   protected-steps answer is world areas_next =
-      let now : Process = with_prot_on (pages s.world p) (page_of a) (reached - page_of a) prot in
-      let new = moved_on old old.tables spaces anons in
-      let now_on = areas_so old new s p (pages_changed (chain_length s.anons) (to_prot prot) (page_of a) (reached - page_of a)) keeps
-      (re_areas old.spaces.processes spaces.processes p _ _ changed_alike areas) in
-      changed old new s (Mprotect p a len prot) (answer_only answer) p now
-      (pages_changed (chain_length s.anons) (to_prot prot) (page_of a) (reached - page_of a) (s.areas p)) s.ledger keeps stay refl
-      (swap_alike old old old new refl refl (swap_itself old))
-      (stays_orderly d old old.tables spaces anons s.ledger refl (orderly old s keeps)) refl refl
-      keeps.stands.items (λ q page other. refl) (cached-itself s.ledger) kept-protected (reach_of old s keeps) (λ page home there is. home_protected page home is)
+      change-steps old spaces anons s p (page_of a) (reached - page_of a) (to_prot prot) (with_prot prot) keeps alive (prot_effect prot) are
+      (Mprotect p a len prot) (answer_only answer)
       (record {
         events = [];
         legal = record {
@@ -654,14 +557,14 @@ module _ {d : Device} (old : Mem) (spaces : AllSpaces) (anons : AnonSet) (s : St
         ledger = refl;
         free = keeps.stands.free;
         rmap = next-plain (rmap_of s) s.world (Mprotect p a len prot) answer _ refl
-            (record { areas = areas_next; anons = are_left d old s keeps spaces anons stay _ now_on; homes = refl; items = refl });
+            (record {
+              areas = areas_next;
+              anons = anons_left old spaces anons s p (page_of a) (reached - page_of a) (to_prot prot) (with_prot prot) keeps alive (prot_effect prot) are;
+              homes = refl;
+              items = refl;
+            });
         shows = tt;
       })
-      now_on
-      (areas_changed old new s p now (changed_on (page_of a) (reached - page_of a) (to_prot prot) (marks_on (areas_on old.spaces.processes p)))
-      keeps alive given covered-protected)
-      (tables_kept old new s p now (changed_on (page_of a) (reached - page_of a) (to_prot prot) (marks_on (areas_on old.spaces.processes p))) keeps
-      alive given covered-protected refl)
 
   -- all pages were mapped
   pub mprotect-steps : page_of a + pages_of len ≤ reached
@@ -669,9 +572,9 @@ module _ {d : Device} (old : Mem) (spaces : AllSpaces) (anons : AnonSet) (s : St
   mprotect-steps whole =
       let high = reaches.highest in
       let size : reached - page_of a ≡ pages_of len = omega (arith, whole, high) in
-      protected-steps Done (sym (ap (λ b. cond b Done (Refused Enomem)) (equal _ _ (leads ∙ size))))
+      protected-steps Done (sym (ap (λ b. cond b Done (Refused Enomem)) (equal _ _ (led ∙ size))))
       (ap (λ k. set_process s.world p (with_prot_on (pages s.world p) (page_of a) k prot)) size)
-      (ap (λ k. with_at p (pages_changed (chain_length s.anons) (to_prot prot) (page_of a) k (s.areas p)) s.areas) (sym leads))
+      (ap (λ k. with_at p (pages_changed (chain_length s.anons) (to_prot prot) (page_of a) k (s.areas p)) s.areas) (sym led))
     where
       equal : (k n : ℕ) → k ≡ n → (k == n) ≡ true
       equal k n e = grind (arith, nat_tests, e)
@@ -682,10 +585,10 @@ module _ {d : Device} (old : Mem) (spaces : AllSpaces) (anons : AnonSet) (s : St
   mprotect-stops less =
       let low = reaches.lowest in
       let fewer : reached - page_of a < pages_of len = omega (arith, less, low) in
-      protected-steps (Refused Enomem) (sym (ap (λ b. cond b Done (Refused Enomem)) (differ _ _ _ leads fewer)))
-      (ap (λ k. set_process s.world p (with_prot_on (pages s.world p) (page_of a) k prot)) (sym leads)
+      protected-steps (Refused Enomem) (sym (ap (λ b. cond b Done (Refused Enomem)) (differ _ _ _ led fewer)))
+      (ap (λ k. set_process s.world p (with_prot_on (pages s.world p) (page_of a) k prot)) (sym led)
       ∙ sym (ap (λ b. cond b s.world (with_prot_to_hole s.world p (page_of a) (pages_of len) prot)) in_reach))
-      (ap (λ k. with_at p (pages_changed (chain_length s.anons) (to_prot prot) (page_of a) k (s.areas p)) s.areas) (sym leads)
+      (ap (λ k. with_at p (pages_changed (chain_length s.anons) (to_prot prot) (page_of a) k (s.areas p)) s.areas) (sym led)
       ∙ sym (ap (λ b. cond b s.areas (with_at p (areas_to_hole (chain_length s.anons) s.world p (page_of a) (pages_of len) prot (s.areas p)) s.areas))
       in_reach))
     where

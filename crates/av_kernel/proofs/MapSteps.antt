@@ -1,16 +1,17 @@
--- The areas of a process stand after a command has changed them.
+-- The areas of a process stand after a command has changed them, and which they are.
 use Rattle.std.proofs.Common.{◌≡◌, ℕ, Bool, true, false, cond, is_some, option_map, refl, sym, ap, ◌∙◌, ◌==◌}
-use Rattle.av_vma.specs.Pages.{pages_in}
-use Rattle.av_spaces.specs.Spaces.{pages_of as areas_on}
+use Rattle.av_base.specs.Words.{with_at}
+use Rattle.av_vma.specs.Pages.{Pages, pages_in}
+use Rattle.av_spaces.specs.Spaces.{Spaces, pages_of as areas_on}
 use Rattle.av_plain.specs.Device.{Device}
 use Rattle.av_plain.specs.Mremap.{marks_at}
 use Rattle.av_plain.specs.World.{Process, lives, pages, set_process}
 use Rattle.av_plain.specs.Transcript.{State}
-use Rattle.av_plain.specs.Stands.{AreasStand}
+use Rattle.av_plain.specs.Stands.{AreasAre, AreasStand}
 use Rattle.av_plain.proofs.World.{pages-set, lives-set, length-set_old}
 use Rattle.av_pagetable.specs.Entries.{has}
 use Rattle.av_mem.specs.declared.mem.Mem.{Mem}
-use Rattle.av_kernel.specs.Map.{GetsMarks, Marks, marks_on}
+use Rattle.av_kernel.specs.Map.{GetsAreas, GetsMarks, Marks, marks_on}
 use Rattle.av_kernel.proofs.MapMarks.{marks_flags, marks_kept, marks_prot, page_marks}
 use Rattle.av_mem.specs.Mem.{ranges_of, view, HasTables, Keeps}
 use Rattle.av_mem.proofs.MemLaws.{alive_is, lives_is, prots_are}
@@ -62,3 +63,28 @@ module _ {d : Device} (old new : Mem) (s : State) (p : ℕ) (now : Process) (mar
       by : (q : ℕ) (b : Bool) → (q == p) ≡ b → lives s.world q ≡ cond (q == p) true (lives s.world q)
       by q true e = ap (lives s.world) (is_number q p e) ∙ lives_now ∙ sym (ap (λ b. cond b true (lives s.world q)) e)
       by q false e = sym (ap (λ b. cond b true (lives s.world q)) e)
+
+-- ---- areas that become others
+
+-- areas that are these are those, too
+pub re_areas : (s t : Spaces) (p : ℕ) (on on' : Pages) → ((page : ℕ) → on page ≡ on' page) → GetsAreas s t p on → GetsAreas s t p on'
+re_areas s t p on on' same h q page = h q page ∙ by (q == p)
+  where
+    by : (b : Bool) → (cond b on (areas_on s q)) page ≡ (cond b on' (areas_on s q)) page
+    by true = same page
+    by false = refl
+
+-- the areas of a process that stay are its own
+pub unplaced : (s : Spaces) (p : ℕ) → GetsAreas s s p (areas_on s p)
+unplaced s p q page = by (q == p) refl
+  where
+    by : (b : Bool) → (q == p) ≡ b → areas_on s q page ≡ (cond b (areas_on s p) (areas_on s q)) page
+    by true e = ap (λ n. areas_on s n page) (is_number q p e)
+    by false e = refl
+
+-- what the kernel's areas become, those of the state do
+pub areas_so : {d : Device} (old new : Mem) (s : State) (p : ℕ) (change : Pages → Pages) → Keeps d old s →
+    GetsAreas old.spaces.processes new.spaces.processes p (change (areas_on old.spaces.processes p)) →
+    AreasAre (view new) (with_at p (change (s.areas p)) s.areas)
+areas_so {d} old new s p change keeps h q page = h q page
+    ∙ (λ i. with_at p (change (λ o. keeps.stands.areas p o i)) (λ r o. keeps.stands.areas r o i) q page)

@@ -1,8 +1,8 @@
 -- Where a command goes.
 use Rattle.std.specs.Prelude.{Bool, false, true}
 use Rattle.av_trace.specs.declared.command.Command.{Command}
-use Rattle.av_trace.specs.declared.command.Command.TheVariants.{Age, Mmap, Mprotect, Mremap, Munmap}
-use Rattle.av_trace.specs.declared.command.Command.TheVariants.{Reclaim}
+use Rattle.av_trace.specs.declared.command.Command.TheVariants.{Age, Madvise, Mmap, Mprotect}
+use Rattle.av_trace.specs.declared.command.Command.TheVariants.{Mremap, Munmap, Reclaim}
 use Rattle.av_plain.specs.Step.{uses_device}
 
 -- whether a command maps, unmaps or changes pages
@@ -11,6 +11,7 @@ is_of_pages (Mmap p len prot place) = true
 is_of_pages (Munmap p a len) = true
 is_of_pages (Mprotect p a len prot) = true
 is_of_pages (Mremap p a old_len new_len mode) = true
+is_of_pages (Madvise p a len advice) = true
 is_of_pages command = false
 
 -- whether a command is handed the device: `read`, `write`, `complete`, `swapon` and `swapoff` may

@@ -14,6 +14,7 @@
 //! device either. All of this is proved, for every command of the grammar.
 #![tactic(auto)]
 
+mod advice;
 mod kernel;
 mod map;
 mod mremap;

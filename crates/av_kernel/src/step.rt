@@ -10,6 +10,7 @@ ghost use Rattle.av_mem.specs.Mem.{frame_count, Keeps, IsSteady, IsSteadyAt};
 ghost use Rattle.av_step.specs.Step.{Does, DoesBeside, MemSteps, reply_in, sizes_of};
 ghost use Rattle.av_kernel.specs.Step.{has_device, is_of_pages};
 
+use crate::advice::madvise;
 use crate::map::{mmap, mprotect, munmap};
 use crate::mremap::mremap;
 use crate::process::{exit, fork, spawn};
@@ -174,6 +175,12 @@ fn map_or_change(mem: &mut Mem, command: &Command, reply: &mut Reply) -> Result<
             new_len,
             mode,
         } => mremap(mem, *process, *address, *old_len, *new_len, *mode, reply),
+        Command::Madvise {
+            process,
+            address,
+            len,
+            advice,
+        } => madvise(mem, *process, *address, *len, *advice, reply),
         _ => unreachable!(),
     }
 }

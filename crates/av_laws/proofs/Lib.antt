@@ -17,3 +17,6 @@ pub mod Covered
 pub mod RunCovered
 pub mod Spared
 pub mod Stay
+pub mod Told
+pub mod FirstView
+pub mod Along

@@ -16,13 +16,14 @@
 --   when a slot is dropped (`is_unneeded`): loaded, kept_in_swap, dropped, mapped_again,
 --     named_by_other
 --   where an access stops (`Accesses`, `stop_answer`, `bytes_before`): denied, read_past, lost,
---     starved_behind
+--     starved_behind; that this page isn't used (`page_events`): denied, lost, starved_at_second
 --   which page may be lost (`IsLost`): lost_without_frame, cached_lost, mapped_lost
 --   how an access ends that is served whole (`read_answer`, `page_events`): read_whole,
 --     written_whole
 --   why it stops (`RunsOut`, `out_of`): starved, no_copy, starved_behind_pass
 --   the memories after a command (`next`, `after_write`, `first_bytes`): stored, apart,
---     stored_in_part, mapped_over, unmapped, forked; (`lives`) spawned, ended, made_by_none
+--     stored_in_part, stored_to_lost, stored_to_starved, mapped_over, unmapped, forked; (`lives`)
+--     spawned, ended, made_by_none
 --   a protection changed (`with_prot_to_hole`, `pages_of`): up_to_hole, wrapped, both_protected,
 --     one_protected
 --   entries that go (`keys_in`, `zaps_of`, `orphan_drop`): both_go, first_goes, own_goes,
@@ -35,6 +36,7 @@
 --     slot_shown, slot_alone
 --   the numbers of `stat` (`totals`): counted
 --   the choice of frames (`ChoosesFrame`): taken_and_freed, dropped_and_freed
+--   which commands use the device (`uses_device`): used, not_used
 use Rattle.std.specs.Prelude.{◌≡◌, ℕ, zero, suc, ◌+◌, negsuc, Bool, true, false, ◌==◌, ◌||◌}
 use Rattle.std.specs.Prelude.{if◌then◌else◌, List, [], ◌∷◌, map, length, Option, Some, None}
 use Rattle.std.specs.Prelude.{option_map, unwrap_or}
@@ -45,11 +47,16 @@ use Rattle.std.specs.List.{range_with_len}
 use Rattle.av_clusters.specs.Clusters.{Slots, fresh, take_slot}
 use Rattle.av_trace.specs.declared.command.Command.{Command}
 use Rattle.av_trace.specs.declared.command.Command.TheVariants.{Spawn, Fork, Exit, Mmap, Munmap}
+use Rattle.av_trace.specs.declared.advice.Advice.TheVariants.{DontNeed}
 use Rattle.av_trace.specs.declared.command.Command.TheVariants.{Mprotect, Read, Write, Maps}
+use Rattle.av_trace.specs.declared.command.Command.TheVariants.{Age, Compact, Complete, Madvise}
+use Rattle.av_trace.specs.declared.command.Command.TheVariants.{Merge, Mlock, Mremap, Munlock}
+use Rattle.av_trace.specs.declared.command.Command.TheVariants.{Reclaim, Stat}
 use Rattle.av_trace.specs.declared.command.Command.TheVariants.{Areas as AsksAreas}
 use Rattle.av_trace.specs.declared.command.Command.TheVariants.{Rmap as AsksRmap}
 use Rattle.av_trace.specs.declared.command.Command.TheVariants.{Entry as AsksEntry}
 use Rattle.av_trace.specs.declared.command.Command.TheVariants.{Slot as AsksSlot, Swapon, Swapoff}
+use Rattle.av_trace.specs.declared.mode.Mode.TheVariants.{MayMove}
 use Rattle.av_trace.specs.declared.note.Note.{Note}
 use Rattle.av_trace.specs.declared.note.Note.TheVariants.{New}
 use Rattle.av_trace.specs.declared.place.Place.TheVariants.{Auto, Fixed, NoReplace}
@@ -414,6 +421,20 @@ abbrev pub refusals_of_areas : List (Command × Option Errno)
 refusals_of_areas =
     (Swapon 0 None, Some Ebusy) ∷ (Swapon 2 (Some 5), None) ∷ (Swapoff 0, None)
     ∷ (Swapoff 2, Some Einval) ∷ (AsksSlot 2 1, Some Einval) ∷ []
+
+-- ---- commands that use the device, and the others
+
+abbrev pub with_device : List Command
+with_device =
+    Read 1 0x10000 1 ∷ Write 1 0x10000 (1 ∷ []) ∷ Mlock 1 0x10000 1 ∷ Complete 1
+    ∷ Swapon 0 None ∷ Swapoff 0 ∷ []
+
+abbrev pub without_device : List Command
+without_device =
+    Spawn 1 ∷ Fork 1 2 ∷ Exit 1 ∷ Mmap 1 4096 read_write Auto ∷ Munmap 1 0x10000 4096
+    ∷ Mprotect 1 0x10000 4096 read_only ∷ Mremap 1 0x10000 4096 8192 MayMove
+    ∷ Madvise 1 0x10000 4096 DontNeed ∷ Munlock 1 0x10000 1 ∷ Reclaim 1 ∷ Age 1 ∷ Merge ∷ Compact
+    ∷ Maps 1 ∷ AsksAreas 1 ∷ AsksRmap 1 0x10000 ∷ AsksEntry 1 0x10000 ∷ AsksSlot 0 1 ∷ Stat ∷ []
 
 -- ---- frames that are chosen
 

@@ -5,13 +5,15 @@
 --   the flag that an advice is about (`flag_of_advice`): forks_again, kept_again, not_merged,
 --     may_be_merged
 --   the pages over which an advice goes (`pages_to_locked`, `with_advice`): over_a_hole,
---     zeros_over_a_hole, zeros_to_locked, none_behind_locked, none_where_bad
---   a lock (`with_lock`, `lock_event`): locked_to_hole, too_many, of_bytes; which pages it brings
---     in, and how (`access_of`):
+--     zeros_over_a_hole, zeros_to_locked, none_behind_locked, none_where_bad; its events
+--     (`advice_events`): entry_goes, entries_to_locked, flag_is_set, flag_over_a_hole,
+--     flag_is_cleared
+--   a lock (`with_lock`): locked_to_hole, too_many, of_bytes; its event (`lock_event`): brought_in,
+--     not_all_mapped, unlocked, unlocked_to_hole; which pages it brings in, and how (`access_of`):
 --     brought_in, not_all_mapped, by_protection; and how much is told (`BringsIn`): from_the_page
 --   what a child gets (`page_of_child`, `inheritance`): with_flags, zeros_in_child,
---     whole_in_child, merged_in_child, inherited; its areas (`areas_to_fork`, `own_to_fork`, `forked_area`):
---     `by_flags` of `Forks`
+--     whole_in_child, merged_in_child, inherited; its areas (`areas_to_fork`, `own_to_fork`,
+--     `forked_area`): `by_flags` of `Forks`
 --   flags that are moved (`process_after_mremap`, `left_behind`): added, left; areas
 --     (`pages_left`): `two_leave_two` of `Mremap`
 --   areas that are cut and joined (`rmap_after_flag`): flagged_inside, set_already, joined_again

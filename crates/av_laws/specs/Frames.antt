@@ -3,13 +3,14 @@
 --   which pages join, and which frame (`candidate_by`, `merged_like`, `other_like`): shared,
 --     not_mergeable, joined_already, has_the_frame, locked_target, joins
 --   what is left alone (`cause_of`, `has_turn`, `out_of`): kept, locked_first, locked_in_flight,
---     no_turn, numbers, locked_counts_first; where a frame goes that is kept (`after_note`): ksm, locked
+--     no_turn, numbers, locked_counts_first; where a frame goes that is kept (`after_note`): ksm,
+--     locked
 --   the last copy of a merged frame (`asks_copy`, `change_frame`): those of
 --     `last_copies_free_merged_frames`
 --   which frame moves, and where to (`next_move`, `with_places`): moves, no_more, merged,
---     goes_along; the free ones (`takes_any`, `sorts_free`, `Compacts`): moved_from_anywhere, risen,
---     no_move
-use Rattle.std.specs.Prelude.{ℕ, true, false, if◌then◌else◌, List, [], ◌∷◌, Some, None, ◌==◌}
+--     goes_along; the free ones (`takes_any`, `sorts_free`, `Compacts`): moved_from_anywhere,
+--     risen, no_move, one_move
+use Rattle.std.specs.Prelude.{true, false, if◌then◌else◌, List, [], ◌∷◌, Some, None, ◌==◌}
 use Rattle.av_base.specs.Flags.{no_flags}
 use Rattle.av_trace.specs.declared.note.Note.{Note}
 use Rattle.av_trace.specs.declared.note.Note.TheVariants.{Joined, Shared}

@@ -1,4 +1,5 @@
 pub mod Determined
+pub mod Events
 pub mod Examples
 pub mod Pairs
 pub mod PassTurns

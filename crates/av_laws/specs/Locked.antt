@@ -1,11 +1,12 @@
 -- What is said of the frames of locked pages.
 use Rattle.std.specs.Prelude.{◌≡◌, ℕ, Bool, true, false, ◌==◌, ◌&&◌, List, [], ◌∷◌}
 use Rattle.av_base.specs.Page.{page_of, pages_met}
+use Rattle.av_base.specs.Words.{renamed}
 use Rattle.av_trace.specs.declared.command.Command.{Command}
 use Rattle.av_trace.specs.declared.command.Command.TheVariants.{Compact, Exit, Mlock, Mmap, Mremap}
 use Rattle.av_trace.specs.declared.command.Command.TheVariants.{Munmap}
 use Rattle.av_trace.specs.declared.note.Note.{Note}
-use Rattle.av_trace.specs.declared.note.Note.TheVariants.{Copied, Unmapped}
+use Rattle.av_trace.specs.declared.note.Note.TheVariants.{Copied, Moved, Unmapped}
 use Rattle.av_plain.specs.Event.{Event, Noted, after}
 use Rattle.av_plain.specs.Fault.{is_locked}
 use Rattle.av_plain.specs.Ledger.{Key, Ledger}
@@ -39,6 +40,12 @@ takes_pages_of p (Mmap q len prot place) = q == p
 takes_pages_of p (Munmap q a len) = q == p
 takes_pages_of p (Mremap q a old new mode) = q == p
 takes_pages_of p command = false
+
+-- where a frame is after some notes, of which some may move it
+abbrev pub frame_after : List Note → ℕ → ℕ
+frame_after [] f = f
+frame_after (Moved from to ∷ notes) f = frame_after notes (renamed from to f)
+frame_after (note ∷ notes) f = frame_after notes f
 
 -- whether a command moves frames
 abbrev pub moves_frames : Command → Bool

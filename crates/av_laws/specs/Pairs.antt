@@ -3,12 +3,15 @@
 -- at all of them, fails here. Which example would fail:
 --   a fork and a move (`after_fork`, `after_move`): forks_and_moves
 --   the ledger after an event (`after`): two_of_each, tail_stays, copied_and_gone, two_areas
---   what a bad page is (`is_usable`, `may_give`): the pass of `bad_pages_are_not_given`
---   failures (`causes`): bus_and_fails, eio, no_failure, cached_when_out
+--   what a bad page is (`is_usable`, `may_give`): bad; (`is_header_slot`) past_header
+--   failures (`causes`): bus_and_fails, eio, no_failure, cached_when_out; (`causes_of`) of_all
 --   what a load makes unclaimed (`without_claims`): its_page, page_of_other, its_other_page,
---     other_page_of_other, told
+--     other_page_of_other, told; by which entries (`after_loads`): put_before; what a read shows
+--     then (`ReadsPages`): shown
 use Rattle.std.specs.Prelude.{◌≡◌, ℕ, Bool, true, false, List, [], ◌∷◌, Option}
 use Rattle.av_base.specs.declared.slot.Slot.{Slot}
+use Rattle.av_trace.specs.declared.command.Command.TheVariants.{Complete, Read}
+use Rattle.av_trace.specs.declared.reply.Answer.TheVariants.{Bus, Done}
 use Rattle.av_trace.specs.declared.note.Note.{Note}
 use Rattle.av_trace.specs.declared.note.Note.TheVariants.{Zeroed, New, Copied, Loaded, Mapped, Put}
 use Rattle.av_trace.specs.declared.note.Note.TheVariants.{Unmapped, Started, Written, Failed}
@@ -20,7 +23,8 @@ use Rattle.av_plain.specs.Ledger.{SwapArea, first_ledger}
 use Rattle.av_plain.specs.Event.{Event, Noted, Used, Forked, EntriesMoved, TurnedOn, TurnedOff}
 use Rattle.av_plain.specs.Event.{Zapped, after}
 use Rattle.av_plain.specs.Load.{with_loads}
-use Rattle.av_laws.specs.Examples.{cached_at, one_area, slot, swap_area, two_bytes}
+use Rattle.av_plain.specs.Transcript.{Exchange, State}
+use Rattle.av_laws.specs.Examples.{cached_at, one_area, reply_with, slot, swap_area, two_bytes}
 
 -- ---- the ledger, event by event
 
@@ -38,8 +42,8 @@ abbrev pub one_of_each : List (Key × Entry)
 one_of_each =
     ((1, 0x10), InFrame 0 true) ∷ ((1, 0x11), Zero) ∷ ((1, 0x12), InSlot (slot 1)) ∷ []
 
--- a child gets all three kinds of entries; another one only that of the page that goes over; a move takes each
--- page to its own
+-- a child gets all three kinds of entries; another one only that of the page that goes over; a move
+-- takes each page to its own
 abbrev pub forks_and_moves : List (Event × Ledger)
 forks_and_moves = (
   Forked 1 4 (0x10 ∷ 0x11 ∷ 0x12 ∷ 0x13 ∷ []),
@@ -226,3 +230,26 @@ abbrev pub ClaimsAfterLoad : Setting → ℕ → ℕ → Option ℕ → Type 0
 ClaimsAfterLoad m p address claimed =
     byte_at (pages (with_loads m two_out.0 two_out.1 (Noted (Loaded (slot 1) 0) ∷ [])) p) address
     ≡ claimed
+
+-- and so after these events, from a state on, at an address of process 1
+abbrev pub ClaimsAfter : Setting → State → List Event → ℕ → Option ℕ → Type 0
+ClaimsAfter m s events address claimed =
+    byte_at (pages (with_loads m s.world s.ledger events) 1) address ≡ claimed
+
+-- the page in frame 0 goes to slot 1, the frame is free, and then has the page of the slot
+abbrev pub put_and_loaded : List Event
+put_and_loaded =
+    Noted (Put 0 (slot 1)) ∷ Noted (Unmapped 0) ∷ Noted (Started (slot 1))
+    ∷ Noted (Written (slot 1)) ∷ Noted (Dropped (slot 1)) ∷ Noted (Loaded (slot 1) 0) ∷ []
+
+-- ---- failures of several commands
+
+-- two writes failed in one, and one page could not be had in another
+abbrev pub two_failed : Exchange
+two_failed = record {
+  command = Complete 2;
+  reply = reply_with Done (Failed (slot 1) ∷ Failed (slot 2) ∷ []);
+}
+
+abbrev pub no_page : Exchange
+no_page = record { command = Read 1 0x10000 1; reply = reply_with (Bus 0 []) [] }

@@ -4,13 +4,15 @@
 --     new_to_head, stuck_to_active_head
 --   what counts over all areas (`is_full`, `totals`): not_full, full, all_slots, all_free_slots
 --   which page of the device it is (`HoldsTold`, `IsClean`): page_at_next_slot, clean_at_next_slot
+--   where a page is by its entry (`IsKept`, `IsKeptAt`): cached, no_entry, zero_page
 --   which area of the device it is (`HoldsTold`, `IsClean`, `headers_of`, `first_pages`):
 --     page_of_other_area, clean_by_other_area, second_header
---   what stays of a device (`IsSameDevice`): other_slots, other_page_0 (with same_header)
-use Rattle.std.specs.Prelude.{ℕ, false, ◌==◌, ◌&&◌, if◌then◌else◌, List, [], ◌∷◌, Option, Some}
-use Rattle.std.specs.Prelude.{None, drop, option_and_then, replicate}
+--   what stays of a device (`IsSameDevice`): other_slots, other_page_0 (with same_header),
+--     slot_written, header_written, attached_again, other_sizes, fewer_failures
+use Rattle.std.specs.Prelude.{ℕ, true, false, ◌==◌, ◌&&◌, if◌then◌else◌, List, [], ◌∷◌, Option}
+use Rattle.std.specs.Prelude.{Some, None, drop, option_and_then, replicate}
 use Rattle.av_swapdev.specs.Header.{Layout}
-use Rattle.av_swapdev.specs.Device.{no_history}
+use Rattle.av_swapdev.specs.Device.{after_attach, after_write, no_history}
 use Rattle.av_plain.specs.Device.{Device, device_by, headers_of}
 use Rattle.av_plain.specs.Ledger.{InSlot, Ledger, Setting, first_ledger}
 use Rattle.av_plain.specs.Stands.{BytesStand}
@@ -50,6 +52,13 @@ abbrev pub with_other_page_0 : Device
 with_other_page_0 = record (swap_device 9) {
   pages = Some (λ k page. if page == 0 then 1 ∷ drop 1 header_page else 9 ∷ replicate 4095 0);
 }
+
+-- a page of area 0 was to be written since, or area 0 was to be attached
+abbrev pub after_writing : ℕ → Device
+after_writing page = record (swap_device 9) { history = after_write 0 page no_history }
+
+abbrev pub attached_again : Device
+attached_again = record (swap_device 9) { history = after_attach 0 [] true no_history }
 
 -- the pages of area 0 begin with 7; area 1 has a header, and its other pages begin with 9
 abbrev pub two_told : Device

@@ -13,6 +13,7 @@
 --   where a `swapoff` ends (`EndsAt`): left_named, cached_unread, later_unread
 --   why it ends there (`end_at`, `close_answer`): unread_behind_pass, starved_behind_pass,
 --     counted_behind_pass, unread_without_frame, unread_is_told
+--   whether the area is on then (`turn_off_events`): turned_off, unmapped_in_turn, unread_stays_on
 --   what a pass does to slots that are still to be emptied (`Empties`, `sparing_area`):
 --     unmapped_in_turn, cached_there_fails
 --   which area gives a slot while one is turned off (`closing_swap_area`, `sparing_area`):
@@ -24,11 +25,12 @@
 --     unused_outside, used_bad, used_outside; (`pages_used`) past_device
 --   what `swapon` tests, and a header (`header_answer`): no_device, no_pages, no_device_unread,
 --     no_pages_unread, unread_header, wrong_header, header
---   which area is on then, and whose header it is (`turn_on_events`, `TurnsOn`): second_area
+--   which area is on then, and whose header it is (`turn_on_events`, `TurnsOn`): second_area,
+--     unread_header, wrong_header
 --   what `swapon` tells where headers aren't told (`IsByHeader`): untold_header,
 --     untold_wrong_header, untold_without_slots
 --   whether swap is full (`Serves`, `is_full`): full_at_the_drop, half_full_at_the_drop
---   whether a page came in (`is_unneeded`): found_when_full
+--   whether a page came in (`is_unneeded`): found_when_full; (`was_slot`) mapped_when_full
 --   what is claimed after a write (`next_world`): written_after_load, around_unclaimed, around_told
 use Rattle.std.specs.Prelude.{◌≡◌, ℕ, Bool, true, false, ◌==◌, if◌then◌else◌, List, [], ◌∷◌, ◌++◌}
 use Rattle.std.specs.Prelude.{Option, Some, None}
@@ -123,6 +125,10 @@ first_emptied =
 -- the other slot has its frame
 abbrev pub two_emptied : List Note
 two_emptied = first_emptied ++ Mapped 2 0x13000 0 ∷ Dropped (slot 2) ∷ []
+
+-- an area is on, and none of its slots is in use
+abbrev pub none_in_use : Ledger
+none_in_use = record first_ledger { on = one_area 2 0 }
 
 -- frame 0 is cached in the upper of two areas, and its write is in flight
 abbrev pub upper_in_flight : Ledger
@@ -236,6 +242,10 @@ found_when_full = record first_ledger {
   inactive = 0 ∷ [];
   on = one_area 1 0;
 }
+
+-- or the page's entry names that slot still
+abbrev pub mapped_when_full : Ledger
+mapped_when_full = record found_when_full { entries = ((1, 0x10), InSlot (slot 1)) ∷ [] }
 
 -- the page at slot 1 is written, so that it is loaded and the slot dropped
 abbrev pub out_and_written : List Event

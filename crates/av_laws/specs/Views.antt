@@ -1,25 +1,66 @@
--- Views of a kernel after a fork, when two processes have frame 0, and once that is cached at slot
--- 1 and unmapped: some that don't stand for the states. Each is the right one but for one thing,
--- which one clause of `Stands` refuses. (That a kernel can stand for a state its own crates show.)
-use Rattle.std.specs.Prelude.{ℕ, ◌-◌, Bool, true, false, ◌==◌, ◌&&◌, ◌||◌, if◌then◌else◌, List, [], ◌∷◌}
-use Rattle.std.specs.Prelude.{◌++◌, Some, None, option_map, replicate, codes}
+-- Views of a kernel where nothing was done; after a fork, when two processes have frame 0; and once
+-- that is cached at slot 1 and unmapped: some that don't stand for the states. Each is the right
+-- one but for one thing, which one clause of `Stands` refuses. (That a kernel can stand for a state
+-- after some commands its own crates show.)
+use Rattle.std.specs.Prelude.{ℕ, ◌-◌, Bool, true, false, ◌==◌, ◌&&◌, ◌||◌, if◌then◌else◌, List}
+use Rattle.std.specs.Prelude.{[], ◌∷◌, ◌++◌, Some, None, option_map, replicate, codes}
 use Rattle.av_clusters.specs.Clusters.{Slots}
+use Rattle.std.specs.List.{range_with_len}
 use Rattle.av_swapdev.specs.Device.{no_history}
-use Rattle.av_plain.specs.Device.{Device, no_device}
+use Rattle.av_plain.specs.Device.{Device, no_device, setting_of}
 use Rattle.av_plain.specs.Ledger.{Entry, InFrame, InSlot, Key, SwapArea, entry, frame_at}
 use Rattle.av_plain.specs.Ledger.{map_count, slot_entries, slot_of}
 use Rattle.av_base.specs.Words.{with_at}
 use Rattle.av_vma.specs.Pages.{fresh_area, pages_in}
 use Rattle.av_vma.specs.declared.area.Area.{Area}
-use Rattle.av_plain.specs.Areas.{Anons, Areas, Homes, Items, no_areas, no_homes, no_items}
+use Rattle.av_plain.specs.Areas.{Anons, Areas, Homes, Items, no_anons, no_areas, no_homes}
+use Rattle.av_plain.specs.Areas.{no_items}
 use Rattle.av_plain.specs.Choice.{no_slots}
 use Rattle.av_plain.specs.Stands.{Stands, View}
-use Rattle.av_plain.specs.Transcript.{State}
+use Rattle.av_plain.specs.Transcript.{State, at_first}
 use Rattle.av_laws.specs.Areas.{anons_of, child, root}
 use Rattle.av_laws.specs.Examples.{after_fork, cached_out, machine, one_area, only_frames}
 use Rattle.av_laws.specs.Examples.{read_write, slot, with_slots, with_swap}
 use Rattle.av_base.specs.Flags.{no_flags}
 use Rattle.av_laws.specs.Flags.{locked}
+
+-- ---- before the first command
+
+-- of so many frames the first four are free, these are inactive, and nothing else is there
+abbrev pub first_view : ℕ → List ℕ → View
+first_view frames inactive = record {
+  frames = frames;
+  bytes = λ f i. 0;
+  maps = λ f. 0;
+  homes = no_homes;
+  items = no_items;
+  slot = λ f. None;
+  dirty = λ f. false;
+  free = range_with_len 0 4;
+  active = [];
+  inactive = inactive;
+  table = λ p page. None;
+  processes = 0;
+  areas = λ p. None;
+  anons = no_anons;
+  find = λ s. None;
+  entries = λ s. 0;
+  flight = [];
+  on = [];
+  slots = no_slots;
+}
+
+-- a device with an area of so many pages that doesn't tell what they hold
+abbrev pub untold_device : ℕ → Device
+untold_device n =
+    record no_device { sizes = λ k. if k == 0 then Some n else None; pages = None }
+
+-- a machine with four frames, and the first of these devices, isn't seen so over the second before
+-- the first command
+abbrev pub NotFirst : Device → View → Device → Type 0
+NotFirst own v device = let m = setting_of 4 own in Stands m v device (at_first m) → ⊥
+
+-- ---- after a fork
 
 -- an area of a process with pages for reading and writing, as it was mapped
 abbrev pub area : ℕ → ℕ → ℕ → Area

@@ -19,8 +19,8 @@ ghost use Rattle.av_laws.specs.Determined.{Tells, IsClaimed, ShowsNoFailure, Sho
 ghost use Rattle.av_laws.specs.Determined.{SameCommands};
 
 /// Where memories and ledger are sound, the devices tell their pages, each byte of the memories is
-/// claimed and no failure of a device shows, a command has one reply, and leaves one state, with its
-/// areas, anon_vmas, free frames and slots: nothing is left to the kernel's choice.
+/// claimed and no failure of a device shows, a command has one reply, and leaves one state, with
+/// its areas, anon_vmas, free frames and slots: nothing is left to the kernel's choice.
 pub fn replies_are_determined()
     ensures { (m : Setting) (old new other : State) (command : Command) (reply reply' : Reply)
         → Tells m → IsClaimed old.world → AllSound m old.world old.ledger

@@ -56,6 +56,7 @@ ghost use Rattle.av_plain.specs.Fault.{Lost, Starved};
 ghost use Rattle.av_plain.specs.Event.{Forked, Noted, Used, Zapped};
 ghost use Rattle.av_plain.specs.Ledger.{InFrame, InSlot, first_ledger};
 ghost use Rattle.av_plain.specs.Place.{Goes, is_room};
+ghost use Rattle.av_plain.specs.Step.{IsLegal, uses_device};
 ghost use Rattle.av_plain.specs.World.{allows, pages, zeros};
 ghost use Rattle.av_laws.specs.Examples.{
   AreRefused,
@@ -93,12 +94,15 @@ ghost use Rattle.av_laws.specs.Examples.{
   taken_and_freed,
   two_kinds,
   two_written,
+  with_device,
   with_hole,
   with_rows_of,
   with_swap,
+  without_device,
   write_only,
   zero_read,
 };
+ghost use Rattle.av_laws.specs.Pairs.{with_frames};
 ghost use Rattle.av_laws.specs.SwapSteps.{third_bad, third_bad_on};
 ghost use Rattle.av_base.specs.Flags.{no_flags};
 
@@ -143,6 +147,14 @@ pub fn memories_follow()
         (Some 7 ∷ []) }
     ensures stored_in_part { LeavesBytes ((1, two_kinds) ∷ [])
         (Write 1 0x7fffffffdffe (1 ∷ 2 ∷ 3 ∷ 4 ∷ [])) (Segv 2 []) 1 0x7fffffffdffe
+        (Some 1 ∷ Some 2 ∷ Some 0 ∷ Some 0 ∷ []) }
+    ensures stored_to_lost { LeavesBytes ((1, two_kinds) ∷ [])
+        (Write 1 0x7fffffffcffe (1 ∷ 2 ∷ 3 ∷ 4 ∷ [])) (Bus 2 []) 1 0x7fffffffcffe
+        (Some 1 ∷ Some 2 ∷ Some 0 ∷ Some 0 ∷ []) }
+    ensures stored_to_starved { LeavesBytes ((1, two_kinds) ∷ [])
+        (Write 1 0x7fffffffcffe (1 ∷ 2 ∷ 3 ∷ 4 ∷ []))
+        (Oom 2 (record { pinned = 0; noslot = 1; fault = 0; locked = 0; ksm = 0 }) [])
+        1 0x7fffffffcffe
         (Some 1 ∷ Some 2 ∷ Some 0 ∷ Some 0 ∷ []) }
     ensures mapped_over { LeavesBytes two_written.world
         (Mmap 1 4096 read_only (Fixed 0x7fffffffd000)) (MapAt 0x7fffffffd000)
@@ -210,8 +222,9 @@ pub fn pages_are_served()
 {}
 
 /// An access that is served whole shows its bytes, or is done, and its pages are used behind their
-/// notes. Else it stops at the first page that isn't served, and tells or shows the bytes before
-/// it: its protection denies it, the device doesn't give it, or there is no frame for it.
+/// notes. Else it stops at the first page that isn't served, which isn't used, and tells or shows
+/// the bytes before it: its protection denies it, the device doesn't give it, or there is no frame
+/// for it.
 pub fn accesses_stop()
     ensures read_whole { ComesBy (with_swap 4 8 7) in_swap_cache (Read 1 0x7fffffffe000 2)
         (reply_with (Data (7 ∷ 0 ∷ [])) [])
@@ -220,13 +233,22 @@ pub fn accesses_stop()
         (Write 1 0x7fffffffe000 (8 ∷ []))
         (reply_with Done (Dropped (slot 1) ∷ []))
         (Noted (Dropped (slot 1)) ∷ Used true (1, 0x7fffffffe) ∷ []) }
-    ensures denied { MayCome (machine 4) ((1, two_kinds) ∷ []) first_ledger
+    ensures denied { IsLegal (machine 4) ((1, two_kinds) ∷ []) first_ledger
         (Write 1 0x7fffffffdffe (1 ∷ 2 ∷ 3 ∷ 4 ∷ []))
-        (reply_with (Segv 2 []) (New 1 0x7fffffffd000 0 ∷ [])) }
+        (reply_with (Segv 2 []) (New 1 0x7fffffffd000 0 ∷ []))
+        (Noted (New 1 0x7fffffffd000 0) ∷ Used true (1, 0x7fffffffd) ∷ []) }
     ensures read_past { Comes (machine 4) at_rest (Read 1 0x7fffffffefff 2)
         (reply_with (Segv 1 (0 ∷ [])) (Zeroed 1 0x7fffffffe000 ∷ [])) }
-    ensures lost { Comes (with_swap 4 8 7) (second_out (0 ∷ [])) (Read 1 0x7fffffffdfff 2)
-        (reply_with (Bus 1 (0 ∷ [])) (Zeroed 1 0x7fffffffd000 ∷ [])) }
+    ensures lost { ComesBy (with_swap 4 8 7) (second_out (0 ∷ [])) (Read 1 0x7fffffffdfff 2)
+        (reply_with (Bus 1 (0 ∷ [])) (Zeroed 1 0x7fffffffd000 ∷ []))
+        (Noted (Zeroed 1 0x7fffffffd000) ∷ Used false (1, 0x7fffffffd) ∷ []) }
+    ensures starved_at_second { IsLegal (machine 1) two_written.world
+        (with_frames (((1, 0x7fffffffd), InFrame 0 true) ∷ []) (0 ∷ []))
+        (Write 1 0x7fffffffdfff (1 ∷ 2 ∷ []))
+        (reply_with
+        (Oom 1 (record { pinned = 0; noslot = 1; fault = 0; locked = 0; ksm = 0 }) [])
+        [])
+        (Used true (1, 0x7fffffffd) ∷ []) }
     ensures starved_behind { read_answer 0x7fffffffdfff
         (Stopped 0x7fffffffe
         (Starved (record { pinned = 0; noslot = 1; fault = 0; locked = 0; ksm = 0 }))) (0 ∷ [])
@@ -256,10 +278,10 @@ pub fn entries_go()
         (Forked 1 2 (0x7fffffffd ∷ 0x7fffffffe ∷ []) ∷ []) }
 {}
 
-/// `maps` shows the longest runs with one protection; `areas` ranges that cover the pages, each with
-/// a chain that rises; `rmap` each entry of the frame of a page's entry, if that names one; `entry`
-/// what a page's entry is, with the slot at which its frame is cached, or the frame that caches its
-/// slot; `stat` how many there are of all.
+/// `maps` shows the longest runs with one protection; `areas` ranges that cover the pages, each
+/// with a chain that rises; `rmap` each entry of the frame of a page's entry, if that names one;
+/// `entry` what a page's entry is, with the slot at which its frame is cached, or the frame that
+/// caches its slot; `stat` how many there are of all.
 pub fn reports_show()
     ensures two_runs { MayCome (machine 4) ((1, two_kinds) ∷ []) first_ledger (Maps 1)
         (with_rows_of (Runs 2)
@@ -304,6 +326,13 @@ pub fn reports_show()
           free_slots = 5;
           processes = 6;
         })) []) }
+{}
+
+/// Commands that read the device or write to it are those that access pages, complete writes or
+/// turn areas on and off; no other uses it, though `reclaim` names slots.
+pub fn some_commands_use_the_device()
+    ensures used { map uses_device with_device ≡ map (λ _. true) with_device }
+    ensures not_used { map uses_device without_device ≡ map (λ _. false) without_device }
 {}
 
 /// The frame that is taken is the first of the free ones, and one that has become free goes in

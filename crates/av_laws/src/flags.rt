@@ -156,10 +156,11 @@ pub fn flags_follow()
         (Some left_out ∷ Some no_flags ∷ []) }
 {}
 
-/// Entries go where nothing is needed. An mlock brings its pages in, each as if it was written, or
-/// read where it can't be, once all are locked; where one isn't mapped none comes. How much it has
-/// brought in counts from the first page. A child inherits the entries of the
-/// pages that go over whole.
+/// Entries go where nothing is needed, up to a locked page. A flag is set or cleared over a hole,
+/// too. An mlock brings its pages in, each as if it was written, or read where it can't be, once
+/// all are locked; where one isn't mapped none comes. How much it has brought in counts from the
+/// first page. A lock is set or cleared up to a hole. A child inherits the entries of the pages
+/// that go over whole.
 pub fn flags_are_told()
     ensures entry_goes { ComesBy (machine 4) (three_written no_flags no_flags no_flags)
         (Madvise 1 0x7fffffffb000 8192 DontNeed)
@@ -169,6 +170,18 @@ pub fn flags_are_told()
         (Madvise 1 0x7fffffffd000 4095 WipeOnFork)
         (reply_with Done [])
         (FlagSet 1 0x7fffffffd 1 flags.WipeOnFork true ∷ []) }
+    ensures entries_to_locked { ComesBy (machine 4) (three_written no_flags locked no_flags)
+        (Madvise 1 0x7fffffffb000 16384 DontNeed)
+        (reply_with (Refused Einval) [])
+        (Zapped (1, 0x7fffffffc) ∷ []) }
+    ensures flag_over_a_hole { ComesBy (machine 4) (three_written no_flags no_flags no_flags)
+        (Madvise 1 0x7fffffffb000 8192 DontFork)
+        (reply_with (Refused Enomem) [])
+        (FlagSet 1 0x7fffffffb 2 flags.DontFork true ∷ []) }
+    ensures flag_is_cleared { ComesBy (machine 4) (three_written no_flags left_out no_flags)
+        (Madvise 1 0x7fffffffd000 4096 DoFork)
+        (reply_with Done [])
+        (FlagSet 1 0x7fffffffd 1 flags.DontFork false ∷ []) }
     ensures brought_in { ComesBy (with_swap 2 4 3) none_written (Mlock 1 0x7fffffffcfff 1)
         (reply_with Done (New 1 0x7fffffffc000 0 ∷ []))
         (FlagSet 1 0x7fffffffc 1 flags.Locked true ∷ Noted (New 1 0x7fffffffc000 0)
@@ -184,6 +197,14 @@ pub fn flags_are_told()
     ensures not_all_mapped { ComesBy (with_swap 2 4 3) none_written (Mlock 1 0x7fffffffe000 8192)
         (reply_with (Refused Enomem) [])
         (FlagSet 1 0x7fffffffe 1 flags.Locked true ∷ []) }
+    ensures unlocked { ComesBy (machine 4) (three_written locked locked locked)
+        (Munlock 1 0x7fffffffcfff 2)
+        (reply_with Done [])
+        (FlagSet 1 0x7fffffffc 2 flags.Locked false ∷ []) }
+    ensures unlocked_to_hole { ComesBy (machine 4) (three_written locked locked locked)
+        (Munlock 1 0x7fffffffe000 8192)
+        (reply_with (Refused Enomem) [])
+        (FlagSet 1 0x7fffffffe 1 flags.Locked false ∷ []) }
     ensures inherited { ComesBy (machine 4) (three_written left_out wiped_off no_flags) (Fork 1 2)
         (reply_with Done [])
         (Forked 1 2 (0x7fffffffe ∷ []) ∷ []) }
@@ -214,8 +235,8 @@ pub fn locked_frames_are_spared()
         (Some (Starved (record { pinned = 0; noslot = 0; fault = 0; locked = 2; ksm = 0 }))) }
 {}
 
-/// A row of `areas` has the flags of the area's pages, and no other; and its chain rises, so that no
-/// anon_vma stands twice in it.
+/// A row of `areas` has the flags of the area's pages, and no other; and its chain rises, so that
+/// no anon_vma stands twice in it.
 pub fn rows_show_flags()
     ensures shown_without { NotShown left_out no_flags [] }
     ensures shown_with_one { NotShown no_flags left_out [] }

@@ -21,7 +21,7 @@ ghost use Rattle.av_plain.specs.Reclaim.{cause_of};
 ghost use Rattle.av_plain.specs.Merge.{ClaimSame, Has, HasJoined, HoldClaims, Merges, candidates};
 ghost use Rattle.av_plain.specs.Merge.{frame_named, merges};
 ghost use Rattle.av_plain.specs.Compact.{Compacts, IsCompacted, next_move};
-ghost use Rattle.av_plain.specs.Step.{next_world};
+ghost use Rattle.av_plain.specs.Step.{IsLegal, next_world};
 ghost use Rattle.av_plain.specs.Sound.{AllSound};
 ghost use Rattle.av_laws.specs.Examples.{ComesBy, MayCome, at_rest, cached_by, machine};
 ghost use Rattle.av_laws.specs.Examples.{reply_with};
@@ -81,8 +81,8 @@ pub fn frames_are_shared_and_move()
 {}
 
 /// A merged frame is left alone, and shown as one: reclaim keeps it, unless a page of it is locked,
-/// which is asked first; a pass goes over the others alone, and an out-of-memory counts it. A page whose frame is
-/// that of a locked page does not join another.
+/// which is asked first; a pass goes over the others alone, and an out-of-memory counts it. A page
+/// whose frame is that of a locked page does not join another.
 pub fn merged_frames_are_left_alone()
     ensures kept { cause_of (machine 4) none_spared one_merged 3 ≡ Some Ksm }
     ensures locked_first { cause_of (machine 4) all_locked one_merged 3 ≡ Some Locked }
@@ -111,8 +111,8 @@ pub fn merges_ask_each_page()
         ((1, 0x10) ∷ (2, 0x10) ∷ (3, 0x10) ∷ []) ≡ Joined 2 0x10000 3 ∷ [] }
 {}
 
-/// A frame that is kept as one of a locked page, or as a merged one, goes to the head of active, and
-/// its entries are seen as before.
+/// A frame that is kept as one of a locked page, or as a merged one, goes to the head of active,
+/// and its entries are seen as before.
 pub fn kept_frames_stay_seen()
     ensures ksm { after_note (Kept 3 Ksm) merged_in_inactive ≡ merged_at_head }
     ensures locked { after_note (Kept 3 Locked) merged_in_inactive ≡ merged_at_head }
@@ -126,6 +126,9 @@ pub fn compactions_order_free_frames()
     ensures risen { ChoosesFrame (machine 4) (after_note (Moved 3 0) one_merged) FreeSorted
         (3 ∷ 2 ∷ []) (2 ∷ 3 ∷ []) }
     ensures no_move { ComesBy (machine 4) at_rest Compact (reply_with Done []) (FreeSorted ∷ []) }
+    ensures one_move { IsLegal (machine 4) mergeable_pages one_merged Compact
+        (reply_with Done (Moved 3 0 ∷ []))
+        (Noted (Moved 3 0) ∷ FreeSorted ∷ []) }
 {}
 
 /// A write to a page copies a merged frame also where it is the last one: that frame is free then,

@@ -1,13 +1,13 @@
 //! What follows from the definitions of `av_plain`, beside what the kernel needs of them: replies
-//! are determined, numbers add up, a refusal changes nothing or no more than what it met, a reply is
-//! read back from its text, what is free is listed, only equal pages are merged, a compaction takes
-//! the lowest frames, areas cover what is mapped, frames of locked pages stay; and worked examples
-//! of the definitions. Each stands for a wrong version of one, which breaks it; where a law of this
-//! crate breaks with that version there is no example. They are single commands, turns in a pass,
-//! single steps of swap, several of a kind that differ, what lines, answers, notes and rows say,
-//! slots that are given, areas, anon_vmas and homes that come of commands, flags of pages, frames
-//! that are shared or move, forks, pages that move, states that aren't sound, and views that don't
-//! stand for a state.
+//! are determined, numbers add up, a report changes nothing, a refusal nothing or no more than what
+//! it met, a reply is read back from its text, what is free is listed, only equal pages are merged,
+//! a compaction takes the lowest frames, areas cover what is mapped, frames of locked pages stay;
+//! and worked examples of the definitions. Each stands for a wrong version of one, which breaks it;
+//! where a law of this crate breaks with that version there is no example. They are single
+//! commands, turns in a pass, single steps of swap, several of a kind that differ, what lines,
+//! answers, notes and rows say, slots that are given, areas, anon_vmas and homes that come of
+//! commands, flags of pages, frames that are shared or move, forks, pages that move, states that
+//! aren't sound, and views that don't stand for a state.
 //!
 //! No function does anything. Each one's contract is a law, proved of the definitions alone.
 #![tactic(auto)]
@@ -15,6 +15,7 @@
 mod areas;
 mod cover;
 mod determinism;
+mod events;
 mod examples;
 mod flags;
 mod forks;
@@ -42,9 +43,10 @@ pub use determinism::{
     areas_has_one_answer, failures_are_within, maps_has_one_answer, replies_are_determined,
     runs_are_determined,
 };
+pub use events::events_are_told;
 pub use examples::{
     accesses_stop, commands_are_refused, entries_go, frames_are_chosen, mappings_have_room,
-    memories_follow, pages_are_served, reports_show,
+    memories_follow, pages_are_served, reports_show, some_commands_use_the_device,
 };
 pub use flags::{
     advice_is_about_one_flag, flags_are_refused, flags_are_told, flags_cut_areas, flags_follow,
@@ -81,8 +83,8 @@ pub use refusals::{
     refused_advice_changes_the_pages_that_it_met,
 };
 pub use several::{
-    all_areas_count, areas_have_pages_of_their_own, frames_go_to_the_head,
-    page_0_of_a_device_stays, pages_are_at_their_own_slots,
+    all_areas_count, areas_have_pages_of_their_own, devices_stay_the_same, frames_go_to_the_head,
+    pages_are_at_their_own_slots,
 };
 pub use slots::{
     areas_are_turned_on_anew, priorities_decide, slots_are_given_in_turn, slots_come_back,

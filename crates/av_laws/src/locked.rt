@@ -3,6 +3,7 @@
 ghost use Rattle.std.specs.Prelude.{◌≡◌, ℕ, false, true, IsSomeAnd};
 ghost use Rattle.std.specs.List.{list_any};
 ghost use Rattle.av_trace.specs.declared.command.Command.{Command};
+ghost use Rattle.av_trace.specs.declared.command.Command.TheVariants.{Compact};
 ghost use Rattle.av_trace.specs.declared.reply.Reply.{Reply};
 ghost use Rattle.av_plain.specs.Ledger.{Key, Setting, entry, names_frame};
 ghost use Rattle.av_plain.specs.Sound.{AllSound};
@@ -10,6 +11,7 @@ ghost use Rattle.av_plain.specs.Transcript.{IsStep, State};
 ghost use Rattle.av_plain.specs.World.{is_locked_page, pages};
 ghost use Rattle.av_laws.specs.Locked.{
   AllSpareLocked,
+  frame_after,
   is_copy_of,
   memories_in,
   moves_frames,
@@ -18,7 +20,8 @@ ghost use Rattle.av_laws.specs.Locked.{
 
 /// No frame is unmapped that the entry of a locked page names. The entry of such a page goes on
 /// naming its frame, unless a note copies the page, or the command is one of its process that takes
-/// pages away, moves them, or maps others in their place, or one that moves frames.
+/// pages away, moves them, or maps others in their place. A compaction moves frames, those of
+/// locked pages too, and each entry goes along with its frame.
 pub fn locked_frames_stay()
     ensures unmaps_none { (m : Setting) (old new : State) (command : Command) (reply : Reply)
         (step : IsStep m old command reply new)
@@ -30,4 +33,8 @@ pub fn locked_frames_stay()
         → list_any (is_copy_of k) reply.notes ≡ false
         → IsSomeAnd (entry old.ledger k) (λ e. names_frame f e ≡ true)
         → IsSomeAnd (entry new.ledger k) (λ e. names_frame f e ≡ true) }
+    ensures entries_go_along { (m : Setting) (old new : State) (reply : Reply) (k : Key) (f : ℕ)
+        → IsStep m old Compact reply new
+        → IsSomeAnd (entry old.ledger k) (λ e. names_frame f e ≡ true)
+        → IsSomeAnd (entry new.ledger k) (λ e. names_frame (frame_after reply.notes f) e ≡ true) }
 {}

@@ -15,6 +15,7 @@ ghost use Rattle.av_trace.specs.declared.note.Note.TheVariants.{
   Dropped,
   Failed,
   Kept,
+  Mapped,
   Started,
   Unmapped,
   Written,
@@ -28,7 +29,7 @@ ghost use Rattle.av_trace.specs.declared.reply.Answer.TheVariants.{
   SlotCount,
 };
 ghost use Rattle.av_trace.specs.declared.reply.Errno.TheVariants.{Einval, Eio};
-ghost use Rattle.av_plain.specs.Event.{TurnedOn, after_notes};
+ghost use Rattle.av_plain.specs.Event.{TurnedOff, TurnedOn, after_notes, note_events};
 ghost use Rattle.av_plain.specs.Fault.{Touches};
 ghost use Rattle.av_plain.specs.Ledger.{InFrame, first_ledger, is_full};
 ghost use Rattle.av_plain.specs.Reclaim.{cause_of, leave_notes};
@@ -68,6 +69,8 @@ ghost use Rattle.av_laws.specs.SwapSteps.{
   found_when_full,
   four_inactive,
   four_reclaimed,
+  mapped_when_full,
+  none_in_use,
   numbers,
   one_out,
   other_area_fills,
@@ -110,15 +113,17 @@ pub fn frames_are_reclaimed_from_the_tail()
         (both_cached true (InFrame 0 false) [] (1 ∷ 0 ∷ []))
         0 (slot 1)
         ≡ Unmapped 0 ∷ Started (slot 1) ∷ Kept 0 WriteStarted ∷ [] }
-    ensures two_aged { MayCome (with_swap 4 3 2) [] three_active (Age 2)
-        (reply_with Done (Aged 0 ∷ Aged 1 ∷ [])) }
+    ensures two_aged { IsLegal (with_swap 4 3 2) [] three_active (Age 2)
+        (reply_with Done (Aged 0 ∷ Aged 1 ∷ []))
+        (note_events (Aged 0 ∷ Aged 1 ∷ [])) }
 {}
 
 /// The writes that are completed are the first in flight, in the order in which they began; where
 /// fewer are in flight, all of them, also those behind one that fails.
 pub fn the_first_writes_are_completed()
-    ensures first_completed { MayCome (with_swap 4 3 2) [] two_flying (Complete 1)
-        (reply_with Done (Written (slot 2) ∷ [])) }
+    ensures first_completed { IsLegal (with_swap 4 3 2) [] two_flying (Complete 1)
+        (reply_with Done (Written (slot 2) ∷ []))
+        (note_events (Written (slot 2) ∷ [])) }
     ensures both_completed { MayCome (with_swap 4 3 2) [] two_flying (Complete 5)
         (reply_with Done both_written) }
     ensures failed_stays { MayCome (with_swap 4 3 2) [] two_flying (Complete 1)
@@ -136,7 +141,8 @@ pub fn the_first_writes_are_completed()
 /// is still to be emptied.
 ///
 /// A page is unread at no slot but the least in use. It ends only at one that is in no frame: there
-/// none is free behind the pass, or one is and the device does not give the page.
+/// none is free behind the pass, or one is and the device does not give the page. Then the area
+/// stays on, and else it is off.
 pub fn slots_are_emptied_in_turn()
     ensures two_emptied { MayCome (with_swap 4 3 2) [] two_slots (Swapoff 0)
         (reply_with Done two_emptied) }
@@ -157,13 +163,19 @@ pub fn slots_are_emptied_in_turn()
         (NoRoom (numbers 1 0)) → ⊥ }
     ensures counted_behind_pass { Ends one_frame_two_areas (lower_in_use 1) counted_behind_pass
         (NoRoom (numbers 0 1)) }
-    ensures unmapped_in_turn { MayCome (with_swap 1 3 2) [] (cached_by_second false) (Swapoff 0)
-        (reply_with (NoFrame (numbers 1 0)) unmapped_in_turn) }
     ensures cached_there_fails { Ends (with_swap 1 3 2) (cached_by_second true) cached_there_fails
         (NoRoom (numbers 0 1)) }
     ensures unread_without_frame { Ends (with_swap 1 3 2) (cached_by_second true)
         cached_there_fails Unread → ⊥ }
     ensures unread_is_told { close_answer Unread ≡ Refused Eio }
+    ensures turned_off { IsLegal (with_swap 4 3 2) [] none_in_use (Swapoff 0) (reply_with Done [])
+        (TurnedOff 0 ∷ []) }
+    ensures unmapped_in_turn { IsLegal (with_swap 1 3 2) [] (cached_by_second false) (Swapoff 0)
+        (reply_with (NoFrame (numbers 1 0)) unmapped_in_turn)
+        (note_events unmapped_in_turn) }
+    ensures unread_stays_on { IsLegal (with_swap 4 8 7) (paged_out 7 []).world
+        (paged_out 7 []).ledger (Swapoff 0)
+        (reply_with (Refused Eio) []) [] }
 {}
 
 /// `slot` tells a bad page and the count of a slot, and refuses page 0, a page past the header's
@@ -198,9 +210,9 @@ pub fn slots_are_told()
 {}
 
 /// `swapon` refuses an area without a device, or without a page, before anything is read of it.
-/// Else its page 0 isn't read, or is no header, or is one and its numbers are told: those of the
-/// area that is asked for, and this one is on. Where headers aren't told, these may be any numbers,
-/// but for no slots.
+/// Else its page 0 isn't read, or is no header, and no area is on; or it is one and its numbers are
+/// told: those of the area that is asked for, and this one is on. Where headers aren't told, these
+/// may be any numbers, but for no slots.
 pub fn areas_are_turned_on()
     ensures no_device { MayCome third_bad [] first_ledger (Swapon 3 None)
         (reply_with (Refused Einval) []) }
@@ -210,10 +222,10 @@ pub fn areas_are_turned_on()
         (reply_with (Refused Eio) []) }
     ensures no_pages_unread { MayNotCome third_bad [] first_ledger (Swapon 1 None)
         (reply_with (Refused Eio) []) }
-    ensures unread_header { MayCome third_bad [] first_ledger (Swapon 0 None)
-        (reply_with (Refused Eio) []) }
-    ensures wrong_header { MayCome third_bad [] first_ledger (Swapon 2 None)
-        (reply_with (Refused Einval) []) }
+    ensures unread_header { IsLegal third_bad [] first_ledger (Swapon 0 None)
+        (reply_with (Refused Eio) []) [] }
+    ensures wrong_header { IsLegal third_bad [] first_ledger (Swapon 2 None)
+        (reply_with (Refused Einval) []) [] }
     ensures header { MayCome third_bad [] first_ledger (Swapon 0 None) (reply_with (On 6 1) []) }
     ensures second_area { IsLegal two_swaps [] first_ledger (Swapon 1 None)
         (reply_with (On 7 0) [])
@@ -227,8 +239,8 @@ pub fn areas_are_turned_on()
 {}
 
 /// A slot is dropped behind a load where swap is full then, though it wasn't before the page came
-/// in; and not where half of it is free then. A read that finds the page in its frame drops
-/// nothing, however full swap is.
+/// in; and not where half of it is free then. So it is at a page that is mapped to the frame that
+/// caches its slot. A read that finds the page in its frame drops nothing, however full swap is.
 pub fn full_is_asked_at_the_drop()
     ensures full_at_the_drop { Touches (with_swap 1 4 3) all_readable (one_out 3) false (1, 0x10)
         page_in_and_drop None }
@@ -236,6 +248,9 @@ pub fn full_is_asked_at_the_drop()
         ≡ false }
     ensures found_when_full { Touches (with_swap 1 2 1) all_readable found_when_full false (1, 0x10)
         [] None }
+    ensures mapped_when_full { Touches (with_swap 1 2 1) all_readable mapped_when_full false
+        (1, 0x10)
+        (Mapped 1 0x10000 0 ∷ Dropped (slot 1) ∷ []) None }
 {}
 
 /// A page that is written is loaded first: so the bytes that were written are claimed, and around

@@ -1,11 +1,15 @@
 //! Views of a kernel that don't stand for a state.
 
 ghost use Rattle.std.specs.Prelude.{[], ◌∷◌, true, false, None};
+ghost use Rattle.av_plain.specs.Device.{no_device};
+ghost use Rattle.av_plain.specs.Stands.{Stands};
+ghost use Rattle.av_plain.specs.Transcript.{at_first};
 ghost use Rattle.av_laws.specs.Areas.{family};
-ghost use Rattle.av_laws.specs.Examples.{with_slots};
+ghost use Rattle.av_laws.specs.Examples.{machine, with_slots};
 ghost use Rattle.av_clusters.specs.Clusters.{fresh};
 ghost use Rattle.av_laws.specs.Views.{
   NotCovered,
+  NotFirst,
   NotFor,
   NotFree,
   NotGiven,
@@ -20,12 +24,15 @@ ghost use Rattle.av_laws.specs.Views.{
   cached_state,
   cached_view,
   fewer_slots,
+  first_view,
   homes_with,
   items_with,
   merged_view,
   one_anon,
   right,
+  swap_device,
   topmost,
+  untold_device,
   view_with,
   with_fewer_slots,
 };
@@ -34,7 +41,16 @@ ghost use Rattle.av_laws.specs.Views.{
 /// write bit over it, all entries and counts, the free frames in their order, each of them once, no
 /// slots, no other active frames, and the areas of each process that lives: apart, over its pages
 /// alone, its own, and with their offsets and flags.
+///
+/// Before the first command, a view stands for the first state, but not where it has another number
+/// of frames, or one of them inactive; nor does it over a device with other sizes, or with headers
+/// that aren't told where they were.
 pub fn changed_views_do_not_stand()
+    ensures first { Stands (machine 4) (first_view 4 []) no_device (at_first (machine 4)) }
+    ensures more_frames { NotFirst no_device (first_view 5 []) no_device }
+    ensures made_inactive { NotFirst no_device (first_view 4 (0 ∷ [])) no_device }
+    ensures other_sizes { NotFirst (untold_device 8) (first_view 4 []) (untold_device 9) }
+    ensures other_headers { NotFirst (swap_device 7) (first_view 4 []) (untold_device 8) }
     ensures other_byte { Refused (record right { bytes = λ f i. 0 }) }
     ensures write_bit { Refused (view_with (λ p. topmost p ∷ []) true) }
     ensures no_entry { Refused (record right { table = λ p page. None }) }

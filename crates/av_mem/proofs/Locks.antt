@@ -11,7 +11,7 @@ use Rattle.av_vma.specs.declared.area.Area.{Area}
 use Rattle.av_vma.specs.Index.{first_of, past_of}
 use Rattle.av_vma.specs.Pages.{has_page, pages_in}
 use Rattle.av_pagetable.specs.Entries.{entry_at}
-use Rattle.av_rmap.specs.Locked.{is_locked as is_area_locked}
+use Rattle.av_vma.specs.Areas.{is_locked as is_area_locked}
 use Rattle.av_rmap.specs.Walk.{names_frame}
 use Rattle.av_spaces.specs.Spaces.{AreNumbered, Spaces, pages_of}
 use Rattle.av_plain.specs.Areas.{Rmap}

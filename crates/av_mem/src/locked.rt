@@ -29,7 +29,8 @@ impl Mem {
         self.items.is_merged(frame)
     }
 
-    /// Whether a page whose entry names the frame is locked.
+    /// Whether a page whose entry names the frame is locked. It looks at no area where no area is
+    /// locked.
     pub fn is_locked(&self, frame: u32) -> bool
         requires anons { AnonsFit self.now.spaces self.now.anons }
         requires itemed { HasItems self.now }
@@ -39,7 +40,7 @@ impl Mem {
             (HasLocked self.now frame → ⊥) }
         ensures numbered { AreNumbered self.now.spaces }
     {
-        self.has_locked::<Brand>(frame, Blank::new(1))
+        self.spaces.by_number().any_locked() && self.has_locked::<Brand>(frame, Blank::new(1))
     }
 
     // The same. Nobody counts the looks.

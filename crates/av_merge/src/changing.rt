@@ -166,7 +166,7 @@ pub fn modify_all(
 }
 
 /// The first page from `from` on that is mapped, else `to`.
-fn next_mapped(tree: &Tree, from: u64, to: u64) -> u64
+pub fn next_mapped(tree: &Tree, from: u64, to: u64) -> u64
     requires spans { AreSpans tree.now }
     requires forward { from ≤ to }
     ensures least { from ≤ result }

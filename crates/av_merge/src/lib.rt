@@ -37,7 +37,7 @@ mod placing;
 mod preparing;
 mod splitting;
 
-pub use changing::{Change, map, modify, modify_all};
+pub use changing::{Change, map, modify, modify_all, next_mapped};
 pub use forking::fork;
 pub use laws::{
     areas_are_laid, joins_keep_mappings, parts_are_changed_page_by_page, unmappings_keep_mappings,

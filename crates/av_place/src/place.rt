@@ -21,7 +21,7 @@ use av_trace::{Errno, Place};
 const TOP: u64 = PAGE_SIZE * TOP_PAGE;
 
 /// How many pages addresses of 64 bits have.
-const ADDRESS_PAGES: u64 = 1 << 52;
+pub(crate) const ADDRESS_PAGES: u64 = 1 << 52;
 
 /// Whether a length in bytes, rounded up to whole pages, is more than a process can have.
 pub fn is_too_long(len: u64) -> bool

@@ -170,7 +170,8 @@ pub record SaysSound (m : Setting) (w : World) (l : Ledger) : Type 0 where
   -- a process has at most one entry of a frame that isn't merged and the slot at which it is
   -- cached, and at most one of a slot
   pub one_frame : (f p page other : ℕ) (d e : Entry) → is_merged l f ≡ false
-      → entry l (p, page) ≡ Some d → is_of l f d ≡ true → entry l (p, other) ≡ Some e → is_of l f e ≡ true → page ≡ other
+      → entry l (p, page) ≡ Some d → is_of l f d ≡ true → entry l (p, other) ≡ Some e
+      → is_of l f e ≡ true → page ≡ other
   pub one_slot : (s : Slot) (p page other : ℕ) (d e : Entry) → entry l (p, page) ≡ Some d
       → names_slot s d ≡ true → entry l (p, other) ≡ Some e → names_slot s e ≡ true → page ≡ other
   -- so no more entries name a frame that isn't merged, or a slot, than processes live

@@ -6,7 +6,7 @@ use Rattle.std.specs.FinMap.Entries.{find as find_area}
 use Rattle.std.specs.List.{AllByRecursion, find, list_all}
 use Rattle.std.specs.Option.{option_map_or}
 use Rattle.std.specs.Ordering.{nat_cmp}
-use Rattle.std.specs.Prelude.{ℤ, int_le, IsSomeAnd, MatchOption}
+use Rattle.std.specs.Prelude.{ℤ, int_le, IsSomeAnd, MatchBool, MatchOption}
 use Rattle.av_base.specs.Words.{with_at}
 use Rattle.av_base.specs.declared.slot.Slot.{Slot}
 use Rattle.av_clusters.specs.Clusters.{Slots, take_slot}
@@ -27,7 +27,7 @@ use Rattle.av_swapcache.specs.Swap.{GivesFirst, Shown, can_give, free_of, is_are
 use Rattle.av_swapcache.proofs.Views.{first_on, gives_first-is, goes_first}
 use Rattle.av_evict.specs.Steps.{MayPut, put_notes}
 use Rattle.av_evict.specs.System.{Makes, Tells, any_slot}
-use Rattle.av_evict.proofs.StepLaws.{unmerged-count}
+use Rattle.av_evict.proofs.StepLaws.{open-gives, unmerged-count}
 use Rattle.av_mem.specs.Cache.{Puts}
 use Rattle.av_mem.specs.Mem.{Serves, area_of, held_by, setting_by, view}
 use Rattle.av_mem.specs.Steps.{KeepsParts}
@@ -117,6 +117,33 @@ module _ (d : Device) (k : Mem) (w : World) (r : Rmap) (l : Ledger) (h : Serves 
       by true n e = grind (arith, nat_tests, e)
       by false n e = refl
 
+  -- an area that gives is open, and has a free slot
+  module _ (j : ℕ) (gives : can_give swap j ≡ true) where
+    first : (a b : Bool) → (a && b) ≡ true → a ≡ true
+    first true b e = refl
+    first false b e = e
+
+    second : (a b : Bool) → (a && b) ≡ true → b ≡ true
+    second true b e = e
+    second false b e = absurd (false≢true e)
+
+    is-open : is_open (closing_of k) j ≡ true
+    is-open = open-as swap j ∙ second (nat_lt 0 (free_of swap j)) (not (is_closing swap j)) gives
+
+    has-free : has_free_slot m l j ≡ true
+    has-free = has (find_area nat_cmp j l.on) (h.free.slots.number j) (first (nat_lt 0 (free_of swap j)) (not (is_closing swap j)) gives)
+      where
+        has : (o : Option SwapArea) → free_of swap j ≡ option_map_or (λ area. free_slots m l (j, area)) o 0 → nat_lt 0 (free_of swap j) ≡ true
+            → option_map_or (λ area. nat_lt 0 (free_slots m l (j, area))) o false ≡ true
+        has None e some = absurd (false≢true (sym (ap (nat_lt 0) e) ∙ some))
+        has (Some x) e some = sym (ap (nat_lt 0) e) ∙ some
+
+  -- whether one gives, and so whether a slot may be given
+  pub slot-told : (b : Bool) → MatchBool b ((j : ℕ) × (can_give swap j ≡ true)) ((j : ℕ) → can_give swap j ≡ false)
+      → b ≡ not (no_slot m (closing_of k) l)
+  slot-told true some = sym (ap not (open-gives m (closing_of k) l some.0 (is-open some.0 some.1) (has-free some.0 some.1)))
+  slot-told false none = sym (ap not (none-gives none))
+
   module _ (s : Slot) (rest : Slots) (area : GivesFirst swap most_areas s.area) (slot : take_slot (swap.slots s.area) ≡ Some (s.page, rest)) where
     first-gives : giving_swap_area m (closing_of k) l ≡ Some s.area
     first-gives = subst (λ on. option_map (λ (a : ℕ × SwapArea). a.0) (find (λ a. can_give_in m (closing_of k) l a
@@ -137,29 +164,13 @@ module _ (d : Device) (k : Mem) (w : World) (r : Rmap) (l : Ledger) (h : Serves 
     pub may-be-given : may_give m (closing_of k) l s ≡ true
     may-be-given = all-three (is_free_slot m l s) (is_open (closing_of k) s.area) (has_free_slot m l s.area)
         (h.free.slots.free s (subst (Gives (swap.slots s.area)) slot (gives-one (swap.slots s.area))).0)
-        (open-as swap s.area ∙ second (nat_lt 0 (free_of swap s.area)) (not (is_closing swap s.area)) area.gives)
-        (has (find_area nat_cmp s.area l.on) (h.free.slots.number s.area)
-        (first (nat_lt 0 (free_of swap s.area)) (not (is_closing swap s.area)) area.gives))
+        (is-open s.area area.gives) (has-free s.area area.gives)
       where
-        first : (a b : Bool) → (a && b) ≡ true → a ≡ true
-        first true b e = refl
-        first false b e = e
-
-        second : (a b : Bool) → (a && b) ≡ true → b ≡ true
-        second true b e = e
-        second false b e = absurd (false≢true e)
-
         all-three : (a b c : Bool) → a ≡ true → b ≡ true → c ≡ true → (a && b && c) ≡ true
         all-three true true true x y z = refl
         all-three true true false x y z = z
         all-three true false c x y z = absurd (false≢true y)
         all-three false b c x y z = absurd (false≢true x)
-
-        has : (o : Option SwapArea) → free_of swap s.area ≡ option_map_or (λ area. free_slots m l (s.area, area)) o 0
-            → nat_lt 0 (free_of swap s.area) ≡ true
-            → option_map_or (λ area. nat_lt 0 (free_slots m l (s.area, area))) o false ≡ true
-        has None e some = absurd (false≢true (sym (ap (nat_lt 0) e) ∙ some))
-        has (Some x) e some = sym (ap (nat_lt 0) e) ∙ some
 
 -- ---- the step
 

@@ -1,5 +1,5 @@
 -- What a memory system tells of a ledger that it serves.
-use Rattle.std.proofs.Common.{◌≡◌, ℕ, zero, suc, ◌+◌, ◌<◌, ◌≤◌, min, ◌⊎◌, inl, inr, T, Bool, true, false, cond, ◌==◌, ◌&&◌, ◌||◌, nat_lt, List, [], ◌∷◌, ◌++◌, map, filter, reverse, Option, Some, None, refl, sym, ap, subst, ◌∙◌, arith}
+use Rattle.std.proofs.Common.{◌≡◌, ℕ, zero, suc, ◌+◌, ◌<◌, ◌≤◌, min, ◌⊎◌, inl, inr, T, Bool, true, false, cond, ◌==◌, ◌&&◌, ◌||◌, nat_lt, List, [], ◌∷◌, ◌++◌, map, filter, reverse, Option, Some, None, is_some, refl, sym, ap, subst, ◌∙◌, arith}
 use Rattle.std.proofs.lemmas.Bool.Decides.{nat_tests}
 use Rattle.std.proofs.lemmas.Bool.{false≢true}
 use Rattle.std.proofs.lemmas.List.{append_assoc, append-nil, reverse-append}
@@ -12,23 +12,28 @@ use Rattle.av_lru.specs.Lists.{frame_before, last_of}
 use Rattle.av_pagetable.specs.declared.pte.Pte.{Pte}
 use Rattle.av_pagetable.specs.declared.pte.Pte.TheVariants.{Empty, Zero, Here, Away}
 use Rattle.av_pagetable.specs.Entries.{entry_at}
-use Rattle.av_rmap.specs.Items.{is_merged as has_items}
+use Rattle.av_rmap.specs.Items.{is_merged as has_items, shown}
 use Rattle.av_rmap.specs.Walk.{names_seen as pte_seen}
+use Rattle.av_vma.specs.Areas.{area_of, is_locked}
+use Rattle.av_vma.specs.declared.area.Area.{Area}
 use Rattle.av_plain.specs.Areas.{Rmap}
 use Rattle.av_plain.specs.Choice.{ListsFree}
 use Rattle.av_plain.specs.Device.{Device}
-use Rattle.av_plain.specs.Ledger.{Entry, Key, Ledger, Setting, has_free, is_free, is_merged, key_cmp}
+use Rattle.av_plain.specs.Ledger.{Entry, Key, Ledger, Setting, has_free, is_free, is_merged, key_cmp, slot_of}
 use Rattle.av_plain.specs.Reclaim.{is_referenced, names_seen}
 use Rattle.av_plain.specs.Sound.{IsSoundBut, uses}
 use Rattle.av_plain.specs.Stands.{entry_of}
 use Rattle.av_plain.specs.World.{World}
+use Rattle.av_plain.proofs.Event.{how_many-same}
 use Rattle.av_plain.proofs.Ledger.{how_many-append, same_key, same_key-itself}
 use Rattle.av_plain.proofs.Ledger.Walk.{keys-filter, passes}
 use Rattle.av_plain.proofs.Sound.Changes.{any-counts}
 use Rattle.av_plain.proofs.Sound.Counts.{same-itself, same-turned}
 use Rattle.av_swap_laws.proofs.From.{first-is}
+use Rattle.av_evict.specs.Standing.{cached_count, merged_count}
 use Rattle.av_evict.specs.System.{any_slot}
-use Rattle.av_mem.specs.Mem.{Serves, plain, setting_by, view}
+use Rattle.av_mem.specs.Chains.{HasLocked}
+use Rattle.av_mem.specs.Mem.{Serves, frame_count, plain, setting_by, view}
 use Rattle.av_mem.specs.declared.mem.Mem.{Mem}
 use Rattle.av_mem.proofs.LockedLaws.{merged-is}
 use Rattle.av_mem.proofs.ReachLaws.{reaches-served}
@@ -212,3 +217,26 @@ seen-is d closing k w r l f sorted h false none = sym (none-listed (names_seen f
 pub merged-told : (d : Device) (closing : Option ℕ) (k : Mem) (w : World) (r : Rmap) (l : Ledger) (f : ℕ) → IsSoundBut (setting_by d k) any_slot l
     → Serves d closing k w r l → has_items ((view k).items f) ≡ is_merged l f
 merged-told d closing k w r l f sound h = merged-is k r l (reaches-served d closing k w r l h) sound.in_order f (sound.merged f)
+
+-- ---- how many are cached, and how many merged
+
+pub cached-many : (d : Device) (closing : Option ℕ) (k : Mem) (w : World) (r : Rmap) (l : Ledger) → Serves d closing k w r l
+    → how_many (λ f. is_some ((view k).slot f)) (range_with_len 0 (frame_count k)) ≡ cached_count (setting_by d k) l
+cached-many d closing k w r l h = how_many-same (λ f. is_some ((view k).slot f)) (λ f. is_some (slot_of l f)) (range_with_len 0 (frame_count k))
+    (λ f. ap is_some (h.held.ledger.frames.slots f))
+
+pub merged-many : (d : Device) (closing : Option ℕ) (k : Mem) (w : World) (r : Rmap) (l : Ledger) → IsSoundBut (setting_by d k) any_slot l
+    → Serves d closing k w r l → how_many (λ f. has_items ((view k).items f)) (range_with_len 0 (shown k.items).frames) ≡ merged_count (setting_by d k) l
+merged-many d closing k w r l sound h =
+    how_many-same (λ f. has_items ((view k).items f)) (is_merged l) (range_with_len 0 (shown k.items).frames)
+    (λ f. merged-told d closing k w r l f sound h)
+    ∙ ap (λ n. how_many (is_merged l) (range_with_len 0 n)) h.items
+
+-- ---- where no area is locked, no frame is
+
+pub none-locked : (k : Mem) (areas : List (Option Area)) (b : Bool) → areas ≡ k.spaces.areas
+    → MatchBool b ((number : ℕ) × (is_locked (area_of areas number) ≡ true)) ((number : ℕ) → is_locked (area_of areas number) ≡ false) → b ≡ false
+    → (f : ℕ) → HasLocked k f → ⊥
+none-locked k areas true same told is f has = false≢true (sym is)
+none-locked k areas false same told is f has =
+    let at = has.2 in false≢true (sym (told at.number) ∙ ap (λ areas. is_locked (area_of areas at.number)) same ∙ ap is_locked at.stands ∙ at.locked)

@@ -42,12 +42,28 @@ impl<'a, D: SwapDev> System for Driver<'a, D> {
         self.mem.frames.slot(frame)
     }
 
+    fn cached_len(&self) -> u32 {
+        self.mem.frames.cached_len()
+    }
+
+    fn has_slot(&self) -> bool {
+        self.mem.swap.has_slot()
+    }
+
     fn is_locked(&self, frame: u32) -> bool {
         self.mem.is_locked(frame)
     }
 
+    fn any_locked(&self) -> bool {
+        self.mem.spaces.by_number().any_locked()
+    }
+
     fn is_merged(&self, frame: u32) -> bool {
         self.mem.is_merged(frame)
+    }
+
+    fn merged_len(&self) -> u32 {
+        self.mem.items.merged_len()
     }
 
     fn is_mapped(&self, frame: u32) -> bool {

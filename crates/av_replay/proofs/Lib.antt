@@ -3,6 +3,7 @@ pub mod Calls
 pub mod Runs
 pub mod Endings
 pub mod Traces
+pub mod EarlyEnds
 pub mod Turns
 pub mod Templates
 pub mod Works

@@ -14,6 +14,7 @@ use Rattle.av_io.specs.Source.{SourceView, Took, HasEnded}
 use Rattle.av_ports.specs.Line.{IsLine, IsNoNewline, HasNoNewline}
 use Rattle.av_replay.specs.Turn.{IsBad}
 use Rattle.av_ports.specs.Ports.{PortsView, IsAtEnd}
+use Rattle.av_plain.specs.Transcript.{text_of_run}
 use Rattle.av_replay.specs.Replay.{most_lines, all_lines, done_lines, Transcribes, Replays, Run, Headline}
 use Rattle.av_replay.specs.Trace.{onto_first, lines_of, IsGood, IsComplete, WritesTranscript}
 
@@ -62,7 +63,7 @@ starts_long (b ∷ d ∷ bytes) more none some =
     ∙ ap (onto_first b) f.are in
     record { line = b ∷ f.line; others = f.others; are = are; long = omega (arith, f.long) }
 
-some_line : (bytes : List ℕ) → 0 < length bytes → 0 < length (lines_of bytes)
+pub some_line : (bytes : List ℕ) → 0 < length bytes → 0 < length (lines_of bytes)
 some_line [] some = absurd (omega arith)
 some_line (b ∷ bytes) some =
     elim (cases_eq b 10) [
@@ -85,7 +86,7 @@ member [] line others all = All-head IsGood line others all
 member (x ∷ lines) line others all = member lines line others (All-tail IsGood x (lines ++ line ∷ others) all)
 
 -- the lines that were done, and those that are left
-split : (lines : List (List ℕ)) (rest content more : List ℕ) → AllByRecursion IsLine lines → content ≡ (all_lines lines ++ rest) ++ more →
+pub split : (lines : List (List ℕ)) (rest content more : List ℕ) → AllByRecursion IsLine lines → content ≡ (all_lines lines ++ rest) ++ more →
     lines_of content ≡ lines ++ lines_of (rest ++ more)
 split lines rest content more all e = ap lines_of (e ∙ append_assoc (all_lines lines) rest more) ∙ lines_of-joined lines (rest ++ more) all
 
@@ -100,32 +101,42 @@ pub ended_is_nil : (left' : Option (List ℕ)) (more : List ℕ) → left' ≡ S
 ended_is_nil None more e ended = absurd cc
 ended_is_nil (Some rest) more e ended = sym (same_Some _ _ e) ∙ ended
 
-pub not_bad : (lines : List (List ℕ)) (rest content : List ℕ) (source : SourceView) → AllByRecursion IsLine lines →
-    Took (Some content) source.left (all_lines lines ++ rest) → All IsGood (lines_of content) → IsBad rest source → ⊥
-not_bad lines rest content source all took good (inl long) =
-    let t = told content (all_lines lines ++ rest) source.left took in
+-- the first of some lines, which isn't good
+pub record FirstIsBad (lines : List (List ℕ)) : Type 0 where
+  pub line : List ℕ
+  pub others : List (List ℕ)
+  pub are : lines ≡ line ∷ others
+  pub bad : IsGood line → ⊥
+
+pub bad_next : (rest more : List ℕ) (source : SourceView) → source.left ≡ Some more → IsBad rest source → FirstIsBad (lines_of (rest ++ more))
+bad_next rest more source left (inl long) =
     let front = take 8449 rest in
     let len : length front ≡ 8449 = length-take-le 8449 rest (omega (arith, long.long)) in
-    let parts : rest ++ t.more ≡ front ++ (drop 8449 rest ++ t.more) = ap (λ (r : List ℕ). r ++ t.more) (sym (take-append-drop 8449 rest))
-    ∙ append_assoc front (drop 8449 rest) t.more in
-    let f = starts_long front (drop 8449 rest ++ t.more) long.one (omega (arith, len)) in
-    let g = first_good lines rest content t.more f.line f.others all t.parts good (ap lines_of parts ∙ f.are) in
-    omega (arith, g.is_line.short, f.long, len)
-not_bad lines rest content source all took good (inr bad) =
+    let parts : rest ++ more ≡ front ++ (drop 8449 rest ++ more) = ap (λ (r : List ℕ). r ++ more) (sym (take-append-drop 8449 rest))
+    ∙ append_assoc front (drop 8449 rest) more in
+    let f = starts_long front (drop 8449 rest ++ more) long.one (omega (arith, len)) in
+    record { line = f.line; others = f.others; are = ap lines_of parts ∙ f.are; bad = λ good. omega (arith, good.is_line.short, f.long, len) }
+bad_next rest more source left (inr (line, is, nothing, inl newline)) = record {
+  line = line;
+  others = lines_of (newline.0 ++ more);
+  are = ap (λ (r : List ℕ). lines_of (r ++ more)) newline.1 ∙ ap lines_of (append_assoc line (10 ∷ newline.0) more)
+      ∙ lines_of-line line (newline.0 ++ more) is.one;
+  bad = λ good. nothing good.said good.says;
+}
+bad_next rest more source left (inr (line, is, nothing, inr last)) = record {
+  line = line;
+  others = [];
+  are = ap lines_of (ap (λ (m : List ℕ). rest ++ m) (ended_is_nil source.left more left last.2.ended) ∙ append-nil rest ∙ last.0)
+      ∙ lines_of-last line is.one last.1;
+  bad = λ good. nothing good.said good.says;
+}
+
+pub not_bad : (lines : List (List ℕ)) (rest content : List ℕ) (source : SourceView) → AllByRecursion IsLine lines →
+    Took (Some content) source.left (all_lines lines ++ rest) → All IsGood (lines_of content) → IsBad rest source → ⊥
+not_bad lines rest content source all took good bad =
     let t = told content (all_lines lines ++ rest) source.left took in
-    let line = bad.0 in
-    let is_good : IsGood line = elim bad.3 [
-      | inl newline ↦
-          let are : lines_of (rest ++ t.more) ≡ line ∷ lines_of (newline.0 ++ t.more) =
-          ap (λ (r : List ℕ). lines_of (r ++ t.more)) newline.1 ∙ ap lines_of (append_assoc line (10 ∷ newline.0) t.more)
-          ∙ lines_of-line line (newline.0 ++ t.more) bad.1.one in
-          first_good lines rest content t.more line (lines_of (newline.0 ++ t.more)) all t.parts good are
-      | inr last ↦
-          let none = ended_is_nil source.left t.more t.left_is last.2.ended in
-          let same : rest ++ t.more ≡ line = ap (λ (m : List ℕ). rest ++ m) none ∙ append-nil rest ∙ last.0 in
-          first_good lines rest content t.more line [] all t.parts good (ap lines_of same ∙ lines_of-last line bad.1.one last.1)
-    ] in
-    bad.2 is_good.said is_good.says
+    let next = bad_next rest t.more source t.left_is bad in
+    next.bad (first_good lines rest content t.more next.line next.others all t.parts good next.are)
 
 pub not_many : (lines : List (List ℕ)) (rest content : List ℕ) (left' : Option (List ℕ)) → AllByRecursion IsLine lines →
     Took (Some content) left' (all_lines lines ++ rest) → length (lines_of content) ≤ most_lines → length lines ≡ most_lines → 0 < length rest → ⊥
@@ -135,7 +146,7 @@ not_many lines rest content left' all took few many one =
     omega (arith, ap length (split lines rest content t.more all t.parts), length-append lines (lines_of (rest ++ t.more)), some)
 
 -- what was read, where no last line without newline was done
-read_is : (left left' : Option (List ℕ)) (content taken rest : List ℕ) (last : Option (List ℕ)) → left ≡ Some content → last ≡ None →
+pub read_is : (left left' : Option (List ℕ)) (content taken rest : List ℕ) (last : Option (List ℕ)) → left ≡ Some content → last ≡ None →
     Took left left' (taken ++ (unwrap_or last [] ++ rest)) → Took (Some content) left' (taken ++ rest)
 read_is left left' content taken rest last e none took =
     subst (λ (l : Option (List ℕ)). Took l left' (taken ++ rest)) e
@@ -166,7 +177,7 @@ lines_of-end None rest source last = refl
 lines_of-end (Some line) rest source last = lines_of-last line last.0.one last.1
 
 -- where nothing is left, the lines that were done are those of all that the source told
-all_done : (frames : ℕ) (old new : PortsView) (run : Run) (rest written content : List ℕ) → Replays frames old new run rest written →
+pub all_done : (frames : ℕ) (old new : PortsView) (run : Run) (rest written content : List ℕ) → Replays frames old new run rest written →
     rest ≡ [] → IsAtEnd new.source → old.source.left ≡ Some content → lines_of content ≡ done_lines run
 all_done frames old new run rest written content r none end e =
     let taken = all_lines run.lines ++ (unwrap_or run.last [] ++ rest) in
@@ -179,16 +190,24 @@ all_done frames old new run rest written content r none end e =
     ∙ ap (λ (bytes : List ℕ). run.lines ++ lines_of bytes) same
     ∙ ap (λ (ls : List (List ℕ)). run.lines ++ ls) (lines_of-end run.last rest new.source r.last)
 
+-- a run's transcript, where these are the lines that were done and that was written
+pub written_of : (frames : ℕ) (old new : PortsView) (run : Run) (rest written before : List ℕ) (lines : List (List ℕ)) →
+    Replays frames old new run rest written → done_lines run ≡ lines → written ≡ text_of_run run.transcript → old.sink.held ≡ Some before
+    → WritesTranscript frames old.device lines before new.sink.held
+written_of frames old new run rest written before lines r are text held = record {
+  transcript = run.transcript;
+  does = record {
+    state = run.state;
+    commands = subst (λ (ls : List (List ℕ)). Transcribes ls run.transcript) are r.commands;
+    legal = r.legal;
+  };
+  wrote = r.wrote ∙ ap (option_map (λ (text : List ℕ). text ++ written)) held
+      ∙ ap (λ (text : List ℕ). Some (before ++ text)) text;
+}
+
 pub writes_transcript : (n : ℕ) (old new : PortsView) (kernel : Option Machine) (content before : List ℕ) → Headline n statuses.Done old new kernel
-    → old.source.left ≡ Some content → old.sink.held ≡ Some before → WritesTranscript n old.device content before new.sink.held
+    → old.source.left ≡ Some content → old.sink.held ≡ Some before → WritesTranscript n old.device (lines_of content) before new.sink.held
 writes_transcript n old new kernel content before h left held =
     let ends = h.ends in
     let lines = all_done n old new h.run h.rest h.written content h.replays ends.0.0 ends.0.1 left in
-    record {
-      transcript = h.run.transcript;
-      state = h.run.state;
-      commands = subst (λ (ls : List (List ℕ)). Transcribes ls h.run.transcript) (sym lines) h.replays.commands;
-      legal = h.replays.legal;
-      wrote = h.replays.wrote ∙ ap (option_map (λ (text : List ℕ). text ++ h.written)) held
-          ∙ ap (λ (text : List ℕ). Some (before ++ text)) ends.1;
-    }
+    written_of n old new h.run h.rest h.written before (lines_of content) h.replays (sym lines) ends.1 held

@@ -1,5 +1,5 @@
 -- The lists of items, after each call.
-use Rattle.std.proofs.Common.{◌≡◌, ℕ, zero, suc, ◌+◌, ◌<◌, ◌≤◌, Bool, true, false, cond, ◌||◌, ◌==◌, List, [], ◌∷◌, ◌++◌, length, replicate, get_or, set, refl, sym, ap, subst, ◌∙◌, arith, length-set, get_or-set_same, get_or-set_other}
+use Rattle.std.proofs.Common.{◌≡◌, ℕ, zero, suc, ◌+◌, ◌<◌, ◌≤◌, Bool, true, false, cond, not, ◌||◌, ◌==◌, List, [], ◌∷◌, ◌++◌, length, replicate, get_or, set, refl, sym, ap, subst, ◌∙◌, ◌^◌, arith, length-set, get_or-set_same, get_or-set_other}
 use Rattle.std.specs.List.{swap}
 use Rattle.std.specs.Prelude.{MatchResult, Result, Ok, Err}
 use Rattle.std.specs.declared.vec.Vec.{Vec}
@@ -8,8 +8,9 @@ use Rattle.std.proofs.lemmas.Bool.{false≢true}
 use Rattle.std.proofs.lemmas.Bool.Decides.{nat_tests}
 use Rattle.std.proofs.lemmas.List.{map-set, length-replicate}
 use Rattle.av_base.specs.Words.{how_many, with_at}
-use Rattle.av_rmap.specs.Items.{AreOnce, Item, is_item, none_merged, same_item, shown, with_item, with_items, with_renamed}
-use Rattle.av_rmap.specs.ItemLists.{AllOnce, lists_of}
+use Rattle.av_base.proofs.Counted.{count-most, count-none, count-set, count-some}
+use Rattle.av_rmap.specs.Items.{AreOnce, Item, is_item, is_merged, none_merged, same_item, shown, with_item, with_items, with_renamed}
+use Rattle.av_rmap.specs.ItemLists.{AllOnce, AreKept, lists_of}
 
 -- ---- no item twice
 
@@ -85,9 +86,29 @@ once-set lists f items below all once g = by (g == f) refl
     by false e = let ne : g ≡ f → ⊥ = grind (arith, nat_tests, e) in
         subst AreOnce (sym (get_or-set_other lists f g items [] ne)) (all g)
 
+-- that of a frame changes, and it is counted: what that asks, and what is kept then
+pub record IsRecounted (lists : List (List Item)) (f : ℕ) (items : List Item) (old : ℕ) : Type 0 where
+  pub few : old + cond (is_merged items) 1 0 < 2 ^ 32 + cond (is_merged (get_or lists f [])) 1 0
+  pub kept : (new : ℕ) → new + cond (is_merged (get_or lists f [])) 1 0 ≡ old + cond (is_merged items) 1 0 → AreKept (set lists f items) new
+
+pub recounted : (lists : List (List Item)) (f : ℕ) (items : List Item) (old : ℕ) → f < length lists → AreKept lists old → AreOnce items
+    → IsRecounted lists f items old
+recounted lists f items old below kept once =
+    let moved = count-set is_merged lists f items [] below in
+    let most = count-most is_merged (set lists f items) in
+    let same = length-set lists f items in
+    record {
+      few = omega (arith, kept.counted, kept.few, moved, most, same);
+      kept = λ new sum. record {
+        once = once-set lists f items below kept.once once;
+        few = subst (λ n. n < 2 ^ 32) (sym same) kept.few;
+        counted = omega (arith, sum, kept.counted, moved);
+      };
+    }
+
 -- ---- vectors and lists
 
-abbrev Items : Type 0
+abbrev pub Items : Type 0
 Items = Vec Item Global
 
 pub lists-set : (vs : List Items) (f : ℕ) (v : Items) → lists_of (set vs f v) ≡ set (lists_of vs) f v.items
@@ -114,6 +135,35 @@ lists-swap (d ∷ vs) i j a b =
     lists-set (set (d ∷ vs) i (get_or (d ∷ vs) j d)) j (get_or (d ∷ vs) i d)
     ∙ ap (λ l. set l j (get_or (d ∷ vs) i d).items) (lists-set (d ∷ vs) i (get_or (d ∷ vs) j d))
     ∙ (λ k. set (set (lists_of (d ∷ vs)) i (item-at (d ∷ vs) j d b k)) j (item-at (d ∷ vs) i d a k))
+
+pub not_empty : (items : List Item) (n : ℕ) → n ≡ length items → not (n == 0) ≡ is_merged items
+not_empty [] n e = grind (arith, nat_tests, e)
+not_empty (x ∷ items) n e = grind (arith, nat_tests, e)
+
+-- the vector of one frame changes, and it is counted by what is said of it
+module _ (vs : List Items) (v : List (List Item)) (f : ℕ) (old : ℕ) (was : Bool) (seen : lists_of vs ≡ v) (below : f < length v)
+    (said : was ≡ is_merged (get_or v f [])) where
+  there : f < length (lists_of vs)
+  there = subst (λ (v : List (List Item)). f < length v) (sym seen) below
+
+  was_one : ◌≡◌ {A = ℕ} (cond was 1 0) (cond (is_merged (get_or (lists_of vs) f [])) 1 0)
+  was_one = ap (λ b. cond {A = ℕ} b 1 0) (said ∙ ap (λ (v : List (List Item)). is_merged (get_or v f [])) (sym seen))
+
+  pub was-some : AreKept (lists_of vs) old → cond was 1 0 ≤ old
+  was-some kept = omega (arith, kept.counted, count-some is_merged (lists_of vs) f [] there, was_one)
+
+  pub was-few : AreKept (lists_of vs) old → old < 2 ^ 32
+  was-few kept = omega (arith, kept.counted, kept.few, count-most is_merged (lists_of vs))
+
+  pub is-few : AreKept (lists_of vs) old → (now : Items) → AreOnce now.items → (is : Bool) → is ≡ is_merged now.items → old + cond is 1 0 < 2 ^ 32 + cond was 1 0
+  is-few kept now once is said =
+      let few = (recounted (lists_of vs) f now.items old there kept once).few in omega (arith, few, was_one, ap (λ b. cond {A = ℕ} b 1 0) said)
+
+  pub is-kept : AreKept (lists_of vs) old → (now : Items) → AreOnce now.items → (is : Bool) → is ≡ is_merged now.items
+      → (new : ℕ) → new + cond was 1 0 ≡ old + cond is 1 0 → AreKept (lists_of (set vs f now)) new
+  is-kept kept now once is said new sum =
+      subst (λ ls. AreKept ls new) (sym (lists-set vs f now)) ((recounted (lists_of vs) f now.items old there kept once).kept new
+      (omega (arith, sum, was_one, ap (λ b. cond {A = ℕ} b 1 0) said)))
 
 -- one frame's list goes to another, which has none
 pub shown-moved : (lists : List (List Item)) (f t : ℕ) → f < length lists → t < length lists → get_or lists t [] ≡ []
@@ -151,6 +201,33 @@ once-moved lists f t a b all =
     once-set (set lists f (get_or lists t [])) t (get_or lists f []) (subst (λ n. t < n) (sym (length-set lists f (get_or lists t []))) b)
     (once-set lists f (get_or lists t []) a all (all t)) (all f)
 
+-- as many frames are merged then
+pub kept-moved : (lists : List (List Item)) (f t : ℕ) (merged : ℕ) → f < length lists → t < length lists → get_or lists t [] ≡ []
+    → AreKept lists merged → AreKept (set (set lists f (get_or lists t [])) t (get_or lists f [])) merged
+kept-moved lists f t merged a b none kept =
+    let mid = set lists f (get_or lists t []) in
+    let low : t < length mid = subst (λ n. t < n) (sym (length-set lists f (get_or lists t []))) b in
+    let first = count-set is_merged lists f (get_or lists t []) [] a in
+    let then = count-set is_merged mid t (get_or lists f []) [] low in
+    let still : get_or mid t [] ≡ [] = left (t == f) refl in
+    record {
+      once = once-moved lists f t a b kept.once;
+      few = subst (λ n. n < 2 ^ 32) (sym (length-set mid t (get_or lists f []) ∙ length-set lists f (get_or lists t []))) kept.few;
+      counted = omega (
+        arith,
+        kept.counted,
+        first,
+        then,
+        ap (λ items. cond {A = ℕ} (is_merged items) 1 0) none,
+        ap (λ items. cond {A = ℕ} (is_merged items) 1 0) still,
+      );
+    }
+  where
+    left : (x : Bool) → (t == f) ≡ x → get_or (set lists f (get_or lists t [])) t [] ≡ []
+    left true e = let is : t ≡ f = grind (arith, nat_tests, e) in
+        ap (λ n. get_or (set lists f (get_or lists t [])) n []) is ∙ get_or-set_same lists f (get_or lists t []) [] a ∙ none
+    left false e = let ne : t ≡ f → ⊥ = grind (arith, nat_tests, e) in get_or-set_other lists f t (get_or lists t []) [] ne ∙ none
+
 -- ---- no item at all
 
 pub none-replicate : (n : ℕ) → shown (replicate n []) ≡ none_merged n
@@ -180,9 +257,16 @@ none-once lists n e = subst AllOnce (sym e) (all n)
     all (suc n) zero x = omega arith
     all (suc n) (suc f) x = all n f x
 
+pub none-kept : (lists : List (List Item)) (n : ℕ) → n < 2 ^ 32 → lists ≡ replicate n [] → AreKept lists 0
+none-kept lists n few e = record {
+  once = none-once lists n e;
+  few = subst (λ l. length {A = List Item} l < 2 ^ 32) (sym e) (subst (λ m. m < 2 ^ 32) (sym (length-replicate {A = List Item} n [])) few);
+  counted = sym (ap (how_many is_merged) e ∙ count-none is_merged [] n refl);
+}
+
 -- ---- one more item
 
-abbrev IsAdded : {E : Type 0} → Result (Unit {0}) E → Item → List Item → List Item → Type 0
+abbrev pub IsAdded : {E : Type 0} → Result (Unit {0}) E → Item → List Item → List Item → Type 0
 IsAdded r x old new = MatchResult r (λ _. new ≡ with_item x old) (λ _. new ≡ old)
 
 pub once_added : {E : Type 0} (r : Result (Unit {0}) E) (x : Item) (old new : List Item) → IsAdded r x old new → AreOnce old → AreOnce new

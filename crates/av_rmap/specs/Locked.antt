@@ -3,15 +3,11 @@ use Rattle.std.specs.Prelude.{◌≡◌, ℕ, ◌+◌, Bool, true, false, ◌&&�
 use Rattle.std.specs.Prelude.{None}
 use Rattle.av_base.specs.Words.{how_many}
 use Rattle.av_pagetable.specs.declared.pte.Pte.{Pte}
+use Rattle.av_vma.specs.Areas.{is_locked}
 use Rattle.av_vma.specs.declared.area.Area.{Area}
 use Rattle.av_vma.specs.Pages.{has_page}
 use Rattle.av_rmap.specs.View.{View}
 use Rattle.av_rmap.specs.Walk.{areas_from, passes_in}
-
--- whether the pages of an area are locked, if there is one
-abbrev pub is_locked : Option Area → Bool
-is_locked None = false
-is_locked (Some area) = area.flags.locked
 
 -- whether a look finds an entry that passes the test, on a locked page
 abbrev pub finds_locked : View → (Pte → Bool) → ℕ → Option Area → Bool

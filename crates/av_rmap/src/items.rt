@@ -1,6 +1,9 @@
 //! The items of merged frames: from which places their entries are found.
 
-ghost use Rattle.std.specs.Prelude.{◌≡◌, ◌<◌, [], IfOk, MatchResult, replicate};
+ghost use Rattle.std.specs.Prelude.{◌≡◌, ◌+◌, ◌<◌, ◌≤◌, ◌^◌, [], IfOk, MatchResult, replicate};
+ghost use Rattle.std.specs.Prelude.{if◌then◌else◌};
+ghost use Rattle.std.specs.List.{range_with_len};
+ghost use Rattle.av_base.specs.Words.{how_many};
 ghost use Rattle.av_rmap.specs.ItemLists.{lists_of};
 ghost use Rattle.av_rmap.specs.Items.{AreOnce, is_item, is_merged, none_merged, shown, with_item};
 ghost use Rattle.av_rmap.specs.Items.{with_items, with_renamed};
@@ -14,17 +17,19 @@ use std::marker::Model;
 #[derive(Drop)]
 pub struct Items {
     lists: Vec<Vec<(u64, u64)>>,
+    /// How many frames are merged.
+    merged: u32,
 }
 
 impl Model for Items {
     ghost use Rattle.std.specs.Prelude.{ℕ, List};
-    ghost use Rattle.av_rmap.specs.ItemLists.{lists_of, AllOnce};
+    ghost use Rattle.av_rmap.specs.ItemLists.{lists_of, AreKept};
 
     ghost Value = { List (List (ℕ × ℕ)) };
 
     ghost view = { λ a. lists_of a.lists.items };
 
-    ghost invariant = { λ a. AllOnce (lists_of a.lists.items) };
+    ghost invariant = { λ a. AreKept (lists_of a.lists.items) a.merged };
 }
 
 impl Items {
@@ -34,6 +39,7 @@ impl Items {
     {
         Ok(Items {
             lists: no_lists(alloc, frames)?,
+            merged: 0,
         })
     }
 
@@ -54,6 +60,14 @@ impl Items {
         !self.lists[frame as usize].is_empty()
     }
 
+    /// How many frames are merged. It looks at none.
+    pub fn merged_len(&self) -> u32
+        ensures { result ≡ how_many (λ f. is_merged ((shown self.now).items f))
+            (range_with_len 0 (shown self.now).frames) }
+    {
+        self.merged
+    }
+
     /// One more item of a frame, unless it is there. It costs a step for each item of the frame.
     /// Without memory all stays.
     pub fn add(&mut self, frame: u32, root: u64, index: u64) -> Result<(), AllocError>
@@ -63,7 +77,11 @@ impl Items {
             (with_item (root, index) ((shown self.old).items frame)) (shown self.old))
             (λ _. shown self.new ≡ shown self.old) }
     {
-        add_to(&mut self.lists[frame as usize], root, index)
+        let was = self.is_merged(frame);
+        let items = &mut self.lists[frame as usize];
+        let added = add_to(items, root, index);
+        self.merged = recount(self.merged, was, !items.is_empty());
+        added
     }
 
     /// A frame has no item any more.
@@ -71,6 +89,7 @@ impl Items {
         requires { frame < (shown self.old).frames }
         ensures { shown self.new ≡ with_items frame [] (shown self.old) }
     {
+        self.merged = recount(self.merged, self.is_merged(frame), false);
         self.lists[frame as usize].clear();
     }
 
@@ -93,6 +112,19 @@ fn no_lists(alloc: Global, count: u32) -> Result<Vec<Vec<(u64, u64)>>, AllocErro
         lists.push_reserved(Vec::new(alloc));
     }
     Ok(lists)
+}
+
+/// How many frames are merged, once one is or isn't that was or wasn't.
+fn recount(merged: u32, was: bool, is: bool) -> u32
+    requires some { (if was then 1 else 0) ≤ merged }
+    requires few { merged + (if is then 1 else 0) < 2 ^ 32 + (if was then 1 else 0) }
+    ensures { result + (if was then 1 else 0) ≡ merged + (if is then 1 else 0) }
+{
+    match (was, is) {
+        (false, true) => merged + 1,
+        (true, false) => merged - 1,
+        _ => merged,
+    }
 }
 
 /// One more item of a list, unless it is there.

@@ -4,10 +4,10 @@ ghost use Rattle.std.specs.Prelude.{◌≡◌, ℕ, ◌+◌, ◌≤◌, true, Ma
 ghost use Rattle.std.specs.List.{list_any};
 ghost use Rattle.av_chain.specs.Links.{one_if};
 ghost use Rattle.av_rmap.specs.Items.{AreCovered};
-ghost use Rattle.av_rmap.specs.Locked.{IsLocked, finds_locked, is_locked, locked_looks};
-ghost use Rattle.av_rmap.specs.Locked.{locked_looks_all};
+ghost use Rattle.av_rmap.specs.Locked.{IsLocked, finds_locked, locked_looks, locked_looks_all};
 ghost use Rattle.av_rmap.specs.View.{AreApart, AreSpanned};
 ghost use Rattle.av_rmap.specs.Walk.{Key, areas_from, holds, looks_from, names_frame};
+ghost use Rattle.av_vma.specs.Areas.{is_locked};
 
 use crate::look::Look;
 use crate::looks::Looks;

@@ -5,7 +5,7 @@ ghost use Rattle.std.specs.Prelude.{◌≡◌, ◌+◌, true, take, IfSome, IsSo
 ghost use Rattle.av_interval.specs.Batch.{overlaps_past};
 ghost use Rattle.av_pagetable.specs.Entries.{with_entry};
 ghost use Rattle.av_interval.specs.Search.{IsOrdered};
-ghost use Rattle.av_rmap.specs.Locked.{is_locked};
+ghost use Rattle.av_vma.specs.Areas.{is_locked};
 ghost use Rattle.av_rmap.specs.View.{View};
 ghost use Rattle.av_rmap.specs.Walk.{holds, page_at};
 

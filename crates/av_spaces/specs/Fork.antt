@@ -51,8 +51,8 @@ pub record AreKept (s : AllSpaces) (old : Anons) (s' : AllSpaces) (new : Anons) 
 
 -- ---- by the values of `Areas`, `Tree` and `Anons`
 
--- the child's tree has what the areas of these spans of its parent become, those that go over; the anon_vmas are those
--- that this leaves, in chain order
+-- the child's tree has what the areas of these spans of its parent become, those that go over; the
+-- anon_vmas are those that this leaves, in chain order
 pub record HasForked (child : ℕ) (old : List (Option Area)) (before : Anons) (spans : List Span)
     (new : List (Option Area)) (tree : List Span) (anons : Anons) : Type 0 where
   pub stands : Stays child (area_of old) (area_of new) tree

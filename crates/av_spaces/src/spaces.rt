@@ -181,6 +181,21 @@ impl Spaces {
         tree.is_free(from, from + pages)
     }
 
+    /// The first page from one on that is mapped in a process that lives, else `past`.
+    pub fn next_mapped(&self, process: u16, from: u64, past: u64) -> u64
+        requires lives { is_some (areas_of self.now.processes process) ≡ true }
+        requires forward { from ≤ past }
+        ensures least { from ≤ result }
+        ensures most { result ≤ past }
+        ensures free { IsFree (is_taken self.now.processes process) from result }
+        ensures mapped { result < past → is_taken self.now.processes process result ≡ true }
+    {
+        let Some(tree) = tree_of(&self.trees, process) else {
+            unreachable!()
+        };
+        av_merge::next_mapped(tree, from, past)
+    }
+
     /// Maps free pages of a process that lives, as one area without flags and without an anon_vma.
     /// Once memory is wanting, nothing is promised of any process's pages, nor of anon_vmas.
     pub fn map(

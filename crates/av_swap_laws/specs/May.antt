@@ -3,7 +3,8 @@ use Rattle.std.specs.Prelude.{◌≡◌, ◌||◌, nat_lt, ◌⊎◌, ℕ, ◌+�
 use Rattle.std.specs.Prelude.{None}
 use Rattle.av_base.specs.declared.slot.Slot.{Slot}
 use Rattle.av_plain.specs.Fault.{is_named}
-use Rattle.av_plain.specs.Ledger.{Ledger, in_flight, is_free, is_stale, map_count, slot_entries, slot_of}
+use Rattle.av_plain.specs.Ledger.{Ledger, in_flight, is_free, is_stale, map_count, slot_entries}
+use Rattle.av_plain.specs.Ledger.{slot_of}
 use Rattle.av_plain.specs.Sound.{holders, mergings, slots}
 
 -- each slot is cached once at most, and so is each frame, or it is merged once; and an entry names a

@@ -3,9 +3,10 @@ use Rattle.std.proofs.Common.{◌≡◌, ℕ, suc, ◌+◌, ◌^◌, ◌<◌, �
 use Rattle.std.proofs.lemmas.Bool.{false≢true}
 use Rattle.std.proofs.lemmas.Bool.Decides.{nat_tests}
 use Rattle.std.specs.List.{list_any}
+use Rattle.av_base.proofs.Counted.{count-set}
 use Rattle.av_base.specs.Words.{how_many}
 use Rattle.av_base.specs.declared.slot.Slot.{Slot}
-use Rattle.av_frames.proofs.Free.{any_default, flagged}
+use Rattle.av_frames.proofs.Free.{any_default}
 use Rattle.av_swapcache.specs.Swap.{IsWhole, is_writing, itself, same_slot, with_slot}
 use Rattle.av_swapcache.proofs.SlotLaws.{slot-is, slot-itself, slot-other}
 
@@ -46,7 +47,7 @@ many-append test (t ∷ q) s = let rest = many-append test q s in omega (arith, 
 -- how many flags stand, after one is set
 flags-set : (flags : List Bool) (f : ℕ) (b : Bool) → f < length flags → how_many itself (set flags f b) + cond (get_or flags f false) 1 0
     ≡ how_many itself flags + cond b 1 0
-flags-set flags f b below = ap (λ c. how_many itself (set flags f b) + cond c 1 0) (any_default flags f false true below) ∙ flagged flags f b below
+flags-set flags f b below = count-set itself flags f b false below
 
 -- no more flags stand than there are, and fewer where one doesn't
 flags_within : (flags : List Bool) → how_many itself flags ≤ length flags

@@ -2,8 +2,8 @@
 //! device (Linux's `mm/swapfile.c` and `mm/swap_state.c`).
 
 ghost use Rattle.std.specs.Prelude.{◌≡◌, ℕ, ◌+◌, ◌-◌, ◌<◌, ◌≤◌, ◌^◌, ◌∷◌, ◌++◌, [], nat_lt, length};
-ghost use Rattle.std.specs.Prelude.{replicate, IfOk, IfSome, IsSomeAnd, MatchOption, MatchResult};
-ghost use Rattle.std.specs.Prelude.{OnOk, OnErr, Ok, Some, None, true, false};
+ghost use Rattle.std.specs.Prelude.{replicate, IfOk, IfSome, IsSomeAnd, MatchBool, MatchOption};
+ghost use Rattle.std.specs.Prelude.{MatchResult, OnOk, OnErr, Ok, Some, None, true, false};
 ghost use Rattle.av_frames.specs.Store.{shown as frames_shown, with_dirty};
 ghost use Rattle.av_frames.specs.Store.{with_slot as with_frame_slot};
 ghost use Rattle.av_io.specs.Count.{Rose};
@@ -152,6 +152,14 @@ impl Swap {
         ensures in_range { IfSome result (λ f. f < (shown self.now).frames) }
     {
         self.areas.find(slot)
+    }
+
+    /// Whether an area gives a slot: then `put` finds one.
+    pub fn has_slot(&self) -> bool
+        ensures { MatchBool result ((k : ℕ) × (can_give (shown self.now) k ≡ true))
+            ((k : ℕ) → can_give (shown self.now) k ≡ false) }
+    {
+        self.giving().is_some()
     }
 
     /// Takes the next slot of the area that gives first, and caches it at a frame, which is dirty

@@ -8,6 +8,7 @@ use Rattle.av_base.specs.declared.prot.Prot.{Prot}
 use Rattle.av_trace.specs.declared.place.Place.{Place}
 use Rattle.av_trace.specs.declared.mode.Mode.{Mode}
 use Rattle.av_trace.specs.declared.advice.Advice.{Advice}
+use Rattle.av_trace.specs.declared.advice.Advice.TheVariants.{Mergeable, Unmergeable}
 use Rattle.av_trace.specs.declared.command.Command.{Command}
 use Rattle.av_trace.specs.declared.command.Command.TheVariants as commands
 use Rattle.av_text.specs.Word.{line, ◌>>=◌, Reader, both, by_name}
@@ -60,7 +61,8 @@ IsInRange commands.Stat = Unit {0}
 
 -- whether the grammar has the command: the others have a text and a meaning, and no line yet
 abbrev pub is_in_grammar : Command → Bool
-is_in_grammar (commands.Madvise p address len advice) = false
+is_in_grammar (commands.Madvise p address len Mergeable) = false
+is_in_grammar (commands.Madvise p address len Unmergeable) = false
 is_in_grammar (commands.Mlock p address len) = false
 is_in_grammar (commands.Munlock p address len) = false
 is_in_grammar commands.Merge = false
@@ -280,8 +282,8 @@ report_readers =
 -- all commands
 abbrev pub readers : List (List ℕ × CommandReader)
 readers =
-    access_readers ++ process_readers ++ range_readers ++ advice_readers ++ swap_readers ++ frame_readers
-    ++ report_readers
+    access_readers ++ process_readers ++ range_readers ++ advice_readers ++ swap_readers
+    ++ frame_readers ++ report_readers
 
 -- the command of a line that has one of these names
 abbrev pub command_in : List (List ℕ × CommandReader) → CommandReader

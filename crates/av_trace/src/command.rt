@@ -137,8 +137,10 @@ impl Command {
     {
         !matches!(
             self,
-            Command::Madvise { .. }
-                | Command::Mlock { .. }
+            Command::Madvise {
+                advice: Advice::Mergeable | Advice::Unmergeable,
+                ..
+            } | Command::Mlock { .. }
                 | Command::Munlock { .. }
                 | Command::Merge
                 | Command::Compact

@@ -9,3 +9,4 @@ pub mod IndexBound
 pub mod Marks
 pub mod Left
 pub mod LeftRuns
+pub mod Locked

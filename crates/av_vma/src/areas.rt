@@ -1,7 +1,8 @@
 //! The areas of all processes, by number.
 
-ghost use Rattle.std.specs.Prelude.{◌≡◌, ℕ, Some, None, IfOk, OnErr, IsSome};
-ghost use Rattle.av_vma.specs.Areas.{area_of};
+ghost use Rattle.std.specs.Prelude.{◌≡◌, ◌+◌, ◌-◌, ◌<◌, ◌≤◌, ℕ, Some, None, IfOk, OnErr, IsSome};
+ghost use Rattle.std.specs.Prelude.{true, false, if◌then◌else◌, MatchBool};
+ghost use Rattle.av_vma.specs.Areas.{area_of, is_locked};
 ghost use Rattle.av_base.specs.Words.{with_at};
 
 use crate::area::Area;
@@ -16,15 +17,20 @@ pub type AreaId = u64;
 #[derive(Drop)]
 pub struct Areas {
     slab: Slab<Area>,
+    /// How many of them are locked.
+    locked: usize,
 }
 
 impl Model for Areas {
     ghost use Rattle.std.specs.Prelude.{List, Option};
+    ghost use Rattle.av_vma.specs.Areas.{AreLocked};
     ghost use Rattle.av_vma.specs.declared.area.Area.{Area};
 
     ghost Value = { List (Option Area) };
 
     ghost view = { λ a. a.slab.slots };
+
+    ghost invariant = { λ a. AreLocked a.slab.slots a.locked };
 }
 
 impl Areas {
@@ -34,6 +40,7 @@ impl Areas {
     {
         Areas {
             slab: Slab::new(alloc),
+            locked: 0,
         }
     }
 
@@ -45,6 +52,7 @@ impl Areas {
         ensures kept { OnErr result (self.new ≡ self.old) }
     {
         let id = self.slab.insert(area)?;
+        self.locked = locked_with(self.locked, &area, self.slab.len());
         Ok(id as u64)
     }
 
@@ -57,13 +65,24 @@ impl Areas {
         *area
     }
 
+    /// Whether any area is locked. It looks at none.
+    pub fn any_locked(&self) -> bool
+        ensures { MatchBool result
+            ((number : ℕ) × (is_locked (area_of self.now number) ≡ true))
+            ((number : ℕ) → is_locked (area_of self.now number) ≡ false) }
+    {
+        self.locked > 0
+    }
+
     /// Puts `area` in place of the one with this number, which is in use.
     pub fn change(&mut self, id: AreaId, area: Area)
         requires used { IsSome (area_of self.old id) }
         ensures { (number : ℕ) → area_of self.new number ≡ with_at id (Some area) (area_of self.old)
             number }
     {
+        let before = locked_without(self.locked, &self.slab[id as usize]);
         self.slab[id as usize] = area;
+        self.locked = locked_with(before, &area, self.slab.len());
     }
 
     /// Takes out the area with this number, which is in use until now.
@@ -72,6 +91,27 @@ impl Areas {
         ensures { (number : ℕ) → area_of self.new number ≡ with_at id None (area_of self.old)
             number }
     {
-        self.slab.remove(id as usize);
+        let area = self.slab.remove(id as usize);
+        self.locked = locked_without(self.locked, &area);
     }
+}
+
+/// How many are locked of `count` areas, among them this one, where so many of the others are.
+fn locked_with(others: usize, area: &Area, count: usize) -> usize
+    requires { others + (if area.now.flags.locked then 1 else 0) ≤ count }
+    ensures { result ≡ others + (if area.now.flags.locked then 1 else 0) }
+{
+    if area.flags.locked {
+        others + 1
+    } else {
+        others
+    }
+}
+
+/// How many are locked of the others, where so many are with this area.
+fn locked_without(all: usize, area: &Area) -> usize
+    requires { (if area.now.flags.locked then 1 else 0) ≤ all }
+    ensures { result ≡ all - (if area.now.flags.locked then 1 else 0) }
+{
+    if area.flags.locked { all - 1 } else { all }
 }

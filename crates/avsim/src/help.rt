@@ -41,12 +41,14 @@ Trace
                          priority, 0 to 32767
   HEX                    bytes, two hexadecimal digits for each, at most 4096
   PROT                   rw-, r--, --- or another of the eight
+  ADVICE                 what is said of pages: one of five words
   K, M                   a swap area, 0 to 7, and a page of it
 
 Commands
   spawn P                process P begins, without memory
-  fork P Q               process Q begins with the memory of P; both have the
-                         same frames, and a write to one of these gets a copy
+  fork P Q               process Q begins with the memory of P, as its pages are
+                         advised; both have the same frames, and a write to one
+                         of these gets a copy
   exit P                 process P ends; what it alone had is free
   mmap P LEN PROT        map pages of zeros at the greatest address where they
                          fit; the line may end with one of
@@ -61,6 +63,12 @@ Commands
     .. fixed B           they move to B, in place of what is mapped there
     .. dontunmap         they move, and zeros stay at A; OLD is NEW
     .. dontunmap B       as this, but to B
+  madvise P A LEN ADVICE what is mapped in the range is advised so:
+    .. dontneed          it reads as zeros, and its frames are free
+    .. dontfork          a child doesn't get it
+    .. dofork            it does again
+    .. wipeonfork        a child has zeros in its place
+    .. keeponfork        it doesn't any more
   read P A N             read N bytes at A
   write P A HEX          write the bytes HEX at A
   maps P                 the longest runs of pages with one protection

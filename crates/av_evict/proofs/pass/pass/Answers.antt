@@ -9,8 +9,8 @@ use Rattle.av_evict.proofs.SeekLaws.{IsFlown, completed-landed, completes-all, p
 use Rattle.av_evict.proofs.SystemLaws.{gives-as, gives-at, gives-so, gives-then, leaves-spares, loose}
 use Rattle.av_evict.proofs.pass.pass.Goals as goal
 
-pub turns-requires : goal.turns-requires
-turns-requires g c =
+pub turns_if_any-requires : goal.turns_if_any-requires
+turns_if_any-requires g c =
     let k = g.S.System.view c.args.system.now false in
     let n = c.flight_len-flying.result in
     gives-at _ _ _ _ Always IsLanded (λ l ns. Completes l l.flight ns) c.requires
@@ -44,6 +44,6 @@ returns-clause-gives g c = λ told.
           ∙ c.if-has_free.false;
       setting = goes.does.stays.setting;
       spared = leaves-spares k mid c.args.pinned (c.in_ok-complete.ensures.stays told);
-    })) (c.in_ok-turns.ensures.gives told)
+    })) (c.in_ok-turns_if_any.ensures.gives told)
     (λ l ns sound ready flown after. completed-landed k.setting l ns sound flown.completes)
     (λ l ns ms sound ready flown turns. passed-then k.setting (spares k c.args.pinned) mid.setting (spares mid c.args.pinned) l ns ms flown turns)

@@ -2,13 +2,12 @@ use Rattle.std.proofs.Common.{◌+◌, ◌-◌, ◌/◌, ◌<◌, ◌≤◌, ref
 use Rattle.av_merge.specs.Pages.{GoesTo}
 use Rattle.av_trace.specs.declared.command.Command.TheVariants.{Mprotect}
 use Rattle.av_spaces.specs.Spaces.{is_taken}
-use Rattle.av_merge.specs.Kin.{lengths}
 use Rattle.av_vma.specs.Pages.{to_prot}
 use Rattle.av_trace.specs.declared.reply.Errno.TheVariants.{Esrch}
 use Rattle.av_step.proofs.StepLaws.{answers, ranges_there, refuses, refuses-as, refuses-by, dead_first, wants-by}
 use Rattle.av_place.proofs.PlaceLaws.{rounded_up}
 use Rattle.av_kernel.proofs.MapLaws.{mprotect-steps, mprotect-stops, mprotect-refused}
-use Rattle.av_kernel.proofs.MapMarks.{changed-homes, changed-marks, gets_areas}
+use Rattle.av_kernel.proofs.ChangeLaws.{are_changed}
 use Rattle.av_kernel.proofs.map.mprotect.Goals as goal
 
 pub returns-in_err-check_lives : goal.returns-in_err-check_lives
@@ -43,11 +42,8 @@ returns c = record {
       (mprotect-steps k c.modify.new.self c.modify.new.anons s c.args.process c.args.address c.args.len reached c.args.prot keeps
       (ranges_there k c.args.process c.in_ok-check_lives.ensures) c.in_ok-check_protect.ensures
       (subst (λ n. GoesTo (is_taken k.spaces.processes c.args.process) page (page + n) reached) size c.in_ok-reached.ensures.reached)
-      (changed-marks (lengths k.spaces.areas k.anons) k.spaces.processes c.modify.new.self.processes c.args.process page reached
-      (to_prot c.args.prot) c.in_ok-reached.ensures.ok c.in_ok-reached.ensures.mapping)
-      (gets_areas k.spaces.processes c.modify.new.self.processes c.args.process _ c.in_ok-reached.ensures.ok) c.in_ok-reached.ensures.anons
-      (changed-homes (lengths k.spaces.areas k.anons) k.spaces.processes c.modify.new.self.processes c.args.process page
-      (reached - page) (to_prot c.args.prot) c.in_ok-reached.ensures.ok) (subst (λ n. page + n ≤ reached) size c.if-reached-past.false));
+      (are_changed k c.modify.new.self c.modify.new.anons c.args.process page reached (reached - page) (to_prot c.args.prot) refl
+      c.in_ok-reached.ensures.ok c.in_ok-reached.ensures.mapping c.in_ok-reached.ensures.anons) (subst (λ n. page + n ≤ reached) size c.if-reached-past.false));
 }
 
 pub returns-then-reached-past : goal.returns-then-reached-past
@@ -61,11 +57,8 @@ returns-then-reached-past c = record {
       mprotect-stops k c.modify.new.self c.modify.new.anons s c.args.process c.args.address c.args.len reached c.args.prot keeps
       (ranges_there k c.args.process c.in_ok-check_lives.ensures) c.in_ok-check_protect.ensures
       (subst (λ n. GoesTo (is_taken k.spaces.processes c.args.process) page (page + n) reached) size c.in_ok-reached.ensures.reached)
-      (changed-marks (lengths k.spaces.areas k.anons) k.spaces.processes c.modify.new.self.processes c.args.process page reached
-      (to_prot c.args.prot) c.in_ok-reached.ensures.ok c.in_ok-reached.ensures.mapping)
-      (gets_areas k.spaces.processes c.modify.new.self.processes c.args.process _ c.in_ok-reached.ensures.ok) c.in_ok-reached.ensures.anons
-      (changed-homes (lengths k.spaces.areas k.anons) k.spaces.processes c.modify.new.self.processes c.args.process page
-      (reached - page) (to_prot c.args.prot) c.in_ok-reached.ensures.ok) (subst (λ n. reached < page + n) size c.if-reached-past.true);
+      (are_changed k c.modify.new.self c.modify.new.anons c.args.process page reached (reached - page) (to_prot c.args.prot) refl
+      c.in_ok-reached.ensures.ok c.in_ok-reached.ensures.mapping c.in_ok-reached.ensures.anons) (subst (λ n. reached < page + n) size c.if-reached-past.true);
 }
 
 pub modify-requires-clause-order : goal.modify-requires-clause-order

@@ -1,3 +1,4 @@
+use Rattle.av_laws.proofs.Along.{compact-along}
 use Rattle.av_laws.proofs.Spared.{step-spares}
 use Rattle.av_laws.proofs.Stay.{step-stays}
 use Rattle.av_laws.proofs.locked.locked_frames_stay.Goals as goal
@@ -7,3 +8,6 @@ returns-clause-unmaps_none c = step-spares
 
 pub returns-clause-entries_stay : goal.returns-clause-entries_stay
 returns-clause-entries_stay c = step-stays
+
+pub returns-clause-entries_go_along : goal.returns-clause-entries_go_along
+returns-clause-entries_go_along c = compact-along

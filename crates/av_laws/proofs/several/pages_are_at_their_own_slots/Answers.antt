@@ -8,3 +8,12 @@ returns-clause-page_at_next_slot c h = let e : ◌≡◌ {A = ℕ} 9 7 = h.kept 
 
 pub returns-clause-clean_at_next_slot : goal.returns-clause-clean_at_next_slot
 returns-clause-clean_at_next_slot c h = let e : ◌≡◌ {A = ℕ} 9 7 = h.clean (slot 1) refl refl 0 (omega arith) in omega (arith, e)
+
+pub returns-clause-cached : goal.returns-clause-cached
+returns-clause-cached c h = let b : ◌≡◌ {A = ℕ} 0 7 = h 0 (omega arith) in omega (arith, b)
+
+pub returns-clause-no_entry : goal.returns-clause-no_entry
+returns-clause-no_entry c h = let b : ◌≡◌ {A = ℕ} 0 7 = h 0 (omega arith) in omega (arith, b)
+
+pub returns-clause-zero_page : goal.returns-clause-zero_page
+returns-clause-zero_page c h = let b : ◌≡◌ {A = ℕ} 0 7 = h 0 (omega arith) in omega (arith, b)

@@ -2,7 +2,7 @@ use Rattle.std.specs.Prelude.{[], ◌∷◌, ◌++◌, false, true, Some, refl}
 use Rattle.std.proofs.Common.{arith}
 use Rattle.av_trace.specs.declared.note.Note.TheVariants.{Dropped, Loaded, Mapped, Unmapped, Written}
 use Rattle.av_plain.specs.Event.{TurnedOff, note_events}
-use Rattle.av_plain.specs.Swapoff.{Closed, NoRoom}
+use Rattle.av_plain.specs.Swapoff.{Closed, NoRoom, Unread}
 use Rattle.av_laws.specs.Examples.{slot}
 use Rattle.av_laws.specs.PassTurns.{one_frame_two_areas}
 use Rattle.av_laws.specs.Slots.{lower_given, lower_in_use, slot_at}
@@ -127,43 +127,72 @@ pub returns-clause-counted_behind_pass : goal.returns-clause-counted_behind_pass
 returns-clause-counted_behind_pass c = (refl, ([], counted_behind_pass, refl, refl, (slot_at 1 1, true, refl, ([], refl, refl))), refl)
 
 pub returns-clause-unmapped_in_turn : goal.returns-clause-unmapped_in_turn
-returns-clause-unmapped_in_turn c = (
-  note_events unmapped_in_turn,
-  record {
-    answer = record {
-      done = [];
-      pages = 1 ∷ [];
-      notes = unmapped_in_turn;
-      end = NoRoom (record { pinned = 0; noslot = 1; fault = 0; locked = 0; ksm = 0 });
-      completes = refl;
-      empties = (
-        2 ∷ [],
-        unmapped_in_turn,
-        [],
-        refl,
-        refl,
-        record {
-          fetched = Unmapped 0 ∷ Dropped (slot 2) ∷ Loaded (slot 1) 0 ∷ [];
-          frame = 0;
-          fetches = (
-            record {
-              sought = Unmapped 0 ∷ Dropped (slot 2) ∷ [];
-              frame = 0;
-              seeks = ([], Unmapped 0 ∷ Dropped (slot 2) ∷ [], refl, refl, (slot 2, false, refl, refl));
-              in_range = omega arith;
-              free = refl;
-              whole = refl;
-            },
-            refl,
-          );
-          whole = refl;
-        },
-        (refl, ([], [], refl, refl, refl), refl),
-      );
-      whole = refl;
-      answered = refl;
-      no_rows = refl;
-    };
-    notes = refl;
-  },
-)
+returns-clause-unmapped_in_turn c = record {
+  answer = record {
+    done = [];
+    pages = 1 ∷ [];
+    notes = unmapped_in_turn;
+    end = NoRoom (record { pinned = 0; noslot = 1; fault = 0; locked = 0; ksm = 0 });
+    completes = refl;
+    empties = (
+      2 ∷ [],
+      unmapped_in_turn,
+      [],
+      refl,
+      refl,
+      record {
+        fetched = Unmapped 0 ∷ Dropped (slot 2) ∷ Loaded (slot 1) 0 ∷ [];
+        frame = 0;
+        fetches = (
+          record {
+            sought = Unmapped 0 ∷ Dropped (slot 2) ∷ [];
+            frame = 0;
+            seeks = ([], Unmapped 0 ∷ Dropped (slot 2) ∷ [], refl, refl, (slot 2, false, refl, refl));
+            in_range = omega arith;
+            free = refl;
+            whole = refl;
+          },
+          refl,
+        );
+        whole = refl;
+      },
+      (refl, ([], [], refl, refl, refl), refl),
+    );
+    whole = refl;
+    answered = refl;
+    no_rows = refl;
+  };
+  notes = refl;
+}
+
+pub returns-clause-turned_off : goal.returns-clause-turned_off
+returns-clause-turned_off c = record {
+  answer = record {
+    done = [];
+    pages = [];
+    notes = [];
+    end = Closed;
+    completes = refl;
+    empties = (refl, refl);
+    whole = refl;
+    answered = refl;
+    no_rows = refl;
+  };
+  notes = refl;
+}
+
+pub returns-clause-unread_stays_on : goal.returns-clause-unread_stays_on
+returns-clause-unread_stays_on c = record {
+  answer = record {
+    done = [];
+    pages = [];
+    notes = [];
+    end = Unread;
+    completes = refl;
+    empties = (refl, refl, refl);
+    whole = refl;
+    answered = refl;
+    no_rows = refl;
+  };
+  notes = refl;
+}

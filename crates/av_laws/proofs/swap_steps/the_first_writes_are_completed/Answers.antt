@@ -6,10 +6,8 @@ use Rattle.av_laws.specs.SwapSteps.{both_written}
 use Rattle.av_laws.proofs.swap_steps.the_first_writes_are_completed.Goals as goal
 
 pub returns-clause-first_completed : goal.returns-clause-first_completed
-returns-clause-first_completed c = (
-  note_events (Written (slot 2) ∷ []),
-  record { answer = (Written (slot 2) ∷ [], (false, [], refl, refl), refl, refl, refl); notes = refl },
-)
+returns-clause-first_completed c =
+    record { answer = (Written (slot 2) ∷ [], (false, [], refl, refl), refl, refl, refl); notes = refl }
 
 pub returns-clause-both_completed : goal.returns-clause-both_completed
 returns-clause-both_completed c = (

@@ -1,4 +1,4 @@
-use Rattle.std.specs.Prelude.{◌≡◌, ℕ, Bool, true, false, List, [], ◌∷◌, is_some, refl}
+use Rattle.std.specs.Prelude.{◌≡◌, ℕ, true, List, [], ◌∷◌, is_some, refl}
 use Rattle.std.proofs.Common.{arith, sym, ap}
 use Rattle.av_plain.specs.Ledger.{InFrame}
 use Rattle.av_plain.specs.Stands.{has_items}

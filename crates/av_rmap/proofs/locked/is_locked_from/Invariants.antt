@@ -1,7 +1,8 @@
 use Rattle.std.proofs.Common.{◌≡◌, ◌+◌, ◌≤◌, length}
 use Rattle.std.specs.List.{AllByRecursion, list_any}
 use Rattle.av_base.specs.Words.{how_many}
-use Rattle.av_rmap.specs.Locked.{finds_locked, is_locked, locked_looks}
+use Rattle.av_rmap.specs.Locked.{finds_locked, locked_looks}
+use Rattle.av_vma.specs.Areas.{is_locked}
 use Rattle.av_rmap.specs.Looks.{ahead}
 use Rattle.av_rmap.specs.Walk.{areas_from, names_frame}
 use Rattle.av_rmap.proofs.NextAreas.{IsHeld}

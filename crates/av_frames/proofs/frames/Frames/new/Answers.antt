@@ -10,7 +10,7 @@ invariant_of-result c = rw (
   c.in_ok-fill-2.ensures,
   c.in_ok-fill-3.ensures,
   c.in_ok-fill-4.ensures,
-  c.in_ok-fill-5.ensures,
+  c.in_ok-new-2.ensures,
 )
     (whole_fresh c.args.count _ _ _ (omega arith) c.in_ok-all_numbers.ensures.1 c.in_ok-all_numbers.ensures.2)
 
@@ -21,5 +21,5 @@ returns c = rw (
   c.in_ok-fill-2.ensures,
   c.in_ok-fill-3.ensures,
   c.in_ok-fill-4.ensures,
-  c.in_ok-fill-5.ensures,
+  c.in_ok-new-2.ensures,
 ) (seen_fresh c.args.count)

@@ -9,4 +9,4 @@ returns-clause-once c =
     let same = length-lists c.self.inside.lists.items in
     subst AreOnce (sym (c.deref.ensures.value
     ∙ list-at c.self.inside.lists.items c.args.frame c.index.result.now c.index.ensures (omega (arith, less, same))))
-    (c.self.invariant c.args.frame)
+    (c.self.invariant.once c.args.frame)

@@ -1,7 +1,7 @@
 use Rattle.std.proofs.Common.{◌≡◌, ◌<◌, [], List, length, get_or, set, sym, ap, subst, ◌∙◌, arith}
 use Rattle.av_rmap.specs.Items.{Item, shown}
-use Rattle.av_rmap.specs.ItemLists.{AllOnce, lists_of}
-use Rattle.av_rmap.proofs.ItemLemmas.{length-lists, lists-swap, once-moved, shown-moved}
+use Rattle.av_rmap.specs.ItemLists.{AreKept, lists_of}
+use Rattle.av_rmap.proofs.ItemLemmas.{length-lists, lists-swap, kept-moved, shown-moved}
 use Rattle.av_rmap.proofs.items.Items.rename.Goals as goal
 
 from_below : (c : goal.After-swap) → c.args.from < length (lists_of c.self.inside.lists.items)
@@ -19,8 +19,9 @@ swapped c =
     ∙ lists-swap c.self.inside.lists.items c.args.from c.args.to (omega (arith, a, same)) (omega (arith, b, same))
 
 pub invariant_of-self : goal.invariant_of-self
-invariant_of-self c = subst AllOnce (sym (swapped c))
-    (once-moved (lists_of c.self.inside.lists.items) c.args.from c.args.to (from_below c) (to_below c) c.self.invariant)
+invariant_of-self c = subst (λ (lists : List (List Item)). AreKept lists c.self.inside.merged) (sym (swapped c))
+    (kept-moved (lists_of c.self.inside.lists.items) c.args.from c.args.to c.self.inside.merged (from_below c) (to_below c)
+    (ap (λ (v : List (List Item)). get_or v c.args.to []) c.self.view_is ∙ c.requires.not_merged) c.self.invariant)
 
 pub returns : goal.returns
 returns c = rw (← c.self.view_is) (ap shown (swapped c)

@@ -1,6 +1,6 @@
 use Rattle.std.proofs.Common.{subst, sym, ap, ◌∙◌}
 use Rattle.std.specs.Prelude.{IsSome}
-use Rattle.av_rmap.specs.Locked.{is_locked}
+use Rattle.av_vma.specs.Areas.{is_locked}
 use Rattle.av_rmap.specs.View.{View}
 use Rattle.av_rmap.proofs.stores.StoresMutLook.is_locked.Goals as goal
 

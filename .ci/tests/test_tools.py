@@ -1,0 +1,278 @@
+"""Unit tests of tools/."""
+import os
+import tempfile
+import unittest
+
+from shared.saying import Refused, count_of, lines_of, printable
+
+import swapfile
+from calls import Mapped, address_of, kind_of, protection_of
+from faults import most_common, read_faults
+from labels import is_label, mapping_of, process_of
+from lackey import names_of, number_of
+from peak import Peak
+from ranges import Ranges, up
+from shift import SPLIT, TOP, NotAsked, Shift
+from spaces import Space, runs_of
+from strace import Reader, time_of
+from transcript import answer_of, forms, note_of, replies_of, row_of
+
+PAGE = 4096
+
+
+def written(text: str) -> str:
+    """The name of a file with this text, in the test's folder."""
+    with tempfile.NamedTemporaryFile("w", dir=".", delete=False, encoding="ascii") as it:
+        it.write(text)
+    return it.name
+
+
+class InFolder(unittest.TestCase):
+    """Tests in a folder of their own."""
+
+    def setUp(self) -> None:
+        room = tempfile.TemporaryDirectory()
+        self.addCleanup(room.cleanup)
+        self.addCleanup(os.chdir, os.getcwd())
+        os.chdir(room.name)
+
+
+class Labels(unittest.TestCase):
+    """Comments that name something."""
+
+    def test_processes_and_mappings(self) -> None:
+        comment = "process 6: redis-cli (thread 7, a child of 1)"
+        self.assertEqual(process_of(comment), (6, "redis-cli"))
+        self.assertEqual(process_of("process 6: a (b)"), (6, "a"))
+        self.assertEqual(mapping_of("mapping: libc.so.6"), "libc.so.6")
+        for it in ("process 6 has two pages", "a mapping: x", "", "process 6:"):
+            self.assertFalse(is_label(it))
+
+
+class Lackey(unittest.TestCase):
+    """The words of calls, as valgrind prints them."""
+
+    def test_numbers_and_flags(self) -> None:
+        self.assertEqual([number_of(it) for it in ("0x10", "12", "0x9(/lib)", "?")], [16, 12, 9, 0])
+        self.assertEqual(names_of(3, {1: "A", 2: "B", 4: "C"}), "A|B")
+
+
+class Transcript(unittest.TestCase):
+    """Replies in fields."""
+
+    def test_each_note_of_the_reference_has_its_fields(self) -> None:
+        self.assertEqual(forms()["map"], ["process", "address", "frame"])
+        self.assertEqual(forms()["load"], ["slot", "frame"])
+        self.assertEqual(forms()["keep"], ["frame", "cause"])
+        self.assertEqual(note_of("age 3"), {"what": "age", "frame": 3})
+        self.assertIsNone(note_of("age"))
+        self.assertIsNone(note_of("1 20000"))
+
+    def test_rows_and_answers(self) -> None:
+        row = row_of("20000-21000 rw- off=20 own=- chain=0,1 locked")
+        wanted = {"start": "20000", "end": "21000", "prot": "rw-", "off": "20", "own": "-"}
+        self.assertEqual(row, wanted | {"chain": "0,1", "flags": ["locked"]})
+        self.assertEqual(row_of("1 20000"), {"process": 1, "address": "20000"})
+        answer = answer_of("oom 1 pinned=1 noslot=0 fault=0 41")
+        wanted = {"what": "oom", "at": 1, "bytes": "41", "pinned": 1, "noslot": 0, "fault": 0}
+        self.assertEqual(answer, wanted)
+
+    def test_lines_are_cut_into_replies(self) -> None:
+        lines = iter([b"ok\n", b" new 1 2 3\n", b"data 00\n"])
+        self.assertEqual(list(replies_of(lines)), [["ok", "new 1 2 3"], ["data 00"]])
+
+
+class Saying(InFolder):
+    """How the tools say what is wrong."""
+
+    def test_a_line_is_shown_in_ascii_and_cut(self) -> None:
+        self.assertEqual(printable("a\tb\x7f"), r"a\x09b\x7f")
+        self.assertEqual(len(printable("x" * 200)), 89)
+
+    def test_numbers_have_their_words(self) -> None:
+        self.assertEqual([count_of(it, "call") for it in (1, 2)], ["1 call", "2 calls"])
+        self.assertEqual(count_of(0, "entry", "entries"), "0 entries")
+
+    def test_lines_end_with_a_newline(self) -> None:
+        self.assertEqual(lines_of(written("a\n\nb\n")), ["a", "", "b"])
+        with self.assertRaisesRegex(Refused, "line 2: it has no newline"):
+            lines_of(written("a\nb"))
+        with self.assertRaisesRegex(Refused, "is empty"):
+            lines_of(written(""))
+
+
+class RangesInOrder(unittest.TestCase):
+    """Ranges of addresses."""
+
+    def setUp(self) -> None:
+        self.ranges = Ranges()
+        self.ranges.put(10, 20, "a")
+        self.ranges.put(30, 40, "b")
+
+    def shown(self) -> list[tuple[int, int, str]]:
+        return [(it.start, it.end, it.of) for it in self.ranges]
+
+    def test_a_range_takes_the_place_of_what_is_there(self) -> None:
+        self.ranges.put(15, 35, "c")
+        self.assertEqual(self.shown(), [(10, 15, "a"), (15, 35, "c"), (35, 40, "b")])
+
+    def test_a_cut_within_leaves_both_sides(self) -> None:
+        gone = self.ranges.cut(12, 14)
+        self.assertEqual([(it.start, it.end) for it in gone], [(12, 14)])
+        self.assertEqual(self.shown(), [(10, 12, "a"), (14, 20, "a"), (30, 40, "b")])
+
+    def test_what_is_at_an_address(self) -> None:
+        found = [self.ranges.at(it) for it in (9, 10, 19, 20, 39, 40)]
+        self.assertEqual(found, [None, "a", "a", None, "b", None])
+
+    def test_holes_and_parts(self) -> None:
+        self.assertEqual(self.ranges.holes(5, 45), [(5, 10), (20, 30), (40, 45)])
+        self.assertEqual([(it.start, it.end) for it in self.ranges.within(15, 32)],
+                         [(15, 20), (30, 32)])
+
+    def test_lengths_are_rounded_up(self) -> None:
+        self.assertEqual([up(it) for it in (0, 1, PAGE, PAGE + 1)], [0, PAGE, PAGE, 2 * PAGE])
+
+
+class Spaces(unittest.TestCase):
+    """The memory of a process, as calls made it."""
+
+    def test_the_first_time_of_an_address_stays(self) -> None:
+        space = Space(1, "execve")
+        space.map(0, PAGE, Mapped("rw-", "anonymous"), 5)
+        space.map(0, 2 * PAGE, Mapped("r--", "anonymous"), 9)
+        self.assertEqual([space.births.at(it) for it in (0, PAGE)], [5, 9])
+
+    def test_who_mapped_the_rest(self) -> None:
+        space = Space(1, "execve")
+        space.map(0, PAGE, Mapped("rw-", "anonymous"), 0)
+        self.assertEqual([space.missing(0, it) for it in (1, PAGE, PAGE + 1)], ["", "", "execve"])
+
+    def test_ranges_that_adjoin_are_one(self) -> None:
+        ranges = Ranges()
+        for start in (0, 10, 30):
+            ranges.put(start, start + 10, start)
+        self.assertEqual(runs_of(list(ranges)), [(0, 20), (30, 40)])
+
+
+class Calls(unittest.TestCase):
+    """The words of calls."""
+
+    def test_protections(self) -> None:
+        for text, wanted in (("PROT_NONE", "---"), ("PROT_READ|PROT_EXEC", "r-x")):
+            self.assertEqual(protection_of(text), wanted)
+        with self.assertRaises(ValueError):
+            protection_of("PROT_MAGIC")
+
+    def test_kinds(self) -> None:
+        private = ["MAP_PRIVATE", "MAP_ANONYMOUS"]
+        self.assertEqual(kind_of(private, "-1"), "anonymous")
+        self.assertEqual(kind_of(private[:1], "3"), "file")
+        self.assertEqual(kind_of(["MAP_SHARED"], "3"), "shared")
+        with self.assertRaises(ValueError):
+            kind_of(private[:1], "-1")
+
+    def test_addresses(self) -> None:
+        self.assertEqual([address_of(it) for it in (None, "NULL", "0x10")], [0, 0, 16])
+
+
+class Strace(InFolder):
+    """Logs of strace."""
+
+    def test_times(self) -> None:
+        self.assertEqual(time_of("1.5"), 1_500_000_000)
+        self.assertEqual(time_of("01:00:00.000001"), 3_600_000_001_000)
+        self.assertEqual(time_of(None), -1)
+
+    def test_a_call_in_two_lines(self) -> None:
+        log = "1 brk(NULL <unfinished ...>\n2 brk(NULL) = 0x7\n1 <... brk resumed>) = 0x5\n"
+        steps = Reader(written(log)).steps()
+        self.assertEqual([it.kind for it in steps], ["begins", "call", "call"])
+        self.assertEqual(str(steps[2].call), "brk(NULL) = 0x5")
+
+    def test_midnight(self) -> None:
+        log = "1 23:59:59 brk(NULL) = 0x1\n1 00:00:01 brk(NULL) = 0x1\n"
+        first, second = Reader(written(log)).steps()
+        self.assertEqual(second.time - first.time, 2 * 10**9)
+
+    def test_what_is_no_line(self) -> None:
+        for log, why in (
+            ("[pid 7] brk(NULL) = 0x1\n", "record the log with -o"),
+            ("brk(NULL)\n", "line 1: it is no line of strace"),
+            ("1 brk(NULL <unfinished ...>\n1 brk(NULL) = 0x1\n", "lines are missing"),
+        ):
+            with self.assertRaisesRegex(Refused, why):
+                Reader(written(log)).steps()
+
+
+class Faults(InFolder):
+    """Page faults, as perf prints them."""
+
+    def test_forms(self) -> None:
+        told = "a 7/8 1.5: exceptions:page_fault_user: address=0x20000 ip=0x1 error_code=0x6\n"
+        plain = "8 2.5: page-faults: 30000\n"
+        first, second = read_faults(written(told + plain))
+        self.assertEqual((first.thread, first.address, first.is_write), (8, 0x20000, True))
+        self.assertEqual((second.thread, second.address, second.is_write), (8, 0x30000, None))
+
+    def test_a_file_that_was_cut(self) -> None:
+        with self.assertRaisesRegex(Refused, "so it was cut"):
+            read_faults(written("# faults, as perf script prints them\n1 2.5: page-faults: 1\n"))
+
+    def test_what_most_spans_have(self) -> None:
+        self.assertEqual(most_common([(0, 10), (5, 20), (7, 9), (30, 40)]), (7, 9))
+
+
+class Shifts(unittest.TestCase):
+    """Where addresses of a trace are on a kernel."""
+
+    def test_there_and_back(self) -> None:
+        shift = Shift(TOP - (1 << 28))
+        for at in (0, 0x10000, TOP - PAGE, TOP - 1):
+            self.assertEqual(shift.here(shift.there(at)), at)
+
+    def test_the_gap_has_no_place(self) -> None:
+        shift = Shift(TOP - PAGE)
+        self.assertTrue(shift.crosses(SPLIT - PAGE, 2 * PAGE))
+        self.assertFalse(shift.crosses(SPLIT - PAGE, PAGE))
+        with self.assertRaises(NotAsked):
+            shift.there(SPLIT)
+
+    def test_a_kernel_that_lays_too_low(self) -> None:
+        with self.assertRaises(Refused):
+            Shift(SPLIT)
+
+
+class SwapFiles(InFolder):
+    """Swap files, and the machine that a comment asks for."""
+
+    def test_a_comment_is_read_back(self) -> None:
+        machine = swapfile.Machine("4", [(16, [3, 5, 6, 7]), (2, [])])
+        text = swapfile.comment_for(machine)
+        self.assertEqual(text, "# Run it with 4 frames and a swap file of 16 pages, of which 3 "
+                         "and 5 to 7 are bad, and one of 2 pages.")
+        self.assertEqual(swapfile.asked_by(text), [machine])
+
+    def test_a_file_is_made_and_told_of(self) -> None:
+        swapfile.make("it", 8, [3])
+        self.assertEqual(os.path.getsize("it"), 8 * PAGE)
+        self.assertEqual(swapfile.told_of("it"), (8, [3]))
+        self.assertEqual(swapfile.told_of("none"), (0, []))
+
+    def test_another_file_stays(self) -> None:
+        with self.assertRaises(swapfile.Unfit):
+            swapfile.make(written("text"), 8)
+
+
+class Peaks(unittest.TestCase):
+    """How many frames a trace holds."""
+
+    def test_a_fork_shares_and_a_write_copies(self) -> None:
+        peak = Peak()
+        for line in ("write 1 20000 01", "fork 1 2", "write 2 20000 02", "exit 1"):
+            peak.take(line)
+        self.assertEqual((len(peak.names), peak.most), (1, 2))
+
+
+if __name__ == "__main__":
+    unittest.main()

@@ -1,0 +1,49 @@
+# Completion for bash: source tools/editor/completion.bash
+# In zsh: autoload -U +X bashcompinit && bashcompinit, and then the same.
+#
+# It knows the words of ./avsim, and asks each program of tools/ and view/ for its own by --help.
+
+_avsim_files() {
+  local file
+  while IFS= read -r file; do
+    COMPREPLY+=("$file")
+  done < <(compgen -f -- "$1")
+}
+
+_avsim_words() {
+  local word
+  while IFS= read -r word; do
+    COMPREPLY+=("$word")
+  done < <(compgen -W "$1" -- "$2")
+}
+
+_avsim() {
+  local begun=${COMP_WORDS[COMP_CWORD]} first=${COMP_WORDS[1]} at=$COMP_CWORD
+  COMPREPLY=()
+  case $at:$first in
+    1:*) _avsim_words "run work talk why build --help --version" "$begun" ;;
+    2:run | 2:work | 2:talk | 2:why) _avsim_words --help "$begun" ;;
+    [3-9]:run | [3-9]:talk | 10:run | 10:talk) _avsim_files "$begun" ;;
+    [5-9]:work | 1[0-2]:work) _avsim_files "$begun" ;;
+  esac
+}
+
+# A word that begins with - is one of those that the program's usage has.
+_avsim_tool() {
+  local begun=${COMP_WORDS[COMP_CWORD]}
+  COMPREPLY=()
+  case $begun in
+    -*)
+      _avsim_words "--help $("${COMP_WORDS[0]}" --help 2>/dev/null | sed '/^$/q' |
+        grep -o -E '[[ ]--?[a-z][a-z-]*' | tr -d '[ ')" "$begun"
+      ;;
+    *) _avsim_files "$begun" ;;
+  esac
+}
+
+complete -o filenames -F _avsim avsim ./avsim
+for _avsim_name in tools/{compare-maps,from-strace,json,make-swap,on-linux,real-areas,record,sum,work-trace} \
+  view/{run,lessons}; do
+  complete -o filenames -F _avsim_tool "$_avsim_name" "./$_avsim_name"
+done
+unset _avsim_name

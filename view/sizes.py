@@ -1,0 +1,170 @@
+"""Runs a trace with several numbers of frames, and draws what that costs: page faults over frames.
+
+Pages that find no frame go to a swap file, which is made for each run and is large enough; where
+the trace turns no area on, `swapon 0` is put in front.
+
+An access is a `read` or `write`. It is a fault where its reply has a note `zero`, `new`, `copy` or
+`map`, and else a hit. Loaded are pages that come from the swap file, written those that go there.
+"""
+import argparse
+import html
+import os
+import re
+import tempfile
+from typing import Callable, NamedTuple
+
+from shared.saying import Refused
+
+import making
+from sums import Sums
+from swapfile import MOST_FILES, MOST_FRAMES, MOST_PAGES, Machine, words_of
+from transcript import Step
+
+# sizes of one picture at most
+MOST_SIZES = 64
+# the picture, and its space for the axes
+WIDTH, HEIGHT, LEFT, RIGHT, TOP, BOTTOM = 640, 400, 70, 20, 50, 60
+# what is drawn: its column, and its colour
+LINES = (("faults", "#1864ab"), ("loaded", "#2b8a3e"), ("written", "#d9480f"))
+
+
+class Size(NamedTuple):
+    """A number of frames, and what a run with them sums up to."""
+
+    frames: int
+    sums: Sums
+
+
+def sizes_of(word: str) -> list[int]:
+    """The numbers of frames of --sizes, rising."""
+    numbers = word.split(",")
+    wrong = [it for it in numbers if not re.fullmatch(r"[1-9][0-9]{0,4}", it)]
+    if wrong or max(map(int, numbers)) > MOST_FRAMES or len(numbers) > MOST_SIZES:
+        raise argparse.ArgumentTypeError(
+            f"it is up to {MOST_SIZES} numbers from 1 to {MOST_FRAMES}, as in 4,8,16, and "
+            f"{word!r} isn't"
+        )
+    return sorted(set(map(int, numbers)))
+
+
+def lines_of(commands: list[making.Command]) -> tuple[list[str], int]:
+    """The lines of a trace, and how many swap files it turns on: at least one."""
+    lines = [it.line for it in commands]
+    areas = re.findall(r"^swapon (\d+)\b", "\n".join(lines), re.M)
+    if not areas:
+        return ["swapon 0", *lines], 1
+    return lines, min(max(map(int, areas)) + 1, MOST_FILES)
+
+
+def pages_written(lines: list[str]) -> int:
+    """So many pages are there at most."""
+    texts = (it.split(" ")[3] for it in lines if it.startswith("write ") and it.count(" ") == 3)
+    return sum(len(it) // 8192 + 2 for it in texts)
+
+
+def size_of(program: str, frames: int, lines: list[str], areas: int) -> Size:
+    """The run with a number of frames."""
+    pages = min(pages_written(lines) + frames + 1, MOST_PAGES)
+    with tempfile.TemporaryDirectory() as room:
+        words = words_of(Machine(str(frames), [(pages, [])] * areas), room)
+        transcript, status, said = making.run_plainly(program, words, lines)
+    replies = making.replies_of(transcript)
+    if status or len(replies) != len(lines):
+        raise Refused(f"with {frames} frames avsim ended early, with status {status}: {said}")
+    sums = Sums()
+    for number, (line, reply) in enumerate(zip(lines, replies), 1):
+        sums.add(Step(number, number, line.split(" "), reply))
+    return Size(frames, sums)
+
+
+def table_of(sizes: list[Size]) -> list[str]:
+    """A row for each size."""
+    heads = ["frames", "accesses", "hits", "faults", "loaded", "written", "oom"]
+    rows = [heads]
+    for frames, it in sizes:
+        hits = it.accesses - it.faults
+        cells = (frames, it.accesses, hits, it.faults, it.loaded, it.written, it.oom)
+        rows.append(list(map(str, cells)))
+    widths = [max(len(row[at]) for row in rows) for at in range(len(heads))]
+    return ["  ".join(f"{it:>{width}}" for it, width in zip(row, widths)) for row in rows]
+
+
+def step_of(most: int) -> int:
+    """The distance of the marks of an axis: 1, 2 or 5 by a power of ten, at most eight of them."""
+    power = 1
+    while True:
+        for it in (1, 2, 5):
+            if it * power * 8 >= most:
+                return it * power
+        power *= 10
+
+
+def text_at(x: float, y: float, text: str, how: str = "") -> str:
+    return f'<text x="{x:.1f}" y="{y:.1f}"{how}>{html.escape(text)}</text>'
+
+
+def axes(title: str, across: Callable, up: Callable, most: tuple[int, int]) -> list[str]:
+    """The axes with their marks."""
+    found = [text_at(LEFT, 24, title, ' font-size="16" font-weight="bold"')]
+    for value in range(0, most[0] + 1, step_of(most[0])):
+        x = across(value)
+        found.append(f'<path d="M{x:.1f} {up(0):.1f}v5" stroke="#5b6472"/>')
+        found.append(text_at(x, up(0) + 20, str(value), ' text-anchor="middle"'))
+    for value in range(0, most[1] + 1, step_of(most[1])):
+        y = up(value)
+        found.append(f'<path d="M{LEFT} {y:.1f}H{WIDTH - RIGHT}" stroke="#e3e7ee"/>')
+        found.append(text_at(LEFT - 8, y + 4, f"{value:,}", ' text-anchor="end"'))
+    found.append(text_at(across(most[0] / 2), HEIGHT - 14, "frames", ' text-anchor="middle"'))
+    frame = f"M{LEFT} {TOP}V{up(0):.1f}H{WIDTH - RIGHT}"
+    found.append(f'<path d="{frame}" fill="none" stroke="#14181f"/>')
+    return found
+
+
+def line_of(column: str, colour: str, at: int, points: list[tuple[float, float]]) -> list[str]:
+    """A column as a line, with a point for each size and its name at the right."""
+    path = " ".join(f"{x:.1f},{y:.1f}" for x, y in points)
+    found = [f'<polyline points="{path}" fill="none" stroke="{colour}" stroke-width="2"/>']
+    found += [f'<circle cx="{x:.1f}" cy="{y:.1f}" r="3.5" fill="{colour}"/>' for x, y in points]
+    how = f' fill="{colour}" text-anchor="end"'
+    return [*found, text_at(WIDTH - RIGHT, TOP + 16 + 18 * at, column, how)]
+
+
+def svg_of(title: str, sizes: list[Size]) -> str:
+    """The picture."""
+    most = max(it.frames for it in sizes), max(max(it.sums.faults for it in sizes), 1)
+    across = lambda value: LEFT + value * (WIDTH - LEFT - RIGHT) / most[0]
+    up = lambda value: HEIGHT - BOTTOM - value * (HEIGHT - BOTTOM - TOP) / most[1]
+    parts = axes(title, across, up, most)
+    for at, (column, colour) in enumerate(LINES):
+        points = [(across(it.frames), up(min(getattr(it.sums, column), most[1]))) for it in sizes]
+        parts += line_of(column, colour, at, points)
+    return "\n".join(
+        [
+            f'<svg xmlns="http://www.w3.org/2000/svg" width="{WIDTH}" height="{HEIGHT}" '
+            f'viewBox="0 0 {WIDTH} {HEIGHT}" font-family="sans-serif" font-size="13" '
+            'fill="#14181f">',
+            f"<title>{html.escape(title)}</title>",
+            f'<rect width="{WIDTH}" height="{HEIGHT}" fill="#fff"/>',
+            *parts,
+            "</svg>",
+            "",
+        ]
+    )
+
+
+def write(words: argparse.Namespace, commands: list[making.Command], to: str) -> None:
+    """Runs the sizes, tells them, and writes the picture."""
+    lines, areas = lines_of(commands)
+    sizes = [size_of(words.program, it, lines, areas) for it in words.sizes]
+    print("\n".join(table_of(sizes)))
+    name = "trace" if words.trace == "-" else os.path.basename(words.trace)
+    picture = svg_of(f"{name}: page faults over frames", sizes)
+    if to == "-":
+        print(picture, end="", flush=True)
+        return
+    try:
+        with open(to, "w", encoding="utf-8") as it:
+            it.write(picture)
+    except OSError as error:
+        raise Refused(f"{to} can't be written: {error.strerror}") from None
+    print(f"{to}: {len(sizes)} sizes", flush=True)
