@@ -1,5 +1,5 @@
 use Rattle.std.proofs.Common.{◌<◌, false, None, Some, refl, sym, subst, ◌∙◌}
-use Rattle.av_plain.specs.Device.{as_told, device_by, seen_by}
+use Rattle.av_plain.specs.Device.{as_told, device_by, seen_by, Calls}
 use Rattle.av_plain.specs.Fault.{CopyOnWrite}
 use Rattle.av_fault.specs.Seek.{HasSought}
 use Rattle.av_fault.specs.declared.seek.Got.TheVariants.{Frame, Out}
@@ -27,7 +27,7 @@ returns-in-Out-clause-made g c = λ told w r l h came.
 pub take_frame_for_copy-frame-requires-clause-there : goal.take_frame_for_copy-frame-requires-clause-there
 take_frame_for_copy-frame-requires-clause-there g c =
     let sizes = g.D.SwapDev.sizes c.args.dev.now in
-    let calls = (g.D.SwapDev.failures c.args.dev.now, g.D.SwapDev.history c.args.dev.now) in
+    let calls : Calls = (g.D.SwapDev.failures c.args.dev.now, g.D.SwapDev.history c.args.dev.now) in
     let old = c.args.mem.now in
     let d = device_by sizes None calls in
     let d' = device_by (g.D.SwapDev.sizes c.seek.new.dev) None (g.D.SwapDev.failures c.seek.new.dev, g.D.SwapDev.history c.seek.new.dev) in
@@ -41,7 +41,7 @@ take_frame_for_copy-frame-requires-clause-there g c =
 pub take_frame_for_copy-frame-requires-clause-free : goal.take_frame_for_copy-frame-requires-clause-free
 take_frame_for_copy-frame-requires-clause-free g c =
     let sizes = g.D.SwapDev.sizes c.args.dev.now in
-    let calls = (g.D.SwapDev.failures c.args.dev.now, g.D.SwapDev.history c.args.dev.now) in
+    let calls : Calls = (g.D.SwapDev.failures c.args.dev.now, g.D.SwapDev.history c.args.dev.now) in
     let old = c.args.mem.now in
     let d = device_by sizes None calls in
     let d' = device_by (g.D.SwapDev.sizes c.seek.new.dev) None (g.D.SwapDev.failures c.seek.new.dev, g.D.SwapDev.history c.seek.new.dev) in
@@ -60,7 +60,7 @@ take_frame_for_copy-frame-requires-clause-itemed g c =
 pub take_frame_for_copy-frame-requires-clause-in_range : goal.take_frame_for_copy-frame-requires-clause-in_range
 take_frame_for_copy-frame-requires-clause-in_range g c =
     let sizes = g.D.SwapDev.sizes c.args.dev.now in
-    let calls = (g.D.SwapDev.failures c.args.dev.now, g.D.SwapDev.history c.args.dev.now) in
+    let calls : Calls = (g.D.SwapDev.failures c.args.dev.now, g.D.SwapDev.history c.args.dev.now) in
     let old = c.args.mem.now in
     let b = between-some sizes old calls c.requires.between in
     let here = c.requires.here in
@@ -70,7 +70,7 @@ take_frame_for_copy-frame-requires-clause-in_range g c =
 pub take_frame_for_copy-frame-requires-clause-mapped : goal.take_frame_for_copy-frame-requires-clause-mapped
 take_frame_for_copy-frame-requires-clause-mapped g c =
     let sizes = g.D.SwapDev.sizes c.args.dev.now in
-    let calls = (g.D.SwapDev.failures c.args.dev.now, g.D.SwapDev.history c.args.dev.now) in
+    let calls : Calls = (g.D.SwapDev.failures c.args.dev.now, g.D.SwapDev.history c.args.dev.now) in
     let old = c.args.mem.now in
     let d = device_by sizes None calls in
     let d' = device_by (g.D.SwapDev.sizes c.seek.new.dev) None (g.D.SwapDev.failures c.seek.new.dev, g.D.SwapDev.history c.seek.new.dev) in

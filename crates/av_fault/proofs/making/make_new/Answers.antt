@@ -1,5 +1,5 @@
 use Rattle.std.proofs.Common.{false, None, refl, subst}
-use Rattle.av_plain.specs.Device.{as_told, device_by, seen_by}
+use Rattle.av_plain.specs.Device.{as_told, device_by, seen_by, Calls}
 use Rattle.av_plain.specs.Fault.{NewPage}
 use Rattle.av_plain.specs.Ledger.{entry}
 use Rattle.av_pagetable.specs.Entries.{entry_at}
@@ -27,7 +27,7 @@ returns-in-Out-clause-made g c = λ told w r l h.
 pub prepare-requires-clause-order : goal.prepare-requires-clause-order
 prepare-requires-clause-order g c =
     let sizes = g.D.SwapDev.sizes c.args.dev.now in
-    let calls = (g.D.SwapDev.failures c.args.dev.now, g.D.SwapDev.history c.args.dev.now) in
+    let calls : Calls = (g.D.SwapDev.failures c.args.dev.now, g.D.SwapDev.history c.args.dev.now) in
     let old = c.args.mem.now in
     let d = device_by sizes None calls in
     let d' = device_by (g.D.SwapDev.sizes c.seek.new.dev) None (g.D.SwapDev.failures c.seek.new.dev, g.D.SwapDev.history c.seek.new.dev) in
@@ -38,7 +38,7 @@ prepare-requires-clause-order g c =
 pub prepare-requires-clause-lives : goal.prepare-requires-clause-lives
 prepare-requires-clause-lives g c =
     let sizes = g.D.SwapDev.sizes c.args.dev.now in
-    let calls = (g.D.SwapDev.failures c.args.dev.now, g.D.SwapDev.history c.args.dev.now) in
+    let calls : Calls = (g.D.SwapDev.failures c.args.dev.now, g.D.SwapDev.history c.args.dev.now) in
     let old = c.args.mem.now in
     let d = device_by sizes None calls in
     let d' = device_by (g.D.SwapDev.sizes c.seek.new.dev) None (g.D.SwapDev.failures c.seek.new.dev, g.D.SwapDev.history c.seek.new.dev) in
@@ -50,7 +50,7 @@ prepare-requires-clause-lives g c =
 pub take_frame_of_zeros-requires-clause-table : goal.take_frame_of_zeros-requires-clause-table
 take_frame_of_zeros-requires-clause-table g c =
     let sizes = g.D.SwapDev.sizes c.args.dev.now in
-    let calls = (g.D.SwapDev.failures c.args.dev.now, g.D.SwapDev.history c.args.dev.now) in
+    let calls : Calls = (g.D.SwapDev.failures c.args.dev.now, g.D.SwapDev.history c.args.dev.now) in
     let old = c.args.mem.now in
     let d = device_by sizes None calls in
     let d' = device_by (g.D.SwapDev.sizes c.seek.new.dev) None (g.D.SwapDev.failures c.seek.new.dev, g.D.SwapDev.history c.seek.new.dev) in
@@ -62,7 +62,7 @@ take_frame_of_zeros-requires-clause-table g c =
 pub take_frame_of_zeros-requires-clause-free : goal.take_frame_of_zeros-requires-clause-free
 take_frame_of_zeros-requires-clause-free g c =
     let sizes = g.D.SwapDev.sizes c.args.dev.now in
-    let calls = (g.D.SwapDev.failures c.args.dev.now, g.D.SwapDev.history c.args.dev.now) in
+    let calls : Calls = (g.D.SwapDev.failures c.args.dev.now, g.D.SwapDev.history c.args.dev.now) in
     let old = c.args.mem.now in
     let d = device_by sizes None calls in
     let d' = device_by (g.D.SwapDev.sizes c.seek.new.dev) None (g.D.SwapDev.failures c.seek.new.dev, g.D.SwapDev.history c.seek.new.dev) in

@@ -1,6 +1,6 @@
 use Rattle.std.proofs.Common.{◌≡◌, ◌<◌, false, true, None, is_some, refl, sym, ap, subst, ◌∙◌}
 use Rattle.av_plain.specs.Areas.{rmap_after_all}
-use Rattle.av_plain.specs.Device.{as_told, device_by, seen_by}
+use Rattle.av_plain.specs.Device.{as_told, device_by, seen_by, Calls}
 use Rattle.av_plain.specs.Event.{after_all, after_notes, note_events}
 use Rattle.av_plain.specs.Fault.{asks_copy}
 use Rattle.av_plain.specs.Ledger.{slot_of}
@@ -24,7 +24,7 @@ asks_copy-requires-clause-itemed g c =
 pub asks_copy-requires-clause-in_range : goal.asks_copy-requires-clause-in_range
 asks_copy-requires-clause-in_range g c =
     let sizes = g.D.SwapDev.sizes c.args.dev.now in
-    let calls = (g.D.SwapDev.failures c.args.dev.now, g.D.SwapDev.history c.args.dev.now) in
+    let calls : Calls = (g.D.SwapDev.failures c.args.dev.now, g.D.SwapDev.history c.args.dev.now) in
     let old = c.args.mem.now in
     let d = device_by sizes None calls in
     let b = between-some sizes old calls c.requires.between in
@@ -34,7 +34,7 @@ asks_copy-requires-clause-in_range g c =
 pub drop_unneeded-requires-clause-in_use : goal.drop_unneeded-requires-clause-in_use
 drop_unneeded-requires-clause-in_use g c =
     let sizes = g.D.SwapDev.sizes c.args.dev.now in
-    let calls = (g.D.SwapDev.failures c.args.dev.now, g.D.SwapDev.history c.args.dev.now) in
+    let calls : Calls = (g.D.SwapDev.failures c.args.dev.now, g.D.SwapDev.history c.args.dev.now) in
     let old = c.args.mem.now in
     let d = device_by sizes None calls in
     let b = between-some sizes old calls c.requires.between in
@@ -54,7 +54,7 @@ write_own-requires-clause-here g c =
 pub write_own-requires-clause-in_range : goal.write_own-requires-clause-in_range
 write_own-requires-clause-in_range g c =
     let sizes = g.D.SwapDev.sizes c.args.dev.now in
-    let calls = (g.D.SwapDev.failures c.args.dev.now, g.D.SwapDev.history c.args.dev.now) in
+    let calls : Calls = (g.D.SwapDev.failures c.args.dev.now, g.D.SwapDev.history c.args.dev.now) in
     let old = c.args.mem.now in
     let d = device_by sizes None calls in
     let b = between-some sizes old calls c.requires.between in
