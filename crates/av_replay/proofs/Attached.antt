@@ -1,8 +1,8 @@
 -- One swap area more is attached.
-use Rattle.std.proofs.Common.{◌≡◌, ℕ, zero, suc, ◌+◌, ◌≤◌, Bool, true, false, cond, List, [], ◌∷◌, ◌++◌, length, Option, Some, None, is_some, refl, sym, ap, ◌∙◌, ◌==◌, arith}
+use Rattle.std.proofs.Common.{◌≡◌, ℕ, zero, suc, ◌+◌, ◌<◌, ◌≤◌, Bool, Bor, map, get_or, true, false, cond, List, [], ◌∷◌, ◌++◌, length, Option, Some, None, is_some, refl, sym, ap, ◌∙◌, ◌==◌, arith}
 use Rattle.std.proofs.lemmas.Bool.Decides.{nat_tests}
 use Rattle.std.specs.List.{AllByRecursion}
-use Rattle.std.proofs.lemmas.List.{append-nil, append_assoc, take-append-drop}
+use Rattle.std.proofs.lemmas.List.{append-nil, append_assoc, length-map, take-append-drop}
 use Rattle.std.specs.Prelude.{slice_get, take, drop, unwrap_or}
 use Rattle.av_base.specs.Words.{with_at}
 use Rattle.av_swapdev.specs.Device.{Attach, History, IsRenewed, after_attach, most_pages}
@@ -52,6 +52,19 @@ pub record Begun (names : List (List ℕ)) (count : ℕ) (old now : History) : T
 
 pub begun-none : (names : List (List ℕ)) (h : History) → Begun names 0 h h
 begun-none names h = record { attached = sym (append-nil h.attached); written = refl }
+
+-- the names that are lent
+abbrev pub names_in : List (Bor (List ℕ)) → List (List ℕ)
+names_in names = map (λ name. name.now) names
+
+pub named-at : (names : List (Bor (List ℕ))) (k : ℕ) (none : Bor (List ℕ)) → k < length names → slice_get (names_in names) k
+    ≡ Some (get_or names k none).now
+named-at [] k none less = absurd (let never : k < 0 = less in omega (arith, never))
+named-at (x ∷ xs) zero none less = refl
+named-at (x ∷ xs) (suc k) none less = named-at xs k none (omega (arith, less))
+
+pub named-below : (names : List (Bor (List ℕ))) (k : ℕ) → k < length names → suc k ≤ length (names_in names)
+named-below names k less = let many = length-map names (λ (name : Bor (List ℕ)). name.now) in omega (arith, many, less)
 
 -- the name at a place
 cut-at : (names : List (List ℕ)) (k : ℕ) (name : List ℕ) → slice_get names k ≡ Some name → names ≡ take k names ++ (name ∷ drop (suc k) names)

@@ -10,6 +10,6 @@ invariant-loop-area g l = record {
   many : length l.pages.items ≡ l.area;
   attaches : Attaches l.pages.items (seen_by g.D.SwapDev.sizes g.D.SwapDev.pages g.D.SwapDev.failures g.D.SwapDev.history l.fn.dev)
       (seen_by g.D.SwapDev.sizes g.D.SwapDev.pages g.D.SwapDev.failures g.D.SwapDev.history l.dev);
-  begun : Begun (map (λ name. name.now) l.names.now) l.area (g.D.SwapDev.history l.fn.dev) (g.D.SwapDev.history l.dev);
-  within : l.area ≤ length (map (λ name. name.now) l.names.now);
+  begun : Begun (map (λ name. name.now) l.names) l.area (g.D.SwapDev.history l.fn.dev) (g.D.SwapDev.history l.dev);
+  within : l.area ≤ length (map (λ name. name.now) l.names);
 }
