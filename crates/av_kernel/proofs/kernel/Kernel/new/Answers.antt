@@ -1,5 +1,5 @@
 use Rattle.std.proofs.Common.{◌≤◌, ℕ, List, arith, length, refl, subst, sym}
-use Rattle.av_swapdev.specs.Device.{most_areas}
+use Rattle.av_swapdev.specs.Device.{most_areas, no_history}
 use Rattle.av_kernel.specs.Tally.{IsAtMost, none_counted}
 use Rattle.av_kernel.proofs.kernel.Kernel.new.Goals as goal
 
@@ -20,7 +20,7 @@ pub invariant_of-result : goal.invariant_of-result
 invariant_of-result c = record {
   attached = subst (λ (sizes : List ℕ). length sizes ≤ most_areas) (sym c.in_ok-from_slice.ensures.items) c.requires;
   few = subst (IsAtMost _) (sym c.new-2.ensures) (few-none _);
-  steady = λ _. (0, _, c.in_ok-new.ensures.keeps _);
+  steady = λ _. ((0, no_history), _, c.in_ok-new.ensures.keeps _);
 }
 
 -- written, so that a wrong beginning is refused at once
