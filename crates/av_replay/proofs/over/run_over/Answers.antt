@@ -1,4 +1,5 @@
-use Rattle.std.proofs.Common.{Err, ap, refl}
+use Rattle.std.proofs.Common.{ℕ, Bor, List, Err, ap, refl, arith}
+use Rattle.std.proofs.lemmas.List.{length-map}
 use Rattle.av_plain.specs.Device.{seen_by}
 use Rattle.av_replay.proofs.Endings.{nothing_done}
 use Rattle.av_replay.proofs.over.run_over.Goals as goal
@@ -9,7 +10,7 @@ returns-in-Err-Memory-clause-replayed g c = λ other.
     let some = c.in-Err-Memory.ensures.wanting (ap Err c.in-Err-Memory.field-0-is) in
     record {
       pages = some.0;
-      few = some.1;
+      few = let many = length-map c.args.names.now (λ (name : Bor (List ℕ)). name.now) in omega (arith, many, some.1);
       all = λ not. absurd (not refl);
       attached = seen_by g.D.SwapDev.sizes g.D.SwapDev.pages g.D.SwapDev.failures g.D.SwapDev.history c.attach_all.new.dev;
       attaches = some.2;
