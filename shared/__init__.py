@@ -1,9 +1,10 @@
 """What the programs of tools, view, shell, bench and .ci share: where the repository is, how they
 say what is wrong (`saying`), and how far they are (`meter`).
 
-Each of these folders has a link to this one, so that a program finds it beside itself; and by it,
-the modules of the other folders. A program imports this first: where Python is too old for the
-others, it says so and ends. So this file, and the programs themselves, are of Python 3.6.
+Each of these folders has a module of this name, which stands for this package, so that a program
+finds it beside itself; and by it, the modules of the other folders. A program imports this first:
+where Python is too old for the others, it says so and ends. So this file, those modules and the
+programs themselves are of Python 3.6.
 """
 import os
 import sys
