@@ -1,4 +1,7 @@
 //! The kernel, one command at a time.
+//!
+//! A command fills a reply that the loop over the lines owns: one that is handed up is copied at
+//! each call that the compiler leaves apart, and its vectors are made anew for each line.
 
 ghost use Rattle.std.specs.Prelude.{◌≡◌, ◌⊎◌, ◌<◌, ◌≤◌, ◌^◌, IfOk, OnOk, OnErr, length, true, false};
 ghost use Rattle.av_base.specs.Limits.{most_commands};

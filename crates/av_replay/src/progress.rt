@@ -1,4 +1,5 @@
-//! Who is told how far a load is.
+//! Who is told how far a load is: a trait, since no other thread or clock is there to look from
+//! outside.
 
 /// Who is told how far a load is. No clause of a run speaks of it: its status, output, kernel and
 /// device are the same, whoever is told.

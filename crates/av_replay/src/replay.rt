@@ -1,4 +1,10 @@
 //! The loop over the lines.
+//!
+//! There are as many flushes as reads, and one more in the end but after a call that failed. A
+//! flush may fail, and no body knows before which read will: so nothing is kept back while any
+//! read is waited for. Where memory is wanting the last flush may fail beside that, and is told as
+//! want of memory: only a sink that doesn't tell what it holds can fail so, and then the two look
+//! alike.
 
 ghost use Rattle.std.specs.Prelude.{◌≡◌, []};
 ghost use Rattle.av_ports.specs.Ports.{AreFlushed, AreUnfailed, OnlySink, ReadsOn};

@@ -1,4 +1,8 @@
 //! The summary of a load.
+//!
+//! Its counts are the kernel's own. A program that invents them would have to invent the kernel
+//! that it hands back. Its last line is `Kernel::totals`: a `stat` by `step` would be one command
+//! more than the load has.
 
 ghost use Rattle.std.specs.Prelude.{◌≡◌, false, IfOk};
 ghost use Rattle.av_text.specs.Word.{Adds};

@@ -1,4 +1,7 @@
 //! One turn of the loop over the lines: a line is read and done, and its text written.
+//!
+//! Texts aren't gathered over several lines before they go to the sink: where a write fails, the
+//! line whose text failed is the last one done.
 
 ghost use Rattle.std.specs.Prelude.{◌≡◌, ◌<◌, ◌^◌, [], OnOk, IfErr};
 ghost use Rattle.av_base.specs.Limits.{most_commands};

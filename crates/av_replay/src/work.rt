@@ -1,4 +1,7 @@
 //! The lines of `work` as a source, and where its transcript goes.
+//!
+//! A load goes through the loop of `run`, over a source that makes each line when it is read, and
+//! a sink that takes all: so what is proved of the loop is said of a load, too.
 
 ghost use Rattle.std.specs.Prelude.{◌≡◌, ◌≤◌, ◌++◌, [], ◌∷◌, false, true, Some, None, length, map};
 ghost use Rattle.std.specs.Prelude.{take};

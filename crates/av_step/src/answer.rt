@@ -1,4 +1,7 @@
 //! What a command answers.
+//!
+//! A command is handed a reply without notes and rows, whatever its answer is, and must give its
+//! own: so one that forgets to is not proved.
 
 ghost use Rattle.std.specs.Prelude.{◌≡◌};
 

@@ -5,6 +5,10 @@
 //! ends and the failure that it prints, and at which lines of a load how many hundredths are due.
 //! The texts themselves are only tested, and that they reach standard output and standard error,
 //! and what real swap files hold.
+//!
+//! Texts are kept in a buffer that is handed on before each read of standard input and at the end.
+//! So whoever drives the program line by line sees each reply at once, and a long trace doesn't
+//! pay a system call a line.
 #![tactic(auto)]
 
 ghost use Rattle.std.specs.Prelude.{IfOk};
