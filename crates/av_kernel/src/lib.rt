@@ -9,9 +9,9 @@
 //! reached from the frame's home, or from the items of a merged frame. It is the same device after
 //! each command, with its sizes and, where it tells its pages, page 0 of each area; it is asked to
 //! write exactly what the notes tell, and no page 0 where memory is wanting; and what only its
-//! failures explain is within what it failed. A command that isn't handed the device leaves it as it
-//! was. `Kernel` counts the replies, and after want of memory does nothing more, to the
-//! device either. All of this is proved, for every command of the grammar.
+//! failures explain is within what it failed. A command that isn't handed the device leaves it as
+//! it was. `Kernel` counts the replies, and after want of memory does nothing more, to the device
+//! either. All of this is proved, for every command of the grammar.
 #![tactic(auto)]
 
 mod advice;

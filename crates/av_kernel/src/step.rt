@@ -86,8 +86,8 @@ fn dispatch<D: SwapDev>(
     requires attached { D.sizes dev.old ≡ sizes_of sizes.now }
     requires few { length sizes.now ≤ most_areas }
     requires cleared { IsCleared reply.old }
-    ensures does { let d = seen_by D.sizes D.pages D.failures D.history in Does (d dev.old) (d dev.new)
-        mem.old mem.new command.now (reply_in reply.new result) }
+    ensures does { let d = seen_by D.sizes D.pages D.failures D.history in
+        Does (d dev.old) (d dev.new) mem.old mem.new command.now (reply_in reply.new result) }
     ensures leaves_device { has_device command.now ≡ false → dev.new ≡ dev.old }
 {
     match command {

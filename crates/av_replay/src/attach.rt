@@ -26,7 +26,8 @@ pub fn attach_all<D: SwapDev>(
     ensures cause { IsErrOf result AttachErr.Failed →
         Rose (D.failures dev.old) (D.failures dev.new) }
     ensures fewer { IsErrOf result AttachErr.Failed →
-        AttachesFewer (map (λ name. name.now) names.now) (seen_by D.sizes D.pages D.failures D.history dev.old)
+        AttachesFewer (map (λ name. name.now) names.now)
+        (seen_by D.sizes D.pages D.failures D.history dev.old)
         (seen_by D.sizes D.pages D.failures D.history dev.new) }
     ensures wanting { IsErrOf result AttachErr.Memory → (pages : List ℕ)
         × (length pages ≤ length names.now)

@@ -76,14 +76,16 @@ pub fn run_over<S: Source, K: Sink, D: SwapDev>(
     requires few { length names.now ≤ most_areas }
     requires none { HasNone (D.sizes dev.old) }
     ensures replayed { let at = ports_by S.view K.view D.sizes D.pages D.failures D.history in
-        result.status ≢ Status.AttachFault → ReplaysOver frames (map (λ name. name.now) names.now) result.status
+        result.status ≢ Status.AttachFault
+        → ReplaysOver frames (map (λ name. name.now) names.now) result.status
         (at source.old sink.old dev.old) (at source.new sink.new dev.new) result.kernel }
     ensures begun { result.status ≢ Status.Usage }
     ensures fault { result.status ≡ Status.AttachFault →
         Rose (D.failures dev.old) (D.failures dev.new)
         × (source.new ≡ source.old) × (sink.new ≡ sink.old) }
     ensures fewer { result.status ≡ Status.AttachFault →
-        AttachesFewer (map (λ name. name.now) names.now) (seen_by D.sizes D.pages D.failures D.history dev.old)
+        AttachesFewer (map (λ name. name.now) names.now)
+        (seen_by D.sizes D.pages D.failures D.history dev.old)
         (seen_by D.sizes D.pages D.failures D.history dev.new) }
     ensures kernel { is_some result.kernel ≡ can_go_on result.status }
 {

@@ -84,7 +84,8 @@ pub fn run<S: Source, K: Sink, D: SwapDev, P: Progress>(
         × (source.new ≡ source.old) × (sink.new ≡ sink.old) }
     ensures fewer { result.status ≡ Status.AttachFault
         → AttachesFewerAsked (map string_bytes words.now)
-        (seen_by D.sizes D.pages D.failures D.history dev.old) (seen_by D.sizes D.pages D.failures D.history dev.new) }
+        (seen_by D.sizes D.pages D.failures D.history dev.old)
+        (seen_by D.sizes D.pages D.failures D.history dev.new) }
     // A kernel is handed back exactly where there is one to go on with.
     ensures kernel { is_some result.kernel ≡ can_go_on result.status }
 {

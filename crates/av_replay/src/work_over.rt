@@ -61,13 +61,15 @@ pub fn work_over<K: Sink, D: SwapDev, P: Progress>(
     requires none { HasNone (D.sizes dev.old) }
     ensures worked { let d = seen_by D.sizes D.pages D.failures D.history in
         result.status ≢ Status.AttachFault → WorksOver seed lines frames
-        (map (λ name. name.now) names.now) result.status (K.view sink.old) (K.view sink.new) (d dev.old) (d dev.new) result.kernel }
+        (map (λ name. name.now) names.now) result.status (K.view sink.old) (K.view sink.new)
+        (d dev.old) (d dev.new) result.kernel }
     ensures begun { result.status ≢ Status.Usage }
     ensures fault { result.status ≡ Status.AttachFault →
         Rose (D.failures dev.old) (D.failures dev.new)
         × (sink.new ≡ sink.old) }
     ensures fewer { result.status ≡ Status.AttachFault →
-        AttachesFewer (map (λ name. name.now) names.now) (seen_by D.sizes D.pages D.failures D.history dev.old)
+        AttachesFewer (map (λ name. name.now) names.now)
+        (seen_by D.sizes D.pages D.failures D.history dev.old)
         (seen_by D.sizes D.pages D.failures D.history dev.new) }
     ensures kernel { is_some result.kernel ≡ can_go_on result.status }
 {
