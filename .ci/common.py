@@ -147,6 +147,13 @@ def bytes_of(shown: str) -> bytes:
     return re.sub(rb"\\x([0-9a-f]{2})", lambda it: bytes([int(it[1], 16)]), shown)
 
 
+def built(_folder: str, names: list[str]) -> set[str]:
+    """What a copy of crates leaves out of a folder: what was built, if it is a crate's own. (A
+    folder of proofs may be named `out`, too.)
+    """
+    return {"out"} if "src" in names else set()
+
+
 def edit_of(file: str) -> tuple[list[Change], dict[str, list[str]]]:
     """What an edit says: its changes, each with its file, the old text and the new one; and what
     its other lines say, by their first word. Lines of one kind in a row are lines of one text.
