@@ -23,12 +23,6 @@ pub record MayTurnNow (f : ℕ) (l : Ledger) : Type 0 where
   pub landed : l.flight ≡ []
   pub send : MaySend f l
 
--- nothing is in flight, and an entry names the slot, which is cached
-pub record MayWrite (s : Slot) (l : Ledger) : Type 0 where
-  pub landed : l.flight ≡ []
-  pub cached : is_cached l s ≡ true
-  pub named : 0 < slot_entries l s
-
 -- no write is in flight, and the frame is cached at the slot, which its entries name
 pub record IsSentTo (f : ℕ) (s : Slot) (l : Ledger) : Type 0 where
   pub landed : l.flight ≡ []

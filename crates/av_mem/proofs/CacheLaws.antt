@@ -19,12 +19,10 @@ use Rattle.av_mem.specs.Mem.{view}
 use Rattle.av_mem.specs.declared.mem.Mem.{Mem}
 use Rattle.av_mem.proofs.StepLaws.{SameRest, lists-without, view-by}
 
-pub start-view : (old new : Mem) (s : Slot) → SameRest old new → new.lists ≡ old.lists
+pub start-view : (old new : Mem) (f : ℕ) (s : Slot) → SameRest old new → new.lists ≡ old.lists
     → shown_swap new.swap ≡ record (shown_swap old.swap) { flight = (shown_swap old.swap).flight ++ s ∷ [] }
-    → (o : Option ℕ) → IfSome o (λ f. shown_frames new.frames ≡ with_dirty f false (shown_frames old.frames))
-    → IfSome o (λ f. view new ≡ view_start f s (view old))
-start-view old new s same lists swap None frames = tt
-start-view old new s same lists swap (Some f) frames = view-by old new (with_dirty f false (shown_frames old.frames)) old.lists
+    → shown_frames new.frames ≡ with_dirty f false (shown_frames old.frames) → view new ≡ view_start f s (view old)
+start-view old new f s same lists swap frames = view-by old new (with_dirty f false (shown_frames old.frames)) old.lists
     (record (shown_swap old.swap) { flight = (shown_swap old.swap).flight ++ s ∷ [] }) same frames lists swap
 
 pub put-view : (old new : Mem) (f : ℕ) → SameRest old new → new.lists ≡ old.lists → (o : Option Slot) → MatchOption o
