@@ -35,21 +35,11 @@ above n h = grind (arith, nat_tests, h)
 none : (n : ℕ) → nat_lt 0 n ≡ false → n ≡ 0
 none n h = grind (arith, nat_tests, h)
 
-pub pair-cached : (l : Ledger) (s : Slot) (f : ℕ) → 0 < pairs l s f → is_cached l s ≡ true
-pair-cached l s f h = any-counts (λ (c : Cached). same_slot s c.slot) l.cache
-    ∙ above (slots l s) (let p = pair-slot s f l.cache in omega (arith, p, h))
-  where
-    above : (n : ℕ) → 0 < n → nat_lt 0 n ≡ true
-    above n h = grind (arith, nat_tests, h)
-
 pub still-landed : (l : Ledger) (s : Slot) → flights l s ≡ 0 → in_flight l s ≡ false
 still-landed l s h = any-counts (same_slot s) l.flight ∙ none (flights l s) h
   where
     none : (n : ℕ) → n ≡ 0 → nat_lt 0 n ≡ false
     none n h = grind (arith, nat_tests, h)
-
-pub cached-slots : (l : Ledger) (s : Slot) → is_cached l s ≡ true → 0 < slots l s
-cached-slots l s h = above (slots l s) (sym (any-counts (λ (c : Cached). same_slot s c.slot) l.cache) ∙ h)
 
 pub landed-flights : (l : Ledger) (s : Slot) → in_flight l s ≡ false → flights l s ≡ 0
 landed-flights l s h = none (flights l s) (sym (any-counts (same_slot s) l.flight) ∙ h)
