@@ -1,13 +1,13 @@
 -- What single steps keep, and what they are with their notes.
-use Rattle.std.proofs.Common.{slice_get, Bool, List, None, Option, Some, [], ap, arith, cond, false, is_none, is_some, nat_lt, not, option_map, refl, subst, sym, true, ℕ, ◌&&◌, ◌++◌, ◌+◌, ◌<◌, ◌==◌, ◌||◌, ◌∙◌, ◌∷◌, ◌≡◌}
+use Rattle.std.proofs.Common.{slice_get, Bool, List, None, Option, Some, [], ap, arith, cond, false, is_none, nat_lt, not, option_map, refl, subst, sym, true, ℕ, ◌&&◌, ◌++◌, ◌+◌, ◌<◌, ◌==◌, ◌||◌, ◌∙◌, ◌∷◌, ◌≡◌}
 use Rattle.std.proofs.lemmas.Bool.Decides.{nat_tests}
 use Rattle.av_base.specs.declared.slot.Slot.{Slot}
 use Rattle.av_trace.specs.declared.note.Note.{Note}
 use Rattle.av_trace.specs.declared.note.Note.TheVariants.{Aged, Dropped, Kept, Put, Started, Unmapped}
 use Rattle.av_plain.specs.Event.{after_note, after_notes, change_entries, if_some, when, without_seen}
-use Rattle.av_plain.specs.Ledger.{Cached, InSlot, Ledger, Setting, SwapArea, frame_at, free_slots, has_free_slot, in_flight, is_cached, is_free_slot, is_merged, is_open, is_orphan, is_stale, is_unmapped, map_count, may_give, no_slot, same_slot, slot_entries, slot_of}
+use Rattle.av_plain.specs.Ledger.{Cached, InSlot, Ledger, Setting, SwapArea, frame_at, free_slots, has_free_slot, in_flight, is_free_slot, is_merged, is_open, is_orphan, is_stale, is_unmapped, map_count, may_give, no_slot, same_slot, slot_entries, slot_of}
 use Rattle.av_plain.specs.Pass.{end_note, end_notes}
-use Rattle.av_plain.specs.Sound.{IsSound, IsSoundBut, flights, holders, mergings, no_excuse, pairs, slots, uses}
+use Rattle.av_plain.specs.Sound.{IsSound, IsSoundBut, flights, holders, mergings, no_excuse, pairs, uses}
 use Rattle.av_plain.proofs.Sound.Changes.{any-counts, drop-sound}
 use Rattle.av_plain.proofs.Sound.Counts.{frame_at-none, frame_at-some, pair-frame, pair-slot, same-is, same-itself, same-turned, slot-is, slot-turned, slot_of-none, slot_of-some, two_frames, two_slots}
 use Rattle.av_plain.proofs.Sound.Flight.{orphan-landed, started-kept}

@@ -1,13 +1,13 @@
 -- Single steps: when one may be taken, the note that tells it, and what each does with its note.
 use Rattle.std.specs.Prelude.{◌≡◌, ℕ, ◌<◌, true, false, ◌==◌, not, List, [], ◌∷◌, slice_get, Option}
-use Rattle.std.specs.Prelude.{Some, None, is_none, is_some, Bool}
+use Rattle.std.specs.Prelude.{Some, None, is_none, Bool}
 use Rattle.av_base.specs.declared.slot.Slot.{Slot}
 use Rattle.av_trace.specs.declared.note.Cause.TheVariants.{Referenced}
 use Rattle.av_trace.specs.declared.note.Note.{Note}
 use Rattle.av_trace.specs.declared.note.Note.TheVariants.{Kept, Put, Unmapped}
 use Rattle.av_plain.specs.Event.{when}
-use Rattle.av_plain.specs.Ledger.{Ledger, Setting, frame_at, in_flight, is_cached, is_merged}
-use Rattle.av_plain.specs.Ledger.{is_stale, is_unmapped, map_count, slot_entries, slot_of}
+use Rattle.av_plain.specs.Ledger.{Ledger, Setting, in_flight, is_merged}
+use Rattle.av_plain.specs.Ledger.{is_stale, map_count, slot_entries, slot_of}
 use Rattle.av_plain.specs.Pass.{IsSlotFor, Spared, end_note, end_notes, is_stuck, unmap_notes}
 use Rattle.av_plain.specs.Reclaim.{is_referenced}
 use Rattle.av_plain.specs.Sound.{uses}
@@ -25,7 +25,7 @@ pub record MayPut (f : ℕ) (l : Ledger) : Type 0 where
   pub mapped : 0 < map_count l f
   pub unmerged : is_merged l f ≡ false
 
--- an entry names the frame, and it is cached there
+-- an entry names the frame, which is cached at the slot
 pub record MayUnmap (f : ℕ) (s : Slot) (l : Ledger) : Type 0 where
   pub cached : IsCachedAt f s l
   pub mapped : 0 < map_count l f

@@ -5,7 +5,7 @@ use Rattle.av_base.specs.declared.slot.Slot.{Slot}
 use Rattle.av_trace.specs.declared.note.Note.{Note}
 use Rattle.av_trace.specs.declared.note.Note.TheVariants.{Dropped, Started}
 use Rattle.av_plain.specs.Event.{after_notes}
-use Rattle.av_plain.specs.Ledger.{Ledger, Setting, is_cached, is_stale, map_count}
+use Rattle.av_plain.specs.Ledger.{Ledger, Setting, is_stale, map_count}
 use Rattle.av_plain.specs.Ledger.{slot_entries, slot_of}
 use Rattle.av_plain.specs.Pass.{IsSlotFor, Spared, end_note, has_turn, is_dirty, is_stuck}
 use Rattle.av_plain.specs.Pass.{stays_cached, turn_notes}

@@ -8,7 +8,7 @@ ghost use Rattle.av_trace.specs.declared.note.Note.TheVariants.{Aged, Dropped, K
 ghost use Rattle.av_trace.specs.declared.note.Note.TheVariants.{Unmapped};
 ghost use Rattle.av_plain.specs.Areas.{Rmap};
 ghost use Rattle.av_plain.specs.Fault.{is_locked};
-ghost use Rattle.av_plain.specs.Ledger.{Ledger, has_free, in_flight, is_free, is_merged, is_orphan};
+ghost use Rattle.av_plain.specs.Ledger.{has_free, in_flight, is_free, is_merged, is_orphan};
 ghost use Rattle.av_plain.specs.Ledger.{is_stale, map_count, may_give, no_slot, slot_of};
 ghost use Rattle.av_plain.specs.Reclaim.{is_referenced};
 ghost use Rattle.av_plain.specs.World.{World};

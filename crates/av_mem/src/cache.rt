@@ -1,12 +1,12 @@
 //! Steps of the swap cache, with frames, lists and the device.
 
-ghost use Rattle.std.specs.Prelude.{◌≡◌, ◌+◌, ◌-◌, ◌<◌, ◌≤◌, ◌^◌, [], ℕ, None, true, false};
-ghost use Rattle.std.specs.Prelude.{IfSome, IsSome};
+ghost use Rattle.std.specs.Prelude.{◌≡◌, ◌-◌, ◌<◌, ◌≤◌, ◌^◌, [], ℕ, None, true, false};
+ghost use Rattle.std.specs.Prelude.{IsSome};
 ghost use Rattle.std.specs.Option.{ForSome};
 ghost use Rattle.av_base.specs.Words.{is_in};
 ghost use Rattle.av_pagetable.specs.Entries.{entry_at};
 ghost use Rattle.av_swap_laws.specs.Steps.{view_drop, view_map, view_start};
-ghost use Rattle.av_swapcache.specs.Swap.{HasAreas, IsUncached, is_cached, is_flying};
+ghost use Rattle.av_swapcache.specs.Swap.{HasAreas, IsUncached, is_flying};
 ghost use Rattle.av_swapcache.specs.Swap.{shown as shown_swap};
 ghost use Rattle.av_spaces.specs.Kin.{info_of};
 ghost use Rattle.av_mem.specs.Cache.{Ends, Loads, Puts, home_by};

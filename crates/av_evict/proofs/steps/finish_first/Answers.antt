@@ -25,8 +25,7 @@ is_orphan-requires g c =
     let s = c.in-Some.end.slot in
     let failed = c.in-Some.end.failed in
     let l = c.requires.0 in
-    let ends = c.in-Some.ensures.ends false l (loose _ _ l c.requires.1) c.requires.2 tt in
-    (
+    let ends = c.in-Some.ensures.ends false l (loose _ _ l c.requires.1) c.requires.2 tt in (
       after_note (end_note failed s) l,
       ended-loose _ _ l s failed c.requires.1 ends,
       ends.stands,
