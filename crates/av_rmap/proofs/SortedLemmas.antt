@@ -6,7 +6,7 @@ use Rattle.std.proofs.lemmas.List.Sums.{sum_by-cons}
 use Rattle.std.proofs.lemmas.List.Sorted.{sum_by-IsPermutation}
 use Rattle.std.specs.List.{list_any, sum_by, AllByRecursion}
 use Rattle.std.specs.List.Sorted.{IsPermutation, IsSortedBy}
-use Rattle.std.specs.Ordering.{is_lt, nat_cmp, ordering_then}
+use Rattle.std.specs.Ordering.{is_lt}
 use Rattle.av_arena.proofs.Order.{AllByRecursion-map}
 use Rattle.av_base.proofs.Keys.{same_key-is, same_key-itself}
 use Rattle.av_base.specs.Keys.{Key, key_cmp, same_key}
