@@ -21,7 +21,7 @@ use Rattle.av_plain.proofs.Sound.Cache.{active-kept, head-kept, put-kept, unmapp
 use Rattle.av_trace.specs.declared.note.Cause.{Cause}
 use Rattle.av_trace.specs.declared.note.Cause.TheVariants.{Ksm, Locked, NoSlot, Referenced, WriteStarted, Writeback}
 use Rattle.av_evict.specs.Steps.{EndsFirst, GetsSlot, IsCachedAt, IsFirst, IsSent, IsUnmapped, IsUsed, MayDrop, MayPut, MaySend, MayStart, MayUnmap}
-use Rattle.av_evict.specs.System.{Does, Goes, SystemView, any_slot}
+use Rattle.av_evict.specs.System.{HasHappened, Goes, SystemView, any_slot}
 use Rattle.av_evict.specs.declared.system.WriteEnd.{WriteEnd}
 use Rattle.av_evict.proofs.SystemLaws.{loose}
 use Rattle.av_plain.proofs.Event.{map_count-unseen}
@@ -255,7 +255,7 @@ first-some s (t ∷ fs) h = (fs, ap (λ x. x ∷ fs) (some_is t s (sym h)))
     some_is t s h = cc
 
 -- within a step the ledger is sound enough
-pub ended-loose : (a b : SystemView) (l : Ledger) (s : Slot) (failed : Bool) → IsSound a.setting l → Does a b l (end_note failed s ∷ []) →
+pub ended-loose : (a b : SystemView) (l : Ledger) (s : Slot) (failed : Bool) → IsSound a.setting l → HasHappened a b l (end_note failed s ∷ []) →
     IsSoundBut b.setting any_slot (after_note (end_note failed s) l)
 ended-loose a b l s failed sound d = subst (λ m. IsSoundBut m any_slot (after_note (end_note failed s) l)) (sym d.stays.setting)
     (loose a.setting _ _ (ended a.setting l failed s sound))
@@ -268,15 +268,15 @@ ended-cached m l f s failed sound at = pair-slot_of m _ s f (ended m l failed s 
 
 -- and so it goes, whether the slot is an orphan then or not
 pub ends-first : (a b : SystemView) (before now : List Note) (l : Ledger) (end : WriteEnd) (ns : List Note) → IsSound a.setting l →
-    IsFirst (Some end) l → now ≡ before ++ ns → ns ≡ end_notes l end.slot end.failed → Does a b l ns →
+    IsFirst (Some end) l → now ≡ before ++ ns → ns ≡ end_notes l end.slot end.failed → HasHappened a b l ns →
     (gained : List Note) × (now ≡ before ++ gained) × EndsFirst (Some end) l gained × Goes a b l gained
-ends-first a b before now l end ns sound first whole is does = (
+ends-first a b before now l end ns sound first whole is happened = (
   ns,
   whole,
   (first, is),
   record {
     sound = subst (λ x. IsSound a.setting (after_notes l x)) (sym is) (end_notes-kept a.setting l end.slot end.failed sound).sound;
-    does = does;
+    happened = happened;
   },
 )
 

@@ -12,7 +12,7 @@
 
 mod flight;
 mod inactive;
-mod out;
+mod shortage;
 mod pass;
 mod standing;
 mod steps;

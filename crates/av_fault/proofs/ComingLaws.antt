@@ -49,13 +49,13 @@ use Rattle.av_mem.specs.declared.mem.Mem.{Mem}
 use Rattle.av_mem.specs.Cache.{HasLoaded, home_by}
 use Rattle.av_mem.specs.Mem.{HasLists, HasRoom, frame_count, held_by, plain, setting_by, view}
 use Rattle.av_mem.specs.Steps.{KeepsParts}
-use Rattle.av_mem.specs.Between.{Does, HasDone, IsBetween, KeepsBetween}
+use Rattle.av_mem.specs.Between.{WhateverStood, HasDone, IsBetween, KeepsBetween}
 use Rattle.av_mem.proofs.ComingBack.{back-at, back-few, back-found, back-in_range, back-loaded, back-mapped, back-named, back-uncached, back-used, first-taken, seen-loaded, seen-mapped, view_loaded}
 use Rattle.av_mem.proofs.HomeLaws.{away-is, entry-away, home-there}
 use Rattle.av_fault.specs.Coming.{Comes, Fetches, HasCome}
 use Rattle.av_fault.specs.Seek.{HasSought}
 use Rattle.av_fault.specs.declared.fault.Stop.{Stop}
-use Rattle.av_fault.specs.declared.fault.Stop.TheVariants.{Bus, Oom}
+use Rattle.av_fault.specs.declared.fault.Stop.TheVariants.{Lost, Starved}
 use Rattle.av_fault.specs.declared.seek.Got.{Got}
 use Rattle.av_fault.specs.declared.seek.Got.TheVariants.{Frame, Out}
 use Rattle.av_fault.proofs.Amid.{Amid}
@@ -83,7 +83,7 @@ come-cached d k w r l s f notes h cached = record {
 -- none is free
 pub come-out : (d d1 : Device) (old mid : Mem) (w : World) (r : Rmap) (l : Ledger) (s : Slot) (out : OutOf) (before now : List Note)
     → KeepsBetween d old w r l → (view old).find s ≡ None → HasSought d d1 old mid w r l None before now (Out out)
-    → HasCome (λ m w l added came. Fetches m w l s added came) d d1 old mid w r l before now (Err (Oom out))
+    → HasCome (λ m w l added came. Fetches m w l s added came) d d1 old mid w r l before now (Err (Starved out))
 come-out d d1 old mid w r l s out before now h absent sought = record {
   added = sought.added;
   noted = sought.noted;
@@ -197,7 +197,7 @@ module _ (d d1 : Device) (old mid : Mem) (w : World) (r : Rmap) (l : Ledger) (q 
         (subst (λ (v : View). ChoosesAll m None l sought_events (free_of (view old)) (free_of v)) (sym seen) sought.done.free)
 
     pub come-lost : Rose d1.failures d2.failures
-        → HasCome (λ m w l added came. Fetches m w l s added came) d d2 old new w r l before now (Err Bus)
+        → HasCome (λ m w l added came. Fetches m w l s added came) d d2 old new w r l before now (Err Lost)
     come-lost rose = record {
       added = sought.added;
       noted = record { notes = sought.noted.notes; failures = let before = sought.noted.failures in omega (arith, before, rose); failed = omega arith };
@@ -298,7 +298,7 @@ pub record IsToLoad (sizes : ℕ → Option ℕ) (mid : Mem) (s : Slot) (home : 
 pub to-load : (d d1 : Device) (old mid : Mem) (q : Key) (s : Slot) (home : Option (ℕ × ℕ)) (before now : List Note) (found : Got)
     → IsBetween d.sizes old
     → entry_at old.tables q.0 q.1 ≡ Away s → home ≡ home_of q.1 (pages_of old.spaces.processes q.0 q.1) → (view old).find s ≡ None
-    → Does d d1 old (λ d d' w r l. HasSought d d' old mid w r l None before now found) → found ≡ Frame → IsToLoad d1.sizes mid s home
+    → WhateverStood d d1 old (λ d d' w r l. HasSought d d' old mid w r l None before now found) → found ≡ Frame → IsToLoad d1.sizes mid s home
 to-load d d1 old mid q s home before now found between there is absent does frame =
     let b = between-some d.sizes old (d.failures, d.history) between in
     let d0 = as_told false d in
@@ -469,7 +469,7 @@ pub record IsToMap (mid : Mem) (q : Key) (s : Slot) (f : ℕ) : Type 0 where
 
 pub to-map : (d d1 : Device) (old mid : Mem) (q : Key) (s : Slot) (before now : List Note) (f : ℕ) (end : Result ℕ Stop) → IsBetween d.sizes old
     → entry_at old.tables q.0 q.1 ≡ Away s
-    → Does d d1 old (λ d d' w r l. HasCome (λ m w l added came. Fetches m w l s added came) d d' old mid w r l before now end) → end ≡ Ok f
+    → WhateverStood d d1 old (λ d d' w r l. HasCome (λ m w l added came. Fetches m w l s added came) d d' old mid w r l before now end) → end ≡ Ok f
     → IsToMap mid q s f
 to-map d d1 old mid q s before now f end between there does is =
     let b = between-some d.sizes old (d.failures, d.history) between in

@@ -27,7 +27,7 @@ use Rattle.av_mem.specs.Mem.{setting_by, view}
 use Rattle.av_mem.specs.Between.{HasDone, KeepsBetween}
 use Rattle.av_fault.specs.Making.{HasMade}
 use Rattle.av_fault.specs.Seek.{HasSought}
-use Rattle.av_fault.specs.declared.fault.Stop.TheVariants.{Oom}
+use Rattle.av_fault.specs.declared.fault.Stop.TheVariants.{Starved}
 use Rattle.av_fault.specs.declared.fault.Touched.TheVariants.{Ready, Stopped}
 use Rattle.av_fault.specs.declared.seek.Got.TheVariants.{Frame, Out}
 use Rattle.av_fault.proofs.Done.{done-then, noted-more}
@@ -121,7 +121,7 @@ module _ (d d' : Device) (old mid new : Mem) (w : World) (r : Rmap) (l : Ledger)
 module _ (d d' : Device) (old mid : Mem) (w : World) (r : Rmap) (l : Ledger) (pinned : Option ℕ) (before now : List Note) (k : Key) (came : Bool)
     (out : OutOf) (s : HasSought d d' old mid w r l pinned before now (Out out)) where
   pub out-made : (n : Need) → need true l (entry l k) ≡ n → wants_frame n ≡ true → pinned_by n ≡ pinned
-      → HasMade d d' old mid w r l true came k before now (Stopped (Oom out))
+      → HasMade d d' old mid w r l true came k before now (Stopped (Starved out))
   out-made n is wants pins =
       let m = setting_by d old in
       record {

@@ -32,10 +32,10 @@ use Rattle.av_mem.specs.declared.mem.Mem.{Mem}
 use Rattle.av_mem.specs.Mem.{Keeps, Serves, frame_count, held_by, plain, ranges_of, setting_by, view}
 use Rattle.av_mem.proofs.LetGoLaws.{rest-none}
 use Rattle.av_mem.proofs.MemLaws.{prot_on, prots_are}
-use Rattle.av_mem.specs.Between.{Does, HasDone, KeepsBetween}
+use Rattle.av_mem.specs.Between.{WhateverStood, HasDone, KeepsBetween}
 use Rattle.av_fault.specs.Fault.{HasTouched, IsTouched, MakesReady, end_of, is_permitted, touch_events}
 use Rattle.av_fault.specs.Making.{HasMade, IsMadeBy, Makes}
-use Rattle.av_fault.specs.declared.fault.Stop.TheVariants.{Bus, Oom, Segv}
+use Rattle.av_fault.specs.declared.fault.Stop.TheVariants.{Denied, Lost, Starved}
 use Rattle.av_fault.specs.declared.fault.Touched.{Touched}
 use Rattle.av_fault.specs.declared.fault.Touched.TheVariants.{Ready, Stopped, Zeros}
 use Rattle.av_fault.proofs.Between.{between-of, fit-stays, to-amid, to-fit}
@@ -114,9 +114,9 @@ module _ (m : Setting) (w : World) (l : Ledger) (write : Bool) (k : Key) where
       by : (touched : Touched) → Makes m w l write false k added touched → Touches m w l write k added (end_of touched)
       by (Ready f) made = (allowed, serves made)
       by Zeros made = (allowed, serves made)
-      by (Stopped Segv) made = absurd made
-      by (Stopped Bus) made = absurd made
-      by (Stopped (Oom out)) finds = (allowed, record { coming = []; sought = added; whole = refl; before = inl refl; finds = finds })
+      by (Stopped Denied) made = absurd made
+      by (Stopped Lost) made = absurd made
+      by (Stopped (Starved out)) finds = (allowed, record { coming = []; sought = added; whole = refl; before = inl refl; finds = finds })
 
 pub made-touched : (d d' : Device) (old new : Mem) (w : World) (r : Rmap) (l : Ledger) (write : Bool) (k : Key) (before now : List Note)
     (touched : Touched)
@@ -133,8 +133,8 @@ made-touched d d' old new w r l write k before now touched slotless allowed made
 -- so it is of a page whose entry is this one, if memory was not wanting
 pub made-does : (d d' : Device) (old new : Mem) (write : Bool) (k : Key) (before now : List Note) (result : Result Touched AllocError) (e : Pte)
     → entry_at old.tables k.0 k.1 ≡ e → IsNoSlot (entry_of (plain e)) → is_permitted write (prot_of (ranges_of old.spaces.processes k.0) k.1) ≡ true
-    → IfOk result (λ touched. Does d d' old (λ d d' w r l. HasMade d d' old new w r l write false k before now touched))
-    → IfOk result (λ touched. Does d d' old (λ d d' w r l. HasTouched d d' old new w r l write k before now touched))
+    → IfOk result (λ touched. WhateverStood d d' old (λ d d' w r l. HasMade d d' old new w r l write false k before now touched))
+    → IfOk result (λ touched. WhateverStood d d' old (λ d d' w r l. HasTouched d d' old new w r l write k before now touched))
 made-does d d' old new write k before now result e there slotless permitted = IfOk-weaker result _ _ (λ touched made told w r l h.
     let d0 = as_told told d in
     let at : entry l k ≡ entry_of (plain e) = entry-is d0 old w r l h k e there in
@@ -223,7 +223,7 @@ module _ (d d' : Device) (s : State) (old new : Mem) (write : Bool) (k : Key) (b
 
 -- it was touched, or memory was wanting
 pub is-ready : (told : Bool) (d d' : Device) (old new : Mem) (write : Bool) (k : Key) (before now : List Note) (result : Result Touched AllocError)
-    → IfOk result (λ touched. Does d d' old (λ d d' w r l. HasTouched d d' old new w r l write k before now touched))
+    → IfOk result (λ touched. WhateverStood d d' old (λ d d' w r l. HasTouched d d' old new w r l write k before now touched))
     → IsSameDevice d d' → frame_count new ≡ frame_count old → MakesReady (as_told told d) (as_told told d') old new write k before now result
 is-ready told d d' old new write k before now result done same count = record {
   step = λ s keeps. by result done s keeps;
@@ -232,7 +232,7 @@ is-ready told d d' old new write k before now result done same count = record {
 }
   where
     by : (result : Result Touched AllocError)
-        → IfOk result (λ touched. Does d d' old (λ d d' w r l. HasTouched d d' old new w r l write k before now touched))
+        → IfOk result (λ touched. WhateverStood d d' old (λ d d' w r l. HasTouched d d' old new w r l write k before now touched))
         → (s : State) → Keeps (as_told told d) old s → IfOk result (IsTouched (as_told told d) (as_told told d') s new write k before now)
     by (Ok touched) done s keeps = is-touched (as_told told d) (as_told told d') s old new write k before now keeps touched
         (done told s.world (rmap_of s) s.ledger (between-of (as_told told d) old s keeps))

@@ -18,7 +18,7 @@ use Rattle.av_reclaim.specs.Commands.{HasNoted}
 use Rattle.av_fault.specs.Fault.{failed_by, lost_by}
 use Rattle.av_fault.specs.Seek.{Finds}
 use Rattle.av_fault.specs.declared.fault.Stop.{Stop}
-use Rattle.av_fault.specs.declared.fault.Stop.TheVariants.{Bus, Oom, Segv}
+use Rattle.av_fault.specs.declared.fault.Stop.TheVariants.{Denied, Lost, Starved}
 use Rattle.av_fault.specs.declared.fault.Touched.TheVariants.{Stopped}
 use Rattle.av_fault.specs.declared.seek.Got.TheVariants.{Frame, Out}
 
@@ -26,13 +26,13 @@ use Rattle.av_fault.specs.declared.seek.Got.TheVariants.{Frame, Out}
 
 -- the slot's page can't be had: no frame is free for it, or one is, and the device did not give it
 abbrev pub Misses : Setting → World → Ledger → Slot → List Note → Stop → Type 0
-Misses m w l s added Bus =
+Misses m w l s added Lost =
     (frame_at l s ≡ None) × Seeks m (sparing w l None) l added
     × Finds m (sparing w l None) (after_notes l added) Frame
-Misses m w l s added (Oom out) =
+Misses m w l s added (Starved out) =
     (frame_at l s ≡ None) × Seeks m (sparing w l None) l added
     × Finds m (sparing w l None) (after_notes l added) (Out out)
-Misses m w l s added Segv = ⊥
+Misses m w l s added Denied = ⊥
 
 -- the slot's page is in a frame with these notes
 abbrev pub Fetches : Setting → World → Ledger → Slot → List Note → Result ℕ Stop → Type 0

@@ -7,7 +7,7 @@ use Rattle.av_plain.specs.Ledger.{Ledger, Zero, InFrame, entry}
 use Rattle.av_plain.specs.Device.{Device, IsSameDevice, Wrote}
 use Rattle.av_plain.specs.Event.{Event, after_all, notes_of}
 use Rattle.av_plain.specs.Fault as served
-use Rattle.av_plain.specs.Fault.{Touches, Denied, Lost, Starved, asks_copy}
+use Rattle.av_plain.specs.Fault.{Touches, asks_copy}
 use Rattle.av_plain.specs.Access.{page_events}
 use Rattle.av_plain.specs.Choice.{ChoosesAll}
 use Rattle.av_plain.specs.Areas.{Rmap, rmap_after_all}
@@ -24,7 +24,7 @@ use Rattle.av_mem.specs.declared.mem.Mem.{Mem}
 use Rattle.av_mem.specs.Mem.{frame_count, setting_by, view, Keeps, Serves}
 use Rattle.av_reclaim.specs.Commands.{HasNoted}
 use Rattle.av_fault.specs.declared.fault.Stop.{Stop}
-use Rattle.av_fault.specs.declared.fault.Stop.TheVariants.{Bus, Oom, Segv}
+use Rattle.av_fault.specs.declared.fault.Stop.TheVariants.{Denied, Lost, Starved}
 use Rattle.av_fault.specs.declared.fault.Touched.{Touched}
 use Rattle.av_fault.specs.declared.fault.Touched.TheVariants.{Ready, Zeros, Stopped}
 
@@ -32,9 +32,9 @@ use Rattle.av_fault.specs.declared.fault.Touched.TheVariants.{Ready, Zeros, Stop
 
 -- why a page is not served, in the definitions' words
 abbrev pub stop_of : Stop → served.Stop
-stop_of Segv = Denied
-stop_of Bus = Lost
-stop_of (Oom out) = Starved out
+stop_of Denied = served.Denied
+stop_of Lost = served.Lost
+stop_of (Starved out) = served.Starved out
 
 abbrev pub end_of : Touched → Option served.Stop
 end_of (Ready f) = None
@@ -45,17 +45,17 @@ end_of (Stopped stop) = Some (stop_of stop)
 abbrev pub lost_by : Touched → ℕ
 lost_by (Ready f) = 0
 lost_by Zeros = 0
-lost_by (Stopped Segv) = 0
-lost_by (Stopped Bus) = 1
-lost_by (Stopped (Oom out)) = 0
+lost_by (Stopped Denied) = 0
+lost_by (Stopped Lost) = 1
+lost_by (Stopped (Starved out)) = 0
 
 -- how many frames an out-of-memory calls cached
 abbrev pub failed_by : Touched → ℕ
 failed_by (Ready f) = 0
 failed_by Zeros = 0
-failed_by (Stopped Segv) = 0
-failed_by (Stopped Bus) = 0
-failed_by (Stopped (Oom out)) = out.fault
+failed_by (Stopped Denied) = 0
+failed_by (Stopped Lost) = 0
+failed_by (Stopped (Starved out)) = out.fault
 
 -- the events of these notes, and of the page's use where it is served
 abbrev pub touch_events : Bool → Key → List Note → Touched → List Event

@@ -18,7 +18,7 @@ use Rattle.av_mem.specs.Mem.{setting_by}
 use Rattle.av_mem.specs.Between.{HasDone}
 use Rattle.av_reclaim.specs.Commands.{HasNoted}
 use Rattle.av_fault.specs.Fault.{IsReady, failed_by, lost_by, touch_events}
-use Rattle.av_fault.specs.declared.fault.Stop.TheVariants.{Bus, Oom, Segv}
+use Rattle.av_fault.specs.declared.fault.Stop.TheVariants.{Denied, Lost, Starved}
 use Rattle.av_fault.specs.declared.fault.Touched.{Touched}
 use Rattle.av_fault.specs.declared.fault.Touched.TheVariants.{Ready, Zeros, Stopped}
 
@@ -43,9 +43,9 @@ pub record IsMadeBy (m : Setting) (w : World) (l : Ledger) (write came : Bool) (
 abbrev pub Makes : Setting → World → Ledger → Bool → Bool → Key → List Note → Touched → Type 0
 Makes m w l write came k added (Ready f) = IsMadeBy m w l write came k added
 Makes m w l write came k added Zeros = IsMadeBy m w l write came k added
-Makes m w l write came k added (Stopped Segv) = ⊥
-Makes m w l write came k added (Stopped Bus) = ⊥
-Makes m w l write came k added (Stopped (Oom out)) =
+Makes m w l write came k added (Stopped Denied) = ⊥
+Makes m w l write came k added (Stopped Lost) = ⊥
+Makes m w l write came k added (Stopped (Starved out)) =
     FindsNone m (sparing w) l (need write l (entry l k)) added out
 
 -- these notes were added at a page whose entry is no slot, or no more if it came in, and this is

@@ -76,7 +76,7 @@ pub fn take_frame_for_copy(
 }
 
 /// A frame that no entry names is free, unless it is cached.
-fn settle(mem: &mut Mem, frame: u32)
+pub fn settle(mem: &mut Mem, frame: u32)
     requires listed { HasLists mem.old }
     requires itemed { HasItems mem.old }
     requires in_range { frame < frame_count mem.old }

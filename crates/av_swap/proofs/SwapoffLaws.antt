@@ -128,7 +128,7 @@ module _ (area : ℕ) where
   turned-does : (d d' : Device) (old new : Mem) (before now : List Note) (end : EmptyEnd) → before ≡ []
       → is_shown_on (shown_swap old.swap) area ≡ true
       → IsSameDevice d d' → frame_count new ≡ frame_count old
-      → between.Does d d' old (λ d d' w r l. HasTurnedOff d d' old new w r l area before now end)
+      → between.WhateverStood d d' old (λ d d' w r l. HasTurnedOff d d' old new w r l area before now end)
       → Does d d' old new (Swapoff area) (Ok (noted (answer_by end) now))
   turned-does d d' old new before now end fresh on same count h = record {
     step = λ s keeps. turned-steps d d' old new s before now end keeps fresh on (h true s.world (rmap_of s) s.ledger (stands-between d old s keeps));
@@ -149,7 +149,7 @@ module _ (area : ℕ) where
   pub swapoff-does : (d d' : Device) (old new : Mem) (reply reply' : Reply) (now : List Note) (end : EmptyEnd) (answer : Answer) → IsCleared reply
       → reply' ≡ record reply { answer = answer; notes = now } → answer ≡ answer_by end → is_shown_on (shown_swap old.swap) area ≡ true
       → IsSameDevice d d' → frame_count new ≡ frame_count old
-      → between.Does d d' old (λ d d' w r l. HasTurnedOff d d' old new w r l area reply.notes now end)
+      → between.WhateverStood d d' old (λ d d' w r l. HasTurnedOff d d' old new w r l area reply.notes now end)
       → Does d d' old new (Swapoff area) (Ok reply')
   swapoff-does d d' old new reply reply' now end answer cleared is answered on same count h = subst (λ r. Does d d' old new (Swapoff area) (Ok r))
       (sym (is ∙ (λ i. record { answer = answered i; notes = now; rows = cleared.rows i })))

@@ -6,7 +6,7 @@ use Rattle.av_plain.specs.Pass.{end_note}
 use Rattle.av_evict.specs.Steps.{EndsFirst}
 use Rattle.av_evict.specs.System.{Adds, Always}
 use Rattle.av_evict.proofs.StepLaws.{ended-cached, ended-loose, ends-first, orphan-may_drop, orphan-notes}
-use Rattle.av_evict.proofs.SystemLaws.{at-knows, does-then, gives-as, loose, makes-gives}
+use Rattle.av_evict.proofs.SystemLaws.{at-knows, happened-then, gives-as, loose, makes-gives}
 use Rattle.av_evict.proofs.steps.finish_first.Goals as goal
 
 pub finish-requires : goal.finish-requires
@@ -71,4 +71,4 @@ returns-in_ok-push-2-clause-gives g c = λ told l sound stands ready.
     (c.in-Some.ensures.first told l (loose _ _ l sound) stands)
     (c.in_ok-push-2.ensures.ok ∙ ap (λ ns. ns ++ Dropped s ∷ []) (c.in_ok-push.ensures.ok ∙ ap (λ n. c.args.notes.now ++ n ∷ []) c.end_note.ensures)
     ∙ append_assoc c.args.notes.now (end_note failed s ∷ []) (Dropped s ∷ []))
-    (orphan-notes l s failed true (sym orphan)) (does-then _ _ _ l (end_note failed s ∷ []) (Dropped s ∷ []) ends drops)
+    (orphan-notes l s failed true (sym orphan)) (happened-then _ _ _ l (end_note failed s ∷ []) (Dropped s ∷ []) ends drops)
