@@ -142,7 +142,8 @@ impl<H: SwapFiles + Drop> SwapDev for FileDev<H> {
             → ⟦<FileDev<H> as SwapDev>⟧.failures self.new
             ≡ ⟦<FileDev<H> as SwapDev>⟧.failures self.old }
         ensures asked { ⟦<FileDev<H> as SwapDev>⟧.history self.new
-            ≡ after_attach area name.now (is_ok result) (⟦<FileDev<H> as SwapDev>⟧.history self.old) }
+            ≡ after_attach area name.now (is_ok result)
+            (⟦<FileDev<H> as SwapDev>⟧.history self.old) }
         // Beside what the trait says: one file is opened, whose answer this is; it is the area's
         // file then, with as many pages as its bytes fill.
         ensures answer { H.view self.new.files ≡ after_open result (H.view self.old.files) }
