@@ -12,8 +12,8 @@
 
 mod flight;
 mod inactive;
-mod shortage;
 mod pass;
+mod shortage;
 mod standing;
 mod steps;
 mod system;

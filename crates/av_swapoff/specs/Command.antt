@@ -39,8 +39,8 @@ abbrev pub DoesClosing : ℕ → Device → Device → Mem
 DoesClosing area d d' old IsSo = (told : Bool) (w : World) (r : Rmap) (l : Ledger)
     → KeepsClosing (as_told told d) area old w r l → IsSo (as_told told d) (as_told told d') w r l
 
--- notes were added, the area was emptied by them to this end, and that is done; the device was asked
--- to write what the notes tell, and failed at least as often as they and the end tell
+-- notes were added, the area was emptied by them to this end, and that is done; the device was
+-- asked to write what the notes tell, and failed at least as often as they and the end tell
 pub record HasEmptied (d d' : Device) (old new : Mem) (w : World) (r : Rmap) (l : Ledger)
     (area : ℕ) (before now : List Note) (end : EmptyEnd) : Type 0 where
   pub added : List Note
