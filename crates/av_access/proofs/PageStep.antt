@@ -100,8 +100,8 @@ module _ {d d' : Device} (s : State) (p page at : ℕ) (piece : List ℕ) (befor
   -- it was not served
   pub stopped : (new : Mem) (write : Bool) (stop : Stop) → IsTouched d d' s new write (p, page) before now (Stopped stop)
       → IsPageStep d d' s new write p page at piece before now (Some stop)
-  stopped new write stop t = unwritten new write t.added (Some stop) t.notes t.touches t.served (still write)
-      (rose-stopped t.added stop d.failures d'.failures t.failed t.failures)
+  stopped new write stop t = unwritten new write t.added (Some stop) t.noted.notes t.touches t.served (still write)
+      (rose-stopped t.added stop d.failures d'.failures t.noted.failed t.noted.failures)
     where
       still : (write : Bool) (w : World) → w ≡ world_after write p page at piece (Some stop) w
       still true w = refl
@@ -199,7 +199,7 @@ module _ {d d' : Device} (s : State) (p page at : ℕ) (piece : List ℕ) (befor
       }) in
       record {
         added = t.added;
-        notes = t.notes;
+        notes = t.noted.notes;
         touches = stands.touches;
         next = state_by new w' rs l;
         world = sym (stored_is w p (4096 * page + at) piece some);
@@ -229,7 +229,7 @@ module _ {d d' : Device} (s : State) (p page at : ℕ) (piece : List ℕ) (befor
         });
         same = same;
         wrote = t.served.wrote;
-        failures = rose-served t.added d.failures d'.failures t.failures;
+        failures = rose-served t.added d.failures d'.failures t.noted.failures;
       }
     where
       used_is : after_all s.ledger (page_events true (p, page) t.added None) ≡ after_use true (p, page) (after_notes s.ledger t.added)

@@ -1,5 +1,5 @@
 -- A page whose entry is a slot is made ready: it came in, and was used or copied then; or it could not come in.
-use Rattle.std.proofs.Common.{◌≡◌, inl, inr, ℕ, Bool, true, false, List, [], ◌∷◌, ◌++◌, Option, Some, None, refl, sym, ap, subst, ◌∙◌, arith}
+use Rattle.std.proofs.Common.{◌≡◌, inl, inr, ℕ, Bool, true, false, List, [], ◌∷◌, ◌++◌, Option, Some, None, refl, sym, ap, subst, ◌∙◌}
 use Rattle.std.proofs.lemmas.List.{append_assoc}
 use Rattle.std.proofs.lemmas.Result.{IfOk-weaker}
 use Rattle.std.specs.Option.{option_map_or}
@@ -22,14 +22,12 @@ use Rattle.av_plain.specs.Event.{Event, Noted, Used, after_all, after_notes, not
 use Rattle.av_plain.specs.Fault.{ComesIn, FindsNone, IsMade, Serves, SwapIn, Touches, drop_at, is_allowed, need, need_of_slot, sparing, was_slot}
 use Rattle.av_plain.specs.Ledger.{InSlot, Ledger, Setting, entry, frame_at}
 use Rattle.av_plain.specs.Load.{with_loads}
-use Rattle.av_plain.specs.Pass.{is_fail}
 use Rattle.av_plain.specs.Stands.{prot_of}
 use Rattle.av_plain.specs.World.{Page, World, is_locked_page, pages}
 use Rattle.av_plain.proofs.Access.{after_all-append, after_notes-append, note_events-all, note_events-append, spares-alike}
 use Rattle.av_plain.proofs.AreasLeft.{rmap_after_all-append}
 use Rattle.av_plain.proofs.Covered.Page.{fit-areas}
 use Rattle.av_plain.proofs.Covered.Swap.{fit-seeks}
-use Rattle.av_plain.proofs.Ledger.{how_many-append}
 use Rattle.av_plain.proofs.Sound.{flags-loads}
 use Rattle.av_mem.specs.declared.mem.Mem.{Mem}
 use Rattle.av_mem.specs.Mem.{ranges_of, setting_by}
@@ -43,7 +41,7 @@ use Rattle.av_fault.specs.declared.fault.Touched.{Touched}
 use Rattle.av_fault.specs.declared.fault.Touched.TheVariants.{Ready, Stopped, Zeros}
 use Rattle.av_fault.proofs.Between.{between-some, setting-stays}
 use Rattle.av_mem.proofs.HomeLaws.{entry-away}
-use Rattle.av_fault.proofs.Done.{done-then}
+use Rattle.av_fault.proofs.Done.{done-then, noted-then}
 use Rattle.av_fault.proofs.TouchLaws.{allowed-as}
 
 -- ---- what a page needs whose entry is a slot
@@ -183,22 +181,15 @@ module _ (d d' : Device) (old mid : Mem) (w : World) (r : Rmap) (l : Ledger) (k 
         by (Stopped stop) = sym (note_events-append came.added made.added)
 
     pub came-touched : HasTouched d d'' old new w r l write k before now touched
-    came-touched =
-        let both = how_many-append is_fail came.added made.added in
-        let first = came.failures in
-        let second = made.failures in
-        let failed = made.failed in
-        record {
-          added = added;
-          notes = made.notes ∙ ap (λ ns. ns ++ made.added) came.notes ∙ append_assoc before came.added made.added;
-          touches = touches_by touched makes_then;
-          ready = subst (λ x. IsReady write x k touched)
-              (sym (after_all-append l come_events (touch_events write k made.added touched)) ∙ ap (after_all l) (events-are touched)) made.ready;
-          done = subst (HasDone d d'' old new w r l) (events-are touched)
-              (done-then d d' d'' old mid new w r l come_events (touch_events write k made.added touched) came.done made.done);
-          failures = omega (arith, both, first, second);
-          failed = omega (arith, both, failed);
-        }
+    came-touched = record {
+      added = added;
+      noted = noted-then d d' d'' before amid now came.added made.added _ _ _ came.noted made.noted;
+      touches = touches_by touched makes_then;
+      ready = subst (λ x. IsReady write x k touched)
+          (sym (after_all-append l come_events (touch_events write k made.added touched)) ∙ ap (after_all l) (events-are touched)) made.ready;
+      done = subst (HasDone d d'' old new w r l) (events-are touched)
+          (done-then d d' d'' old mid new w r l come_events (touch_events write k made.added touched) came.done made.done);
+    }
 
 -- ---- it could not come in
 
@@ -209,12 +200,10 @@ pub stop-touched : (d d' : Device) (old new : Mem) (w : World) (r : Rmap) (l : L
     → HasTouched d d' old new w r l write k before now (Stopped stop)
 stop-touched d d' old new w r l k s write before now stop at allowed came = record {
   added = came.added;
-  notes = came.notes;
+  noted = came.noted;
   touches = by stop came.comes;
   ready = tt;
   done = came.done;
-  failures = came.failures;
-  failed = came.failed;
 }
   where
     absent : frame_at l s ≡ None → need write l (entry l k) ≡ SwapIn s

@@ -1,7 +1,6 @@
 -- A page is made ready: what its entry is and what was made of it are what the definitions ask for.
-use Rattle.std.proofs.Common.{◌≡◌, inl, ℕ, ◌==◌, Bool, true, false, cond, not, ◌&&◌, List, [], ◌∷◌, ◌++◌, Option, Some, None, is_some, refl, sym, ap, subst, ◌∙◌, arith}
+use Rattle.std.proofs.Common.{◌≡◌, inl, ℕ, ◌==◌, Bool, true, false, cond, not, ◌&&◌, List, [], ◌∷◌, ◌++◌, Option, Some, None, is_some, refl, sym, ap, subst, ◌∙◌}
 use Rattle.std.proofs.lemmas.Bool.{false≢true}
-use Rattle.std.proofs.lemmas.List.{append-nil}
 use Rattle.std.proofs.lemmas.Result.{IfOk-weaker}
 use Rattle.std.specs.Bool.{then_some}
 use Rattle.std.specs.Prelude.{Err, IfOk, Ok, Result, option_map}
@@ -40,7 +39,7 @@ use Rattle.av_fault.specs.declared.fault.Stop.TheVariants.{Denied, Lost, Starved
 use Rattle.av_fault.specs.declared.fault.Touched.{Touched}
 use Rattle.av_fault.specs.declared.fault.Touched.TheVariants.{Ready, Stopped, Zeros}
 use Rattle.av_fault.proofs.Between.{between-of, fit-stays, to-amid, to-fit}
-use Rattle.av_fault.proofs.Done.{rose-none}
+use Rattle.av_fault.proofs.Done.{noted-none}
 use Rattle.av_fault.proofs.EntryLaws.{entry-is}
 use Rattle.av_fault.proofs.Run.{run-done, run-none, run-then}
 use Rattle.av_fault.proofs.UsingLaws.{entry-here}
@@ -125,12 +124,10 @@ pub made-touched : (d d' : Device) (old new : Mem) (w : World) (r : Rmap) (l : L
     → HasTouched d d' old new w r l write k before now touched
 made-touched d d' old new w r l write k before now touched slotless allowed made = record {
   added = made.added;
-  notes = made.notes;
+  noted = made.noted;
   touches = makes-touches (setting_by d old) w l write k made.added touched slotless allowed made.makes;
   ready = made.ready;
   done = made.done;
-  failures = made.failures;
-  failed = made.failed;
 }
 
 -- so it is of a page whose entry is this one, if memory was not wanting
@@ -165,7 +162,7 @@ read-touched d old new w r l k f write seen notes h allowed there done here =
     let at : entry l k ≡ Some (InFrame f seen) = entry-here d old w r l h k f write seen there in
     made-touched d d old new w r l false k notes notes (Ready f) (subst IsNoSlot (sym at) tt) allowed (record {
       added = [];
-      notes = sym (append-nil notes);
+      noted = noted-none d notes;
       makes = record {
         making = [];
         made = subst (λ o. IsMade (setting_by d old) (sparing w) l k (need false l o) []) (sym at) refl;
@@ -173,8 +170,6 @@ read-touched d old new w r l k f write seen notes h allowed there done here =
       };
       ready = (entry-here d new _ _ _ done.between k f write true here, λ is. absurd (false≢true is));
       done = done;
-      failures = rose-none d.failures;
-      failed = omega arith;
     })
 
 pub zeros-touched : (d : Device) (old : Mem) (w : World) (r : Rmap) (l : Ledger) (k : Key) (notes : List Note)
@@ -187,7 +182,7 @@ zeros-touched d old w r l k notes h allowed there =
     let same : after_use false k l ≡ l = ap (after_use_of false k l) at in
     made-touched d d old old w r l false k notes notes Zeros (subst IsNoSlot (sym at) tt) allowed (record {
       added = [];
-      notes = sym (append-nil notes);
+      noted = noted-none d notes;
       makes = record {
         making = [];
         made = subst (λ o. IsMade m (sparing w) l k (need false l o) []) (sym at) refl;
@@ -201,8 +196,6 @@ zeros-touched d old w r l k notes h allowed there =
           h.sound)
           refl refl refl (sym (without-loads m w l (Used false k ∷ []) refl)) refl (device-itself d) (wrote-none d.history) refl
           (fit-stays d d old old (device-itself d) (rest-none old).parts (to-fit d old w r l h));
-      failures = rose-none d.failures;
-      failed = omega arith;
     })
 
 -- ---- the whole
@@ -215,7 +208,7 @@ module _ (d d' : Device) (s : State) (old new : Mem) (write : Bool) (k : Key) (b
       let events = touch_events write k h.added touched in
       record {
         added = h.added;
-        notes = h.notes;
+        noted = h.noted;
         touches = subst (λ m. Touches m s.world s.ledger write k h.added (end_of touched)) same h.touches;
         ready = h.ready;
         served = record {
@@ -226,8 +219,6 @@ module _ (d d' : Device) (s : State) (old new : Mem) (write : Bool) (k : Key) (b
               (subst (λ (x : Free). ChoosesAll (setting_by d old) None s.ledger events x (free_of (view new))) keeps.stands.free h.done.free);
           wrote = h.done.wrote;
         };
-        failures = h.failures;
-        failed = h.failed;
       }
 
 -- it was touched, or memory was wanting

@@ -129,7 +129,7 @@ pub(crate) fn drop_unneeded(
     if mem.swap.in_flight(slot) || mem.swap.entries(slot) > 0 {
         return Ok(true);
     }
-    mem.drop_slot(slot);
+    mem.drop_slot(frame, slot);
     notes.push(Note::Dropped(slot))?;
     Ok(false)
 }

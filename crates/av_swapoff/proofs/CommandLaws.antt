@@ -38,7 +38,7 @@ has-emptied names names' d d₁ d' old k₁ new area before now end gives lent w
     subst (λ k. HasEmptied d d' old k w r l area before now end) (sym is.1)
     (subst (λ x. HasEmptied d x old k₁ w r l area before now end) (sym is.0) (record {
       added = out.0;
-      notes = out.1;
+      noted = record { notes = out.1; failures = out.2.1.rose; failed = out.2.1.failed };
       empties = out.2.0 w r (closing-so d (Some area) old w r l serves);
       closing = record {
         sound = subst (λ m. IsSound m (after_notes l out.0)) (sym stays.setting) out.3.sound;
@@ -49,6 +49,4 @@ has-emptied names names' d d₁ d' old k₁ new area before now end gives lent w
       same = one-device names names' d d₁ old k₁ stays;
       count = ap (λ (m : Setting). m.frames) stays.setting;
       wrote = happened.wrote;
-      failures = out.2.1.rose;
-      failed = out.2.1.failed;
     }))

@@ -30,7 +30,7 @@ use Rattle.av_plain.proofs.Sound.Pass.{Passed, seeks-kept}
 use Rattle.av_evict.specs.Steps.{MayDrop}
 use Rattle.av_evict.specs.System.{Adds, Gives, Goes, IsAt, SystemView, spares}
 use Rattle.av_evict.proofs.PassLaws.{none-flies}
-use Rattle.av_evict.proofs.StepLaws.{pair-cached}
+use Rattle.av_evict.proofs.StepLaws.{pair-slot_of}
 use Rattle.av_evict.proofs.SystemLaws.{happened-none, goes-then}
 use Rattle.av_swapoff.specs.Slot.{AreApart, Fetches, FetchesBy, IsIn, IsLoaded, IsSought, MapsBack, MayFetch, MayMapAll, fetched_of, mapped_notes, unread_of}
 use Rattle.av_swapoff.specs.System.{MayLoad, MayMap}
@@ -212,9 +212,9 @@ mapped-keys m l s f sound at = mapped-all m l s f (keys_of_slot l s) sound (keys
 
 pub mapped-may_drop : (m : Setting) (l : Ledger) (s : Slot) (f : ℕ) (ns : List Note) → IsSound m l → IsIn s f l →
     ns ≡ mapped_notes f (keys_of_slot l s) →
-    MayDrop s (after_notes l ns)
-mapped-may_drop m l s f ns sound at is = subst (λ x. MayDrop s (after_notes l x)) (sym is) (record {
-  cached = ap (list_any (λ (c : Cached). same_slot s c.slot)) a.cache ∙ pair-cached l s f (frame_at-some f s l.cache at.cached);
+    MayDrop f s (after_notes l ns)
+mapped-may_drop m l s f ns sound at is = subst (λ x. MayDrop f s (after_notes l x)) (sym is) (record {
+  cached = ap (λ cs. slot_of (record l { cache = cs }) f) a.cache ∙ pair-slot_of m l s f sound (frame_at-some f s l.cache at.cached);
   landed = ap (list_any (same_slot s)) (a.flight ∙ at.landed);
   kept = λ named. absurd (clash _ none named);
 })
