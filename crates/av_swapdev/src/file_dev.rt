@@ -5,7 +5,7 @@ ghost use Rattle.std.specs.Prelude.{IfOk, OnOk, OnErr, IsErrOf, is_ok};
 ghost use Rattle.av_base.specs.Page.{page_size};
 ghost use Rattle.av_base.specs.Words.{with_at};
 ghost use Rattle.av_io.specs.Count.{Rose, one_more};
-ghost use Rattle.av_swapdev.specs.Device.{HasPage, Holds, IsSpoiled, IsWritten};
+ghost use Rattle.av_swapdev.specs.Device.{HasPage, Holds, IsRenewed, IsSpoiled, IsWritten};
 ghost use Rattle.av_swapdev.specs.Device.{after_attach, after_write, most_areas, most_pages};
 ghost use Rattle.av_swapdev.specs.Device.{no_history};
 ghost use Rattle.av_swapdev.specs.File.{Opens, Reads, SameBut, Stores, StoresPart, after_open};
@@ -126,6 +126,14 @@ impl<H: SwapFiles + Drop> SwapDev for FileDev<H> {
         ensures size { IfOk result (λ n. sizes_of self.new.areas.items
             ≡ with_at area (Some n) (sizes_of self.old.areas.items)) }
         ensures most { IfOk result (λ n. n ≤ most_pages) }
+        ensures renewed { OnOk result (IsRenewed area None None) }
+        ensures same_sizes { OnErr result (sizes_of self.new.areas.items
+            ≡ sizes_of self.old.areas.items) }
+        ensures same_pages { OnErr result (⟦<FileDev<H> as SwapDev>⟧.pages self.new
+            ≡ ⟦<FileDev<H> as SwapDev>⟧.pages self.old) }
+        ensures never_falls { self.old.failures ≤ self.new.failures }
+        ensures cause { IsErrOf result AttachErr.Failed
+            → Rose self.old.failures self.new.failures }
         ensures unfailed { OnOk result (self.new.failures ≡ self.old.failures) }
         ensures unfailed_memory { IsErrOf result AttachErr.Memory
             → self.new.failures ≡ self.old.failures }
