@@ -16,7 +16,7 @@ use Rattle.av_mem.specs.declared.mem.Mem.{Mem}
 use Rattle.av_mem.specs.Entries.{HasFree, view_copied, view_settled, view_taken}
 use Rattle.av_mem.specs.Mem.{view, view_of_parts}
 use Rattle.av_mem.proofs.MemLaws.{plain_set}
-use Rattle.av_mem.proofs.StepLaws.{SameRest, lists-without, view-by}
+use Rattle.av_mem.proofs.StepLaws.{SameRest, view-by}
 
 -- ---- the first free frame is taken
 
@@ -30,7 +30,7 @@ frame-taken old new f left home same none frames lists swap =
     (record { frames = old.lists.frames; active = without f old.lists.active; inactive = f ∷ without f old.lists.inactive })
     (shown_swap old.swap) same
     (frames ∙ ap (λ n. with_home f home (with_maps f (n + 1) (record (shown_frames old.frames) { free = left }))) none)
-    (lists ∙ ap (λ (ls : Lists). record ls { inactive = f ∷ ls.inactive }) (lists-without f old.lists)) (ap shown_swap swap)
+    lists (ap shown_swap swap)
 
 -- ---- its page names it
 

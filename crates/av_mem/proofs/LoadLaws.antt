@@ -19,7 +19,7 @@ use Rattle.av_mem.specs.Cache.{HasLoaded}
 use Rattle.av_mem.specs.Mem.{view, view_of_parts}
 use Rattle.av_mem.specs.declared.mem.Mem.{Mem}
 use Rattle.av_mem.proofs.MemLaws.{plain_set}
-use Rattle.av_mem.proofs.StepLaws.{SameRest, lists-without, view-by}
+use Rattle.av_mem.proofs.StepLaws.{SameRest, view-by}
 
 -- ---- a slot that is loaded
 
@@ -55,7 +55,7 @@ loaded-view old new taken loaded f s home pages same first once take load homed 
       (with_find s (Some f) (shown_swap old.swap)) same
       (homed ∙ ap (with_home f home) (load.frame
       ∙ ap (λ (F : ShownFrames). with_dirty f false (with_frame_slot f (Some s) (with_bytes f (slice_index load.page) F))) take))
-      (lists ∙ ap (λ (ls : Lists). record ls { inactive = f ∷ ls.inactive }) (lists-without f old.lists))
+      lists
       load.swap;
 }
 
