@@ -4,7 +4,7 @@ use Rattle.std.specs.Prelude.{MatchOption}
 use Rattle.av_base.specs.Words.{how_many, without}
 use Rattle.av_base.specs.declared.slot.Slot.{Slot}
 use Rattle.av_frames.specs.Store.{shown as shown_frames, with_dirty}
-use Rattle.av_lru.specs.Lists.{Lists, without_frame}
+use Rattle.av_lru.specs.Lists.{without_frame}
 use Rattle.av_plain.specs.Ledger.{same_slot}
 use Rattle.av_swap_laws.specs.Steps.{view_start, without_slot}
 use Rattle.av_swap_laws.proofs.From.{flight-first}

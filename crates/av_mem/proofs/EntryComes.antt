@@ -2,7 +2,7 @@
 use Rattle.std.proofs.Common.{◌≡◌, ℕ, ◌+◌, ◌-◌, ◌<◌, ◌==◌, Bool, true, false, cond, not, ◌&&◌, ◌||◌, List, [], ◌∷◌, filter, Option, Some, is_none, refl, sym, ap, subst, ◌∙◌, arith}
 use Rattle.av_base.specs.Words.{is_in, with_at, without}
 use Rattle.av_frames.specs.Store.{Shown, Store, shown as shown_frames, with_bytes, with_home, with_maps}
-use Rattle.av_lru.specs.Lists.{Lists, without_frame}
+use Rattle.av_lru.specs.Lists.{without_frame}
 use Rattle.av_pagetable.specs.declared.pte.Pte.TheVariants.{Here}
 use Rattle.av_pagetable.specs.Entries.{entry_at, with_entry}
 use Rattle.av_rmap.specs.Items.{shown as shown_items}

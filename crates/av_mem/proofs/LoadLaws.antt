@@ -7,7 +7,7 @@ use Rattle.av_base.specs.Words.{is_in, with_at, without}
 use Rattle.av_base.specs.declared.slot.Slot.{Slot}
 use Rattle.av_clusters.specs.Clusters.{give_slot}
 use Rattle.av_frames.specs.Store.{Shown as ShownFrames, Store, shown as shown_frames, with_bytes, with_dirty, with_home, with_maps, with_slot as with_frame_slot}
-use Rattle.av_lru.specs.Lists.{Lists, without_frame}
+use Rattle.av_lru.specs.Lists.{without_frame}
 use Rattle.av_pagetable.specs.declared.pte.Pte.TheVariants.{Here}
 use Rattle.av_pagetable.specs.Entries.{entry_at, with_entry}
 use Rattle.av_plain.proofs.Sound.Counts.{same-itself}
