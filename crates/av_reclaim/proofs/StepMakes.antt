@@ -77,6 +77,10 @@ pub found-there : (d : Device) (closing : Option ℕ) (k : Mem) (w : World) (r :
     → IsSoundBut (setting_by d k) any_slot l → Serves d closing k w r l → slot_of l f ≡ Some s → (view k).find s ≡ Some f
 found-there d closing k w r l f s sound h at = h.held.ledger.swap.finds s ∙ slot-frame l (once-of (setting_by d k) any_slot l sound) f s at
 
+-- and the frame is one of the machine's
+pub cached-below : (m : Setting) (l : Ledger) (f : ℕ) (s : Slot) → IsSoundBut m any_slot l → slot_of l f ≡ Some s → f < m.frames
+cached-below m l f s sound at = cached-in_range m any_slot l sound f s (slot-frame l (once-of m any_slot l sound) f s at)
+
 -- ---- kept, or aged
 
 -- for this cause
@@ -169,10 +173,7 @@ drop-makes names d old new f s is parts = λ l sound stood may. let once = once-
     (cached-below (setting_by d old) l f s sound may.cached) (cached-there (setting_by d old) any_slot l sound f s h.there at)
     (may-leave l f s may)))
 
--- its frame is one of the machine's, and not free
-pub cached-below : (m : Setting) (l : Ledger) (f : ℕ) (s : Slot) → IsSoundBut m any_slot l → slot_of l f ≡ Some s → f < m.frames
-cached-below m l f s sound at = cached-in_range m any_slot l sound f s (slot-frame l (once-of m any_slot l sound) f s at)
-
+-- its frame is not free
 pub in-use : (d : Device) (closing : Option ℕ) (k : Mem) (w : World) (r : Rmap) (l : Ledger) (f : ℕ) (s : Slot)
     → IsSoundBut (setting_by d k) any_slot l → Serves d closing k w r l → slot_of l f ≡ Some s → is_in f (view k).free ≡ false
 in-use d closing k w r l f s sound h at =
