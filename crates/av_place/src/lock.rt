@@ -1,11 +1,14 @@
 //! Which pages `mlock` and `munlock` are about, and what they refuse by these.
 
-ghost use Rattle.std.specs.Prelude.{◌≡◌, ◌+◌, ◌/◌, ◌≤◌};
+ghost use Rattle.std.specs.Prelude.{◌≡◌};
 ghost use Rattle.av_base.specs.Page as bytes;
 ghost use Rattle.av_plain.specs.Refusal as refusals;
 
 use crate::place::ADDRESS_PAGES;
-use av_base::{MOST_LOCKED, PAGE_SIZE};
+use av_base::PAGE_SIZE;
+
+/// How many pages one command may lock.
+const MOST_LOCKED: u64 = 16384;
 
 /// How many pages the bytes from an address on meet.
 pub fn pages_met(address: u64, len: u64) -> u64
