@@ -44,7 +44,7 @@ not_refused false Follow Refuse is h = absurd (no is)
     no e = cc
 
 -- the answer of an access that stopped
-answers-stopped : (a k page : ℕ) (stop : Stop) (shown : List ℕ) → k ≡ bytes_before a page →
+pub answers-stopped : (a k page : ℕ) (stop : Stop) (shown : List ℕ) → k ≡ bytes_before a page →
     answer_of stop k shown ≡ stop_answer (stop_of stop) (bytes_before a page) shown
 answers-stopped a k page Segv shown is = ap (λ k. answers.Segv k shown) is
 answers-stopped a k page Bus shown is = ap (λ k. answers.Bus k shown) is

@@ -7,3 +7,4 @@ pub mod AccessLoads
 pub mod ServedLaws
 pub mod AccessParts
 pub mod AccessSteps
+pub mod LockTurns

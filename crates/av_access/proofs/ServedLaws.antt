@@ -21,6 +21,7 @@ use Rattle.av_plain.proofs.Access.{after_all-append, notes_of-append, notes_of-n
 use Rattle.av_plain.proofs.AreasLeft.{rmap_after_all-append}
 use Rattle.av_plain.proofs.Device.{setting_same}
 use Rattle.av_plain.proofs.Ledger.{how_many-append}
+use Rattle.av_plain.proofs.Load.{without-loads}
 use Rattle.av_plain.proofs.Sound.{loads-same}
 use Rattle.av_plain.proofs.Wrote.{device-itself, device-on, wrote-none, wrote-notes}
 use Rattle.av_swap_laws.proofs.Load.{pages-unclaimed}
@@ -125,7 +126,7 @@ none-served {d} s k p page notes keeps = record {
   notes = sym (append-nil notes);
   accesses = (refl, refl);
   next = s;
-  world = unloaded (setting_by d k) s.world s.ledger;
+  world = sym (without-loads (setting_by d k) s.world s.ledger [] refl);
   ledger = refl;
   free = refl;
   rmap = refl;
@@ -135,9 +136,6 @@ none-served {d} s k p page notes keeps = record {
   failures = few d.failures;
 }
   where
-    unloaded : (m : Setting) (w : World) (l : Ledger) → w ≡ with_loads m w l []
-    unloaded m w l = sym (loads-same (λ w. w) m w l [] (λ l s w. absurd cc))
-
     few : (n : ℕ) → RoseBy (causes_of_access [] None) n n
     few n = omega arith
 

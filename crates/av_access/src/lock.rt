@@ -2,7 +2,7 @@
 
 ghost use Rattle.std.specs.Prelude.{◌≡◌, ◌+◌, ◌^◌, ◌<◌, IfOk, option_and_then};
 ghost use Rattle.av_plain.specs.Device.{IsSameDevice, seen_by};
-ghost use Rattle.av_plain.specs.Lock.{accesses_of};
+ghost use Rattle.av_plain.specs.Lock.{access_of};
 ghost use Rattle.av_plain.specs.Transcript.{State};
 ghost use Rattle.av_plain.specs.World.{pages as pages_of};
 ghost use Rattle.av_mem.specs.Mem.{frame_count, Keeps};
@@ -42,8 +42,9 @@ pub fn bring_in<D: SwapDev>(
         IsSameDevice (d dev.old) (d dev.new) }
     ensures count { frame_count mem.new ≡ frame_count mem.old }
 {
+    let past = from + pages;
     let mut page = from;
-    while page < from + pages {
+    while page < past {
         if let Some(stop) = bring_in_page(mem, dev, process, page, notes)? {
             let ended = AccessEnd {
                 stop: Some(stop),
@@ -68,20 +69,20 @@ fn bring_in_page<D: SwapDev>(
     ensures in_turn { let d = seen_by D.sizes D.pages D.failures D.history in (s : State)
         → Keeps (d dev.old) mem.old s → IfOk result (λ stop.
         HasServed (d dev.old) (d dev.new) s mem.new process
-        (accesses_of (pages_of s.world process) page 1) (λ w. w) notes.old notes.new stop page) }
+        (access_of page (pages_of s.world process page)) (λ w. w) notes.old notes.new stop page) }
     ensures steady { IfOk result (λ stop. IsSteadyFor (D.sizes dev.old) process mem.new) }
     ensures same { let d = seen_by D.sizes D.pages D.failures D.history in
         IsSameDevice (d dev.old) (d dev.new) }
     ensures count { frame_count mem.new ≡ frame_count mem.old }
 {
-    match access_of(mem, process, page) {
+    match allowed_access(mem, process, page) {
         Some(write) => serve_page(mem, dev, process, page, write, notes),
         None => Ok(None),
     }
 }
 
 /// How a page comes in: true as a write does, false as a read. None where it may not be accessed.
-fn access_of(mem: &Mem, process: u16, page: u64) -> Option<bool>
+fn allowed_access(mem: &Mem, process: u16, page: u64) -> Option<bool>
     ensures { result ≡ option_and_then access_in (spaces.pages_of mem.now.spaces.processes process
         page) }
 {

@@ -64,11 +64,12 @@ fn lock_pages<D: SwapDev>(
         mem.old mem.new (commands.Mlock process address len) (reply_in reply.new result) }
 {
     let (page, pages) = (address / PAGE_SIZE, pages_met(address, len));
+    let past = page + pages;
     let change = Change::Flag(Flag::Locked, true);
     let reached = mem
         .spaces
         .modify(&mut mem.anons, process, page, pages, change)?;
-    if reached < page + pages {
+    if reached < past {
         return Err(Refusal::Refused(Errno::Enomem));
     }
     let answer = bring_in(mem, dev, alloc, process, page, pages, &mut reply.notes)?;
@@ -95,11 +96,12 @@ pub fn munlock(
         return Err(Refusal::Refused(Errno::Einval));
     }
     let (page, pages) = (address / PAGE_SIZE, pages_met(address, len));
+    let past = page + pages;
     let change = Change::Flag(Flag::Locked, false);
     let reached = mem
         .spaces
         .modify(&mut mem.anons, process, page, pages, change)?;
-    if reached < page + pages {
+    if reached < past {
         return Err(Refusal::Refused(Errno::Enomem));
     }
     answer_with(reply, Answer::Done);
