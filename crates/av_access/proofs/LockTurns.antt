@@ -171,7 +171,7 @@ module _ {d d' d'' : Device} (s : State) (mid new : Mem) (p from page : ℕ) (be
   }
 
 -- all came in
-pub all_came : {d d' : Device} (s : State) (new : Mem) (p from n page : ℕ) (before now : List Note) → from ≤ page → page ≤ from + n → (page < from + n → ⊥)
+pub all_came : {d d' : Device} (s : State) (new : Mem) (p from n page : ℕ) (before now : List Note) → from ≤ page → page ≤ from + n → from + n ≤ page
     → HasServed d d' s new p (accesses_of (pages s.world p) from (page - from)) (λ w. w) before now None from
     → IsBroughtIn d d' s new p from n before now Done
 all_came {d} {d'} s new p from n page before now low high last h = record {

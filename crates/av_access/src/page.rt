@@ -105,7 +105,8 @@ pub fn serve_page<D: SwapDev>(
     ensures count { frame_count mem.new ≡ frame_count mem.old }
 {
     match touch(mem, dev, process, page, write, notes)? {
-        Touched::Ready(_) | Touched::Zeros => Ok(None),
+        Touched::Ready(_frame) => Ok(None),
+        Touched::Zeros => Ok(None),
         Touched::Stopped(stop) => Ok(Some(stop)),
     }
 }

@@ -48,7 +48,7 @@ use Rattle.av_mem.specs.Mem.{Keeps, IsSteadyAt, frame_count, ranges_of, setting_
 use Rattle.av_mem.proofs.AnonLaws.{left_of}
 use Rattle.av_mem.proofs.MemLaws.{alive_is}
 use Rattle.av_fault.specs.declared.fault.Stop.{Stop}
-use Rattle.av_fault.specs.declared.fault.Stop.TheVariants.{Bus, Oom, Segv}
+use Rattle.av_fault.specs.declared.fault.Stop.TheVariants as stops
 use Rattle.av_step.specs.Step.{IsSteadyFor, MemSteps, StepsBeside}
 use Rattle.av_step.proofs.Loads.{world_as}
 use Rattle.av_step.proofs.StepLaws.{left_alone, moved_on, none_rose}
@@ -327,9 +327,9 @@ module _ {d : Device} (old : Mem) (spaces : AllSpaces) (anons : AnonSet) (s : St
         by : (stop : Option Stop) → causes (record { answer = write_answer (address_of (page_of a)) (end_at stop h.page); notes = notes_of coming; rows = [] })
             ≡ causes_of_access (notes_of coming) stop
         by None = refl
-        by (Some Segv) = refl
-        by (Some Bus) = refl
-        by (Some (Oom out)) = refl
+        by (Some stops.Denied) = refl
+        by (Some stops.Lost) = refl
+        by (Some (stops.Starved out)) = refl
 
     pub mlock-steps : MemSteps d d' old new s (Mlock p a len) (record { answer = answer; notes = notes; rows = [] })
     mlock-steps = record {
