@@ -138,12 +138,14 @@ module _ {d d' : Device} (s : State) (mid new : Mem) (write : Bool) (p a k page 
       outside a n x (inr past) = grind (arith, nat_tests, past)
 
   -- what was served before, and this page
-  with_page : {d'' : Device} (end : Option Stop) (both : World → World) → IsPageStep d' d'' h.served.next new write p page at ys now after end
+  with_page : {d'' : Device} (end : Option Stop) (turns : List (Bool × ℕ)) (both : World → World)
+      → pages_of_access write a k ++ (write, page) ∷ [] ≡ turns → IsPageStep d' d'' h.served.next new write p page at ys now after end
       → ((w : World) → world_after write p page at ys end (world_served write p a xs w) ≡ both w)
-      → HasServed d d'' s new p (pages_of_access write a k ++ (write, page) ∷ []) both before after end page
-  with_page end both g composed = served-append s mid new p (pages_of_access write a k) ((write, page) ∷ []) (world_served write p a xs)
+      → HasServed d d'' s new p turns both before after end page
+  unfolding page-served
+  with_page end turns both is g composed = served-append s mid new p (pages_of_access write a k) ((write, page) ∷ []) turns (world_served write p a xs)
       (world_after write p page at ys end) both before now after end h.page page same h.served
-      (page-served h.served.next new write p page at ys now after end g) (leaves-served write p a xs)
+      (page-served h.served.next new write p page at ys now after end g) is (leaves-served write p a xs)
       (loads-served (setting_by d new) (with_loads (setting_by d mid) s.world s.ledger h.served.events) h.served.next.ledger
       (page_events write (p, page) g.added (option_map stop_of end)) write p a page xs (λ is. apart (length xs) (long is)) own) composed
     where
@@ -156,9 +158,8 @@ module _ {d d' : Device} (s : State) (mid new : Mem) (write : Bool) (p a k page 
       → IsAccess d d'' s new write p a (k + m) (xs ++ ys) before after None (k + m)
   goes_on {d''} m small some g = record {
     page = page;
-    served = subst (λ turns. HasServed d d'' s new p turns (world_served write p a (xs ++ ys)) before after None page)
-        (sym (touched-one write a k m page at behind.is small some behind.begins))
-        (with_page None (world_served write p a (xs ++ ys)) g (λ w. served_twice w write p a page at xs ys (λ is. behind.is ∙ ap (λ n. a + n) (sym (long is)))));
+    served = with_page None (pages_of_access write a (k + m)) (world_served write p a (xs ++ ys))
+        (sym (touched-one write a k m page at behind.is small some behind.begins)) g (λ w. served_twice w write p a page at xs ys (λ is. behind.is ∙ ap (λ n. a + n) (sym (long is))));
     is_end = refl;
   }
 
@@ -167,11 +168,11 @@ module _ {d d' : Device} (s : State) (mid new : Mem) (write : Bool) (p a k page 
       → IsAccess d d'' s new write p a n xs before after (Some stop) k
   stops {d''} n stop less g = record {
     page = page;
-    served = subst (λ turns. HasServed d d'' s new p turns (world_served write p a xs) before after (Some stop) page)
+    served = served-more s new p (pages_of_access write a k ++ (write, page) ∷ []) rest (pages_of_access write a n)
         (append_assoc (pages_of_access write a k) ((write, page) ∷ []) rest
-        ∙ sym (touched-more write a k n page at behind.is behind.small less behind.begins))
-        (served-more s new p (pages_of_access write a k ++ (write, page) ∷ []) rest (world_served write p a xs) before after stop page
-        (with_page (Some stop) (world_served write p a xs) g (λ w. stop_answer-world write p page at ys stop (world_served write p a xs w))));
+        ∙ sym (touched-more write a k n page at behind.is behind.small less behind.begins)) (world_served write p a xs) before after stop page
+        (with_page (Some stop) (pages_of_access write a k ++ (write, page) ∷ []) (world_served write p a xs) refl g
+        (λ w. stop_answer-world write p page at ys stop (world_served write p a xs w)));
     is_end = (served k behind.is behind.begins, less);
   }
     where
@@ -238,7 +239,7 @@ module _ {d d' : Device} (s : State) (mid new : Mem) (p a n k : ℕ) (piece : Pi
 
   pub read-served : {d'' : Device} → IsPageRead d' d'' h.access.served.next new p piece.page piece.at piece.len now after shown shown' None
       → IsRead d d'' s new p a (k + piece.len) before after None (k + piece.len) shown'
-  unfolding goes_on
+  unfolding goes_on with_page served-append page-served
   read-served g = record {
     access = goes_on s mid new false p a k piece.page piece.at [] [] before now after same (behind-piece a n k piece is less begins) h.access no_write
         piece.len (piece-in_page a n k piece is) (piece-some a n k piece is less) g.step;
@@ -256,7 +257,7 @@ module _ {d d' : Device} (s : State) (mid new : Mem) (p a n k : ℕ) (piece : Pi
   pub read-stopped : {d'' : Device} (stop : Stop) → IsPageRead d' d'' h.access.served.next new p piece.page piece.at piece.len now after shown shown'
       (Some stop)
       → IsRead d d'' s new p a n before after (Some stop) k shown'
-  unfolding stops
+  unfolding stops with_page served-more served-append page-served
   read-stopped stop g = record {
     access = stops s mid new false p a k piece.page piece.at [] [] before now after same
         (behind-piece a n k piece is less begins) h.access no_write n stop less

@@ -1,5 +1,5 @@
 -- The pages that come in: how each is accessed, and those of a range in turn.
-use Rattle.std.proofs.Common.{◌≡◌, ℕ, zero, suc, ◌+◌, ◌-◌, ◌<◌, ◌≤◌, Bool, true, false, cond, List, [], ◌∷◌, ◌++◌, Option, Some, None, option_map, refl, sym, ap, subst, ◌∙◌, arith}
+use Rattle.std.proofs.Common.{◌≡◌, ℕ, zero, suc, ◌+◌, ◌-◌, ◌*◌, ◌<◌, ◌≤◌, Bool, true, false, cond, List, [], ◌∷◌, ◌++◌, Option, Some, None, option_map, refl, sym, ap, subst, ◌∙◌, arith}
 use Rattle.std.specs.Prelude.{option_and_then}
 use Rattle.std.proofs.lemmas.List.{append-nil, append_assoc}
 use Rattle.av_base.specs.Page.{address_of}
@@ -117,11 +117,12 @@ module _ {d d' d'' : Device} (s : State) (mid new : Mem) (p from page : ℕ) (be
     (g : HasServed d' d'' h.next new p (access_of page (pages h.next.world p page)) (λ w. w) now after stop page) where
   -- the pages before it, and this one
   with_turn : HasServed d d'' s new p (accesses_of (pages s.world p) from (page - from) ++ access_of page (pages s.world p page)) (λ w. w) before after stop page
-  with_turn = served-append s mid new p (accesses_of (pages s.world p) from (page - from)) (access_of page (pages s.world p page)) (λ w. w) (λ w. w) (λ w. w)
+  with_turn = served-append s mid new p (accesses_of (pages s.world p) from (page - from)) (access_of page (pages s.world p page))
+      (accesses_of (pages s.world p) from (page - from) ++ access_of page (pages s.world p page)) (λ w. w) (λ w. w) (λ w. w)
       before now after stop from page same h
       (subst (λ turns. HasServed d' d'' h.next new p turns (λ w. w) now after stop page)
       (ap (λ w. access_of page (pages w p page)) h.world ∙ access-loaded (setting_by d mid) s.world s.ledger h.events p page) g)
-      (leaves-none p) refl (λ w. refl)
+      refl (leaves-none p) refl (λ w. refl)
 
   place : page ≡ from + (page - from)
   place = omega (arith, low)
@@ -161,12 +162,11 @@ module _ {d d' d'' : Device} (s : State) (mid new : Mem) (p from page : ℕ) (be
   turn_stops n why answer some less is = record {
     stop = Some why;
     page = page;
-    served = subst (λ turns. HasServed d d'' s new p turns (λ w. w) before after (Some why) page)
-        (sym (turns-from (pages s.world p) from (page - from) n page place (omega (arith, low, less))))
-        (served-more s new p (accesses_of (pages s.world p) from (page - from) ++ access_of page (pages s.world p page))
-        (accesses_of (pages s.world p) (page + 1) (n - suc (page - from))) (λ w. w) before after why page
+    served = served-more s new p (accesses_of (pages s.world p) from (page - from) ++ access_of page (pages s.world p page))
+        (accesses_of (pages s.world p) (page + 1) (n - suc (page - from))) (accesses_of (pages s.world p) from n)
+        (sym (turns-from (pages s.world p) from (page - from) n page place (omega (arith, low, less)))) (λ w. w) before after why page
         (subst (λ stop. HasServed d d'' s new p (accesses_of (pages s.world p) from (page - from) ++ access_of page (pages s.world p page)) (λ w. w)
-        before after stop page) some with_turn));
+        before after stop page) some with_turn);
     answers = is ∙ answers-stopped (address_of from) (4096 * (page - from)) page why [] (omega (arith, low));
   }
 

@@ -63,12 +63,12 @@ notes-happening write k added None = notes_of-append (note_events added) (Used w
 notes-happening write k added (Some stop) = notes_of-note_events added
 
 -- a page that is served is an access of this page, whole
-one_served : (m : Setting) (w : World) (l : Ledger) (write : Bool) (p page : ℕ) (added : List Note) → Touches m w l write (p, page) added None
+pub one_served : (m : Setting) (w : World) (l : Ledger) (write : Bool) (p page : ℕ) (added : List Note) → Touches m w l write (p, page) added None
     → Accesses m w l p ((write, page) ∷ []) (page_events write (p, page) added None) Whole
 one_served m w l write p page added h = inl (added, [], h, sym (append-nil _), (refl, refl))
 
 -- a page that stops an access of it and more
-one_stopped : (m : Setting) (w : World) (l : Ledger) (write : Bool) (p page : ℕ) (rest : List (Bool × ℕ)) (added : List Note) (stop : served.Stop) →
+pub one_stopped : (m : Setting) (w : World) (l : Ledger) (write : Bool) (p page : ℕ) (rest : List (Bool × ℕ)) (added : List Note) (stop : served.Stop) →
     Touches m w l write (p, page) added (Some stop)
     → Accesses m w l p ((write, page) ∷ rest) (page_events write (p, page) added (Some stop)) (Stopped page stop)
 one_stopped m w l write p page rest added stop h = inr (added, stop, h, refl, refl)
@@ -78,7 +78,7 @@ one_stopped m w l write p page rest added stop h = inr (added, stop, h, refl, re
 rose-both : (m n k a b c : ℕ) → RoseBy m a b → RoseBy n b c → k ≤ m + n → RoseBy k a c
 rose-both m n k a b c h g few = omega (arith, h, g, few)
 
-causes-append : (xs ys : List Note) (end : Option Stop) (a b c : ℕ) → RoseBy (causes_of_access xs None) a b → RoseBy (causes_of_access ys end) b c →
+pub causes-append : (xs ys : List Note) (end : Option Stop) (a b c : ℕ) → RoseBy (causes_of_access xs None) a b → RoseBy (causes_of_access ys end) b c →
     RoseBy (causes_of_access (xs ++ ys) end) a c
 causes-append xs ys end a b c h g = rose-both (causes_of_access xs None) (causes_of_access ys end) (causes_of_access (xs ++ ys) end) a b c h g
     (let both = how_many-append is_fail xs ys in few (fails (xs ++ ys)) (fails xs) (fails ys)
@@ -90,7 +90,7 @@ causes-append xs ys end a b c h g = rose-both (causes_of_access xs None) (causes
 -- ---- one page
 
 -- what happened at one page is an access of it
-pub page-served : {d d' : Device} (s : State) (new : Mem) (write : Bool) (p page at : ℕ) (piece : List ℕ) (before now : List Note) (stop : Option Stop)
+unfoldable pub page-served : {d d' : Device} (s : State) (new : Mem) (write : Bool) (p page at : ℕ) (piece : List ℕ) (before now : List Note) (stop : Option Stop)
     → IsPageStep d d' s new write p page at piece before now stop
     → HasServed d d' s new p ((write, page) ∷ []) (world_after write p page at piece stop) before now stop page
 page-served {d} {d'} s new write p page at piece before now stop h = record {
@@ -156,12 +156,13 @@ stopped-more m w l p (x ∷ xs) rest es page stop (inl h) =
     inl (h.0, h.1, h.2, h.3, stopped-more m w (after_all l (page_events x.0 (p, x.1) h.0 None)) p xs rest h.1 page stop h.4)
 stopped-more m w l p (x ∷ xs) rest es page stop (inr h) = inr h
 
-pub served-more : {d d' : Device} (s : State) (new : Mem) (p : ℕ) (xs rest : List (Bool × ℕ)) (change : World → World) (before now : List Note) (stop : Stop)
-    (page : ℕ) → HasServed d d' s new p xs change before now (Some stop) page → HasServed d d' s new p (xs ++ rest) change before now (Some stop) page
-served-more {d} {d'} s new p xs rest change before now stop page h = record {
+unfoldable pub served-more : {d d' : Device} (s : State) (new : Mem) (p : ℕ) (xs rest all : List (Bool × ℕ)) → xs ++ rest ≡ all → (change : World → World) (before now : List Note) (stop : Stop)
+    (page : ℕ) → HasServed d d' s new p xs change before now (Some stop) page → HasServed d d' s new p all change before now (Some stop) page
+served-more {d} {d'} s new p xs rest all is change before now stop page h = record {
   events = h.events;
   notes = h.notes;
-  accesses = stopped-more (setting_by d new) s.world s.ledger p xs rest h.events page (stop_of stop) h.accesses;
+  accesses = subst (λ turns. Accesses (setting_by d new) s.world s.ledger p turns h.events (Stopped page (stop_of stop))) is
+      (stopped-more (setting_by d new) s.world s.ledger p xs rest h.events page (stop_of stop) h.accesses);
   next = h.next;
   world = h.world;
   ledger = h.ledger;
@@ -173,11 +174,11 @@ served-more {d} {d'} s new p xs rest change before now stop page h = record {
   failures = h.failures;
 }
 
-module _ {d d' d'' : Device} (s : State) (mid new : Mem) (p : ℕ) (xs ys : List (Bool × ℕ)) (first then both : World → World)
+module _ {d d' d'' : Device} (s : State) (mid new : Mem) (p : ℕ) (xs ys turns : List (Bool × ℕ)) (first then both : World → World)
     (before now after : List Note) (stop : Option Stop) (last page : ℕ) (same : frame_count new ≡ frame_count mid)
     (h : HasServed d d' s mid p xs first before now None last) (g : HasServed d' d'' h.next new p ys then now after stop page) where
   -- the later pages are served over the device as it is then, which is the same
-  setting-same : setting_by d' new ≡ setting_by d new
+  pub setting-same : setting_by d' new ≡ setting_by d new
   setting-same = setting_same (frame_count new) d d' h.same
 
   abbrev all : List Event
@@ -190,21 +191,22 @@ module _ {d d' d'' : Device} (s : State) (mid new : Mem) (p : ℕ) (xs ys : List
   abbrev loaded : World
   loaded = with_loads (setting_by d mid) s.world s.ledger h.events
 
-  pub served-append : LeavesMarks p first
+  unfoldable pub served-append : xs ++ ys ≡ turns → LeavesMarks p first
       → with_loads (setting_by d new) (first loaded) h.next.ledger g.events ≡ first (with_loads (setting_by d new) loaded h.next.ledger g.events)
-      → ((w : World) → then (first w) ≡ both w) → HasServed d d'' s new p (xs ++ ys) both before after stop page
-  served-append leaves loads composed = record {
+      → ((w : World) → then (first w) ≡ both w) → HasServed d d'' s new p turns both before after stop page
+  served-append is leaves loads composed = record {
     events = all;
     notes = g.notes ∙ ap (λ ns. ns ++ notes_of g.events) h.notes ∙ append_assoc before (notes_of h.events) (notes_of g.events)
         ∙ ap (λ ns. before ++ ns) (sym notes-all);
-    accesses = accesses-append (setting_by d new) s.world h.next.world s.ledger p xs ys h.events g.events (end_at stop page)
+    accesses = subst (λ turns. Accesses (setting_by d new) s.world s.ledger p turns all (end_at stop page)) is
+        (accesses-append (setting_by d new) s.world h.next.world s.ledger p xs ys h.events g.events (end_at stop page)
         (alike-by-allowed s.world h.next.world p (λ wants page. allowed-loaded (setting_by d mid) s.world s.ledger h.events wants p page
         ∙ leaves.allowed loaded wants page ∙ ap (λ w. is_allowed w wants (p, page)) (sym h.world))
         (λ q page. sym (locked-loads (setting_by d mid) s.world s.ledger h.events q page)
         ∙ leaves.locked loaded q page ∙ ap (λ w. is_locked_page (pages w q page)) (sym h.world)))
         (subst (λ n. Accesses (setting_of n d) s.world s.ledger p xs h.events Whole) (sym same) h.accesses)
         (subst (λ l. Accesses (setting_by d new) h.next.world l p ys g.events (end_at stop page)) h.ledger
-        (subst (λ m. Accesses m h.next.world h.next.ledger p ys g.events (end_at stop page)) setting-same g.accesses));
+        (subst (λ m. Accesses m h.next.world h.next.ledger p ys g.events (end_at stop page)) setting-same g.accesses)));
     next = g.next;
     world = g.world ∙ ap then ((λ i. with_loads (setting-same i) (h.world i) h.next.ledger g.events) ∙ loads
         ∙ ap first (ap (λ l. with_loads (setting_by d new) loaded l g.events) h.ledger ∙ whole))

@@ -93,7 +93,7 @@ none_goes anons left on now there homes h = λ i. record { next = h.next i; anon
     still v page own index None home is = absurd (false≢true (ap is_some home))
     still v page own index (Some area) home is = by area.anon home
       where
-        by : (a : Option ℕ) → option_map (λ (own : ℕ). (own, index_of area page)) a ≡ Some (own, index) → is_in v (chain_by anons a) ≡ true
+        by : (a : Option ℕ) → option_map {U = ℕ × ℕ} (λ (own : ℕ). (own, index_of area page)) a ≡ Some (own, index) → is_in v (chain_by anons a) ≡ true
         by None e = absurd (false≢true (ap is_some e))
         by (Some b) e = ap (λ b. is_in v (chain_by anons (Some b))) (ap (λ (x : ℕ × ℕ). x.0) (same_Some (b, index_of area page) (own, index) e)) ∙ is
 
@@ -109,7 +109,7 @@ none_goes anons left on now there homes h = λ i. record { next = h.next i; anon
                 → IsSomeAnd (now x.0 x.1) (λ area. is_in v (chain_by anons area.anon) ≡ true)
             own None f is = absurd (false≢true is)
             own (Some a) f is = still v x.1 a (index_of area x.1) (now x.0 x.1)
-                (homes x.0 x.1 (a, index_of area x.1) (ap (home_of x.1) e ∙ ap (option_map (λ (own : ℕ). (own, index_of area x.1))) f)) is
+                (homes x.0 x.1 (a, index_of area x.1) (ap (home_of x.1) e ∙ ap (option_map {U = ℕ × ℕ} (λ (own : ℕ). (own, index_of area x.1))) f)) is
 
     same : (v : ℕ) (o : Option AnonVma) → anons.anon v ≡ o → left.anon v ≡ anons.anon v
     same v (Some x) e = h.linked v (linked v (there v (ap is_some e)))
