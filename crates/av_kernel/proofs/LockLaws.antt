@@ -57,6 +57,9 @@ use Rattle.av_access.proofs.AccessLoads.{loads-flagged}
 use Rattle.av_kernel.proofs.ChangeLaws.{AreChanged, anons_left, change-keeps, change-steps, flag_effect, none_left_out, state_changed}
 use Rattle.av_kernel.proofs.MapLaws.{leads, lived}
 
+abbrev no_events : List Event
+no_events = []
+
 -- ---- what is refused
 
 module _ {d : Device} (k : Mem) (s : State) (p a len : ℕ) (keeps : Keeps d k s) (alive : is_some (areas_of k.spaces.processes p) ≡ true) where
@@ -138,7 +141,7 @@ module _ {d : Device} (old : Mem) (spaces : AllSpaces) (anons : AnonSet) (s : St
   abbrev event : Event
   event = lock_event set (pages s.world p) p (page_of a) (pages_met a len)
 
-  ranges : is_some (ranges_of old.spaces.processes p) ≡ true
+  pub ranges : is_some (ranges_of old.spaces.processes p) ≡ true
   ranges = alive_is old.spaces.processes p ∙ alive
 
   pub led : pages_to_hole (pages s.world p) (page_of a) (pages_met a len) ≡ n
@@ -269,11 +272,11 @@ module _ {d : Device} (old : Mem) (spaces : AllSpaces) (anons : AnonSet) (s : St
   mlock-stops less = flagged-steps old spaces anons s p a len reached true keeps alive reaches are (Mlock p a len) (Refused Enomem) refl refl
       (λ long on. refl) tt
       (mlocks (first ∷ []) (Refused Enomem) (
-      [],
+      no_events,
       refl,
       refl,
-      subst (λ b. MatchBool b (BringsIn (setting_by d old) s.world s.ledger p (page_of a) (pages_met a len) [] (Refused Enomem))
-          (([] {A = Event} ≡ []) × (Refused Enomem ≡ Refused Enomem)))
+      subst (λ b. MatchBool b (BringsIn (setting_by d old) s.world s.ledger p (page_of a) (pages_met a len) no_events (Refused Enomem))
+          ((no_events ≡ []) × (Refused Enomem ≡ Refused Enomem)))
           (sym (hole_met old spaces anons s p a len reached true keeps alive reaches are less)) (refl, refl),
     ))
       (ap (λ b. cond b s.world (with_lock true s.world p (page_of a) (pages_met a len))) fits)
