@@ -192,7 +192,7 @@ summed n seed lines total names status last old new device device' device'' kern
         run = run;
         others = over.does.others;
         works = over.does.works;
-        told = inl (only_told (done-is-no-memory status done) over.does.told);
+        told = inl (only_told over.does.told (done-is-no-memory status done));
         ends = ends-work last old new over.does.others _ (over.does.all done)
             (subst (λ (text : List ℕ). SumsUp last old new text) is (sums run.state left.stands));
         handed_back = hands_if (can_go_on last) (λ k. IsHandedBack k device' n run) kernel left;
