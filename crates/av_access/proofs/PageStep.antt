@@ -114,12 +114,12 @@ module _ {d d' : Device} (s : State) (p page : ℕ) (before now : List Note) (sa
   bare false w = refl
 
   pub ready_served : (f : ℕ) → IsTouched d d' s new write (p, page) before now (Ready f) → IsPageStep d d' s new write p page 0 [] before now None
-  ready_served f t = unwritten s p page 0 [] before now same new write t.added None t.notes t.touches t.served (bare write)
-      (rose-served t.added d.failures d'.failures t.failures)
+  ready_served f t = unwritten s p page 0 [] before now same new write t.added None t.noted.notes t.touches t.served (bare write)
+      (rose-served t.added d.failures d'.failures t.noted.failures)
 
   pub zeros_served : IsTouched d d' s new write (p, page) before now Zeros → IsPageStep d d' s new write p page 0 [] before now None
-  zeros_served t = unwritten s p page 0 [] before now same new write t.added None t.notes t.touches t.served (bare write)
-      (rose-served t.added d.failures d'.failures t.failures)
+  zeros_served t = unwritten s p page 0 [] before now same new write t.added None t.noted.notes t.touches t.served (bare write)
+      (rose-served t.added d.failures d'.failures t.noted.failures)
 
 -- the memories after the loads of a page that was read
 abbrev pub loaded : Device → State → Mem → ℕ → ℕ → List Note → World

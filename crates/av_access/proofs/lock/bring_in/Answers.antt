@@ -1,7 +1,7 @@
 -- Each page that is served, or passed over, came in; one that stops ends it.
-use Rattle.std.proofs.Common.{◌≡◌, ◌+◌, ◌-◌, ◌<◌, ◌≤◌, Some, sym, subst, ap, ◌∙◌, arith}
+use Rattle.std.proofs.Common.{◌≡◌, ◌+◌, ◌-◌, ◌<◌, ◌≤◌, Some, refl, sym, subst, ap, ◌∙◌, arith}
 use Rattle.av_step.specs.Step.{IsSteadyFor}
-use Rattle.av_plain.proofs.Wrote.{device-on}
+use Rattle.av_plain.proofs.Wrote.{device-itself, device-on}
 use Rattle.av_access.proofs.AccessParts.{none_left}
 use Rattle.av_access.proofs.LockTurns.{all_came, none_came, turn_goes_on, turn_stops}
 use Rattle.av_access.proofs.lock.bring_in.Goals as goal
@@ -11,8 +11,15 @@ bring_in_page-requires g c = record {
   steady = subst (λ sizes. IsSteadyFor sizes c.args.process c.loop-page.mem) (sym c.loop-page.invariant.same.sizes) c.loop-page.invariant.steady;
 }
 
-pub loop-page-start : goal.loop-page-start
-loop-page-start g c = ?
+pub loop-page-init : goal.loop-page-init
+loop-page-init g c = record {
+  low = omega arith;
+  high = omega arith;
+  in_turn = λ s keeps. none_came s c.args.mem.now c.args.process c.args.from c.args.notes.now keeps;
+  steady = c.requires.steady;
+  same = device-itself _;
+  count = refl;
+}
 
 pub returns-in-Some-clause-in_turn : goal.returns-in-Some-clause-in_turn
 returns-in-Some-clause-in_turn g c = λ s keeps.

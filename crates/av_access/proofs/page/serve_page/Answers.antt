@@ -11,7 +11,7 @@ touch-requires g c = c.requires.steady.0
 pub returns-in-Ready-clause-step : goal.returns-in-Ready-clause-step
 returns-in-Ready-clause-step g c = λ s keeps.
     ready_served s c.args.process c.args.page c.args.notes.now c.touch.new.notes (c.touch.ensures.ready true).same c.touch.new.mem c.args.write
-    c.in-Ready.frame (rw c.in-Ready.is at ((c.in_ok-touch.ensures.ready true).step s keeps))
+    c.in-Ready._frame (rw c.in-Ready.is at ((c.in_ok-_frame.ensures.ready true).step s keeps))
 
 pub returns-in-Ready-clause-steady : goal.returns-in-Ready-clause-steady
 returns-in-Ready-clause-steady g c =
@@ -20,14 +20,14 @@ returns-in-Ready-clause-steady g c =
     (g.D.SwapDev.failures c.touch.new.dev, g.D.SwapDev.history c.touch.new.dev)
     h.state c.touch.new.mem c.args.write c.args.process c.args.page 0 [] c.args.notes.now c.touch.new.notes None h.lives
     (ready_served h.state c.args.process c.args.page c.args.notes.now c.touch.new.notes (c.touch.ensures.ready false).same c.touch.new.mem c.args.write
-    c.in-Ready.frame (rw c.in-Ready.is at ((c.in_ok-touch.ensures.ready false).step h.state h.keeps)))
+    c.in-Ready._frame (rw c.in-Ready.is at ((c.in_ok-_frame.ensures.ready false).step h.state h.keeps)))
 
 -- ---- from the page of zeros
 
 pub returns-in-Zeros-clause-step : goal.returns-in-Zeros-clause-step
 returns-in-Zeros-clause-step g c = λ s keeps.
     zeros_served s c.args.process c.args.page c.args.notes.now c.touch.new.notes (c.touch.ensures.ready true).same c.touch.new.mem c.args.write
-    (rw c.in-Zeros.is at ((c.in_ok-touch.ensures.ready true).step s keeps))
+    (rw c.in-Zeros.is at ((c.in_ok-_frame.ensures.ready true).step s keeps))
 
 pub returns-in-Zeros-clause-steady : goal.returns-in-Zeros-clause-steady
 returns-in-Zeros-clause-steady g c =
@@ -36,14 +36,14 @@ returns-in-Zeros-clause-steady g c =
     (g.D.SwapDev.failures c.touch.new.dev, g.D.SwapDev.history c.touch.new.dev)
     h.state c.touch.new.mem c.args.write c.args.process c.args.page 0 [] c.args.notes.now c.touch.new.notes None h.lives
     (zeros_served h.state c.args.process c.args.page c.args.notes.now c.touch.new.notes (c.touch.ensures.ready false).same c.touch.new.mem c.args.write
-    (rw c.in-Zeros.is at ((c.in_ok-touch.ensures.ready false).step h.state h.keeps)))
+    (rw c.in-Zeros.is at ((c.in_ok-_frame.ensures.ready false).step h.state h.keeps)))
 
 -- ---- not served
 
 pub returns-in-Stopped-clause-step : goal.returns-in-Stopped-clause-step
 returns-in-Stopped-clause-step g c = λ s keeps.
     stopped s c.args.process c.args.page 0 [] c.args.notes.now c.touch.new.notes (c.touch.ensures.ready true).same c.touch.new.mem c.args.write
-    c.in-Stopped.stop (rw c.in-Stopped.is at ((c.in_ok-touch.ensures.ready true).step s keeps))
+    c.in-Stopped.stop (rw c.in-Stopped.is at ((c.in_ok-_frame.ensures.ready true).step s keeps))
 
 pub returns-in-Stopped-clause-steady : goal.returns-in-Stopped-clause-steady
 returns-in-Stopped-clause-steady g c =
@@ -52,13 +52,13 @@ returns-in-Stopped-clause-steady g c =
     (g.D.SwapDev.failures c.touch.new.dev, g.D.SwapDev.history c.touch.new.dev)
     h.state c.touch.new.mem c.args.write c.args.process c.args.page 0 [] c.args.notes.now c.touch.new.notes (Some c.in-Stopped.stop) h.lives
     (stopped h.state c.args.process c.args.page 0 [] c.args.notes.now c.touch.new.notes (c.touch.ensures.ready false).same c.touch.new.mem
-    c.args.write c.in-Stopped.stop (rw c.in-Stopped.is at ((c.in_ok-touch.ensures.ready false).step h.state h.keeps)))
+    c.args.write c.in-Stopped.stop (rw c.in-Stopped.is at ((c.in_ok-_frame.ensures.ready false).step h.state h.keeps)))
 
-pub returns-in_err-touch-clause-same : goal.returns-in_err-touch-clause-same
-returns-in_err-touch-clause-same g c = (c.touch.ensures.ready true).same
+pub returns-in_err-_frame-clause-same : goal.returns-in_err-_frame-clause-same
+returns-in_err-_frame-clause-same g c = (c.touch.ensures.ready true).same
 
-pub returns-in_err-touch-clause-count : goal.returns-in_err-touch-clause-count
-returns-in_err-touch-clause-count g c = (c.touch.ensures.ready true).count
+pub returns-in_err-_frame-clause-count : goal.returns-in_err-_frame-clause-count
+returns-in_err-_frame-clause-count g c = (c.touch.ensures.ready true).count
 
 pub returns-in-Ready-clause-same : goal.returns-in-Ready-clause-same
 returns-in-Ready-clause-same g c = (c.touch.ensures.ready true).same
