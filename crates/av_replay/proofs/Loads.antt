@@ -109,7 +109,7 @@ loaded-over n seed lines names status old new kernel few short left source sourc
   tries = over.tries;
   all = elim over.all [
     | inl all ↦ inl all
-    | inr wanting ↦ inr (wanting.0, (ap (λ (p : PortsView). p.device) wanting.1.0, wanting.1.1))
+    | inr memory ↦ inr (memory.0, (ap (λ (p : PortsView). p.device) memory.1.0, memory.1.1))
   ];
   does = loaded n (length names) seed lines status (record old { device = over.attached }) new kernel few short left source source' sink sink'
       over.does.headline;
@@ -141,7 +141,7 @@ wanting n seed lines names status sink device device' kernel not over = record {
   attaches = over.attaches;
   failed = over.failed;
   tries = over.tries;
-  all = elim over.all [ inl all ↦ inl all | inr wanting ↦ inr (wanting.0, (refl, wanting.1.0, wanting.1.1)) ];
+  all = elim over.all [ inl all ↦ inl all | inr memory ↦ inr (memory.0, (refl, memory.1.0, memory.1.1)) ];
   does = record {
     run = over.does.run;
     others = over.does.others;
