@@ -190,11 +190,11 @@ module _ {d : Device} (old : Mem) (spaces : AllSpaces) (anons : AnonSet) (s : St
         ledger = refl;
         free = subst (λ closing. ChoosesAll (setting_by d old) closing s.ledger (event ∷ []) s.free (free_of (view old))) (sym open_all)
             (subst (λ free. ChoosesAll (setting_by d old) None s.ledger (event ∷ []) free (free_of (view old))) keeps.stands.free (
-            free_of (view old),
-            chooses-nothing (setting_by d old) None s.ledger event (free_of (view old))
-                (record { frames = λ g used. used; slots = λ t used. used }) refl refl refl refl,
-            refl,
-          ));
+              free_of (view old),
+              chooses-nothing (setting_by d old) None s.ledger event (free_of (view old))
+                  (record { frames = λ g used. used; slots = λ t used. used }) refl refl refl refl,
+              refl,
+            ));
         rmap = next-plain (rmap_after_all s.ledger (event ∷ []) (rmap_of s)) s.world command answer _ plain (record {
           areas = areas-are ∙ sym (stay (chain_length s.anons) (rmap_after_all s.ledger (event ∷ []) (rmap_of s)).areas);
           anons = anons_left old spaces anons s p (page_of a) n (to_flag Locked set) (with_page_flag Locked set) keeps ranges (flag_effect Locked set) are;
@@ -272,13 +272,13 @@ module _ {d : Device} (old : Mem) (spaces : AllSpaces) (anons : AnonSet) (s : St
   mlock-stops less = flagged-steps old spaces anons s p a len reached true keeps alive reaches are (Mlock p a len) (Refused Enomem) refl refl
       (λ long on. refl) tt
       (mlocks (first ∷ []) (Refused Enomem) (
-      no_events,
-      refl,
-      refl,
-      subst (λ b. MatchBool b (BringsIn (setting_by d old) s.world s.ledger p (page_of a) (pages_met a len) no_events (Refused Enomem))
-          ((no_events ≡ []) × (Refused Enomem ≡ Refused Enomem)))
-          (sym (hole_met old spaces anons s p a len reached true keeps alive reaches are less)) (refl, refl),
-    ))
+        no_events,
+        refl,
+        refl,
+        subst (λ b. MatchBool b (BringsIn (setting_by d old) s.world s.ledger p (page_of a) (pages_met a len) no_events (Refused Enomem))
+            ((no_events ≡ []) × (Refused Enomem ≡ Refused Enomem)))
+            (sym (hole_met old spaces anons s p a len reached true keeps alive reaches are less)) (refl, refl),
+      ))
       (ap (λ b. cond b s.world (with_lock true s.world p (page_of a) (pages_met a len))) fits)
 
   -- all are locked, and then come in
