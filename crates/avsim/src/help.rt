@@ -69,13 +69,13 @@ Commands
     .. dofork            it does again
     .. wipeonfork        a child has zeros in its place
     .. keeponfork        it doesn't any more
-  mlock P A LEN          the range comes in and is locked: its frames aren't
-                         taken from it
-  munlock P A LEN        it is locked no more
+  mlock P A LEN          the pages of the range are locked, and come in: no
+                         reclaim and no pass takes their frames
+  munlock P A LEN        they are locked no more
   read P A N             read N bytes at A
   write P A HEX          write the bytes HEX at A
   maps P                 the longest runs of pages with one protection
-  areas P                the areas, with own anon_vmas and chains
+  areas P                the areas, with own anon_vmas, chains and flags
   rmap P A               process and page of each entry of the page's frame
   entry P A              the page-table entry: none, zeros, a frame or a slot
   stat                   how many frames, slots and processes there are
@@ -95,7 +95,7 @@ Replies
   segv k                 its page isn't mapped, or the protection forbids it
   oom k pinned= noslot= fault=
                          no frame could be freed; the numbers say why, with
-                         locked= where frames are
+                         locked= behind them where frames are locked
   bus k                  the device didn't give its page
   err ENOMEM pinned= noslot= fault=
                          swapoff: no frame could be freed; what it brought
