@@ -69,10 +69,13 @@ Commands
     .. dofork            it does again
     .. wipeonfork        a child has zeros in its place
     .. keeponfork        it doesn't any more
+  mlock P A LEN          the pages of the range are locked, and come in: no
+                         reclaim and no pass takes their frames
+  munlock P A LEN        they are locked no more
   read P A N             read N bytes at A
   write P A HEX          write the bytes HEX at A
   maps P                 the longest runs of pages with one protection
-  areas P                the areas, with own anon_vmas and chains
+  areas P                the areas, with own anon_vmas, chains and flags
   rmap P A               process and page of each entry of the page's frame
   entry P A              the page-table entry: none, zeros, a frame or a slot
   stat                   how many frames, slots and processes there are
@@ -91,7 +94,8 @@ Replies
   is the first that wasn't served:
   segv k                 its page isn't mapped, or the protection forbids it
   oom k pinned= noslot= fault=
-                         no frame could be freed; the numbers say why
+                         no frame could be freed; the numbers say why, with
+                         locked= behind them where frames are locked
   bus k                  the device didn't give its page
   err ENOMEM pinned= noslot= fault=
                          swapoff: no frame could be freed; what it brought
@@ -107,8 +111,8 @@ Replies
   start K:M              the write of a slot is in flight
   done K:M, fail K:M     it ended well, or not
   drop K:M               the slot is cached no longer
-  keep f CAUSE           reclaim kept frame f: referenced, writeback, noslot,
-                         or its write has just started
+  keep f CAUSE           reclaim kept frame f: locked, writeback, referenced,
+                         noslot, or its write has just started
   age f                  frame f is inactive now
 
 Example
