@@ -164,6 +164,12 @@ never-attaches status old new text (inl memory) fault =
     let e : statuses.Memory ≡ statuses.AttachFault = sym memory.0 ∙ fault in absurd cc
 never-attaches status old new text (inr ends) fault = absurd (subst (λ (s : Status). EndsText s old new text) fault ends)
 
+-- nor in a usage error
+pub never-misused : (status : Status) (old new : SinkView) (text : List ℕ) → SumsUp status old new text → status ≢ statuses.Usage
+never-misused status old new text (inl memory) usage =
+    let e : statuses.Memory ≡ statuses.Usage = sym memory.0 ∙ usage in absurd cc
+never-misused status old new text (inr ends) usage = absurd (subst (λ (s : Status). EndsText s old new text) usage ends)
+
 -- every line was done, and then this summary was written
 pub summed : (n seed lines total : ℕ) (names : List (List ℕ)) (status last : Status) (old new : SinkView) (device device' device'' : Device) (kernel : Machine) →
     status ≡ statuses.Done → total ≡ length names + 2 + lines → device'' ≡ device' →
