@@ -1,0 +1,3 @@
+pub mod MoveCounts
+pub mod MoveStands
+pub mod MoveSteps
