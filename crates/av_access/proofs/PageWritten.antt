@@ -5,20 +5,21 @@ use Rattle.std.proofs.lemmas.Bool.Decides.{nat_tests}
 use Rattle.std.proofs.lemmas.Bool.{false≢true}
 use Rattle.std.specs.Prelude.{IfSome}
 use Rattle.std.specs.Ordering.{nat_cmp, eq_by_cmp}
+use Rattle.av_base.specs.Keys.{key_cmp, same_key}
+use Rattle.av_base.proofs.Keys.{keys_total, same_key-itself}
 use Rattle.av_base.specs.Limits.{most_processes}
 use Rattle.av_base.specs.Words.{within, with_at}
 use Rattle.av_base.specs.declared.slot.Slot.{Slot}
 use Rattle.av_frames.specs.Store.{overlaid}
 use Rattle.av_plain.specs.World.{World, Process, Page, pages, lives, with_bytes, set_process}
-use Rattle.av_plain.specs.Ledger.{Cached, Entry, InFrame, InSlot, Ledger, Setting, Zero, entry, key_cmp, same_slot, slot_of}
+use Rattle.av_plain.specs.Ledger.{Cached, Entry, InFrame, InSlot, Ledger, Setting, Zero, entry, same_slot, slot_of}
 use Rattle.av_plain.specs.Event.{after_use, after_use_of, if_some, set_entry, with_stale}
 use Rattle.av_plain.specs.Fault.{asks_copy}
 use Rattle.av_plain.specs.Access.{after_write}
 use Rattle.av_plain.specs.Sound.{AtPages, IsSound, IsTidy, no_excuse}
 use Rattle.av_plain.specs.Stands.{View, IsKept, AreasStand, BytesStand}
 use Rattle.av_plain.specs.World.{Holds}
-use Rattle.av_plain.proofs.Ledger.{entry-set, same_key, same_key-itself}
-use Rattle.av_plain.proofs.Ledger.Order.{keys_total}
+use Rattle.av_plain.proofs.Ledger.{entry-set}
 use Rattle.av_plain.proofs.World.{is_sorted-set, length-set_old, lives-set, pages-set}
 use Rattle.av_swap_laws.specs.Held.{Held, IsHeld}
 use Rattle.av_swap_laws.proofs.Cache.{once-of, slot_of-stale}

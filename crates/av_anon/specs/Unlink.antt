@@ -1,8 +1,8 @@
 -- What an area that goes leaves.
 use Rattle.std.specs.Prelude.{ℕ, Bool, ◌&&◌, List, [], if◌then◌else◌, Option, Some, None}
 use Rattle.std.specs.Prelude.{option_map}
-use Rattle.av_base.specs.Words.{how_many, is_in, with_at}
-use Rattle.av_chain.specs.Links.{left_by_all, without}
+use Rattle.av_base.specs.Words.{how_many, is_in, with_at, without}
+use Rattle.av_chain.specs.Links.{left_by_all}
 use Rattle.av_anon.specs.declared.infos.Info.{Info}
 use Rattle.av_anon.specs.Infos.{less_active, less_children, with_info, without_children}
 use Rattle.av_anon.specs.Anons.{Family, is_empty}

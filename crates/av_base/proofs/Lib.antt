@@ -1,1 +1,3 @@
 pub mod Counted
+pub mod Keys
+pub mod Without

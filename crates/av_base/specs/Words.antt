@@ -1,7 +1,7 @@
 -- Words on ranges of numbers, on lists and counting, on functions that differ at one place, and on
 -- numbers of which one takes another's place.
 use Rattle.std.specs.Prelude.{ℕ, ◌+◌, Bool, ◌&&◌, ◌==◌, nat_lt, nat_le, if◌then◌else◌, List, []}
-use Rattle.std.specs.Prelude.{◌∷◌}
+use Rattle.std.specs.Prelude.{◌∷◌, filter, not}
 use Rattle.std.specs.List.{list_any}
 
 -- whether x is one of the n numbers from a on
@@ -11,6 +11,10 @@ within a n x = nat_le a x && nat_lt x (a + n)
 -- whether a number is in a list
 abbrev pub is_in : ℕ → List ℕ → Bool
 is_in x xs = list_any (λ y. x == y) xs
+
+-- the others of a list, in their order
+abbrev pub without : ℕ → List ℕ → List ℕ
+without x xs = filter (λ y. not (x == y)) xs
 
 -- how many pass the test
 abbrev pub how_many : {X : Type 0} → (X → Bool) → List X → ℕ

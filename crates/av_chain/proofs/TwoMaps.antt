@@ -1,8 +1,8 @@
 -- The two maps that a list of links is.
-use Rattle.av_base.specs.Words.{how_many, is_in, with_at}
+use Rattle.av_base.specs.Words.{how_many, is_in, with_at, without}
 use Rattle.std.proofs.Common.{◌≡◌, ℕ, ◌+◌, arith, true, false, cond, ◌||◌, ◌==◌, List, [], ◌∷◌, ◌++◌, refl, sym, ap, ◌∙◌, Option, Some, None, append-nil}
 use mathlib.Core.Bool.{Bool}
-use Rattle.av_chain.specs.Links.{Link, chain_of, users_of, without, first_in, rest_in, left_by, left_by_all, one_if, AreMutual, AreOnce, without_first}
+use Rattle.av_chain.specs.Links.{Link, chain_of, users_of, first_in, rest_in, left_by, left_by_all, one_if, AreMutual, AreOnce, without_first}
 use Rattle.av_chain.proofs.Altered.{either, cond_lift, cond_same}
 use Rattle.av_chain.proofs.Threads.{number_eq, same_number}
 use Rattle.av_chain.proofs.Wholes.{chain_append, is_in_append, or_false}

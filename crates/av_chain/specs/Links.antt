@@ -1,7 +1,7 @@
 -- The links as they were made one after another, and the two maps that they are.
 use Rattle.std.specs.Prelude.{◌≡◌, ℕ, Bool, false, ◌==◌, cond, if◌then◌else◌, List, [], ◌∷◌, Option}
 use Rattle.std.specs.Prelude.{Some, None}
-use Rattle.av_base.specs.Words.{is_in, how_many, with_at}
+use Rattle.av_base.specs.Words.{how_many, is_in, with_at, without}
 
 -- an area, and an anon_vma that it is linked to
 abbrev pub Link : Type 0
@@ -16,11 +16,6 @@ chain_of (l ∷ ls) area = cond (area == l.0) (l.1 ∷ chain_of ls area) (chain_
 abbrev pub users_of : List Link → ℕ → List ℕ
 users_of [] anon = []
 users_of (l ∷ ls) anon = cond (anon == l.1) (l.0 ∷ users_of ls anon) (users_of ls anon)
-
--- the others
-abbrev pub without : ℕ → List ℕ → List ℕ
-without x [] = []
-without x (y ∷ ys) = cond (x == y) (without x ys) (y ∷ without x ys)
 
 abbrev pub first_in : List ℕ → Option ℕ
 first_in [] = None

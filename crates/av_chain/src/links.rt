@@ -1,8 +1,8 @@
 //! The links, as two maps.
-ghost use Rattle.av_base.specs.Words.{is_in, with_at};
+ghost use Rattle.av_base.specs.Words.{is_in, with_at, without};
 ghost use Rattle.std.specs.Prelude.{◌≡◌, ℕ, ◌+◌, [], ◌∷◌, ◌++◌, true, false, IfOk, OnOk, OnErr};
 ghost use Rattle.std.specs.Prelude.{length};
-ghost use Rattle.av_chain.specs.Links.{chain_of, users_of, without, first_in, after_in, AreMutual};
+ghost use Rattle.av_chain.specs.Links.{chain_of, users_of, first_in, after_in, AreMutual};
 
 use crate::lists::Lists;
 use crate::ring::{Ring, unlink_from};

@@ -1,13 +1,14 @@
 -- No step of a pass or a reclaim changes which frames are those of locked pages, where an unmap is of a frame that isn't.
 use Rattle.std.proofs.Common.{Bool, List, None, Option, Some, [], ap, cond, false, filter, map, refl, sym, true, ℕ, ◌==◌, ◌||◌, ◌∙◌, ◌∷◌, ◌≡◌}
 use Rattle.std.specs.List.{list_any}
+use Rattle.av_base.specs.Keys.{Key}
 use Rattle.av_base.specs.declared.slot.Slot.{Slot}
 use Rattle.av_trace.specs.declared.note.Cause.{Cause}
 use Rattle.av_trace.specs.declared.note.Cause.TheVariants.{Ksm, Locked, NoSlot, Referenced, WriteStarted, Writeback}
 use Rattle.av_trace.specs.declared.note.Note.TheVariants.{Aged, Dropped, Kept, Put, Started, Unmapped}
 use Rattle.av_plain.specs.Event.{after_note, change_entries, if_some, off_cache, without_seen}
 use Rattle.av_plain.specs.Fault.{is_locked}
-use Rattle.av_plain.specs.Ledger.{Entry, InFrame, InSlot, Key, Ledger, Zero, frame_at, names_frame, slot_of}
+use Rattle.av_plain.specs.Ledger.{Entry, InFrame, InSlot, Ledger, Zero, frame_at, names_frame, slot_of}
 use Rattle.av_plain.specs.Pass.{end_note}
 use Rattle.av_plain.specs.World.{World, is_locked_page, pages}
 use Rattle.av_plain.proofs.Sound.Steps.{alike-end_note, alike-started, settle-entries}

@@ -3,17 +3,17 @@ use Rattle.std.proofs.Common.{slice_get, Bool, List, None, Option, Some, [], ap,
 use Rattle.std.specs.Prelude.{MatchOption}
 use Rattle.std.proofs.lemmas.Bool.Decides.{nat_tests}
 use Rattle.std.proofs.lemmas.List.{append-nil, length-append, length-reverse, reverse-append, reverse-reverse, take-append-le, take_min}
-use Rattle.av_base.specs.Words.{how_many}
+use Rattle.av_base.proofs.Without.{without-append, without-none}
+use Rattle.av_base.specs.Words.{how_many, without}
 use Rattle.av_base.specs.declared.slot.Slot.{Slot}
 use Rattle.av_trace.specs.declared.note.Cause.TheVariants.{Ksm, Locked, NoSlot, Referenced, WriteStarted, Writeback}
 use Rattle.av_trace.specs.declared.note.Note.{Note}
 use Rattle.av_trace.specs.declared.note.Note.TheVariants.{Aged, Dropped, Kept, Put, Started, Unmapped}
-use Rattle.av_plain.specs.Event.{after_note, after_notes, change_entries, if_some, off_cache, off_lists, settle, when, without}
+use Rattle.av_plain.specs.Event.{after_note, after_notes, change_entries, if_some, off_cache, off_lists, settle, when}
 use Rattle.av_plain.specs.Ledger.{InSlot, Ledger, Setting, is_free, map_count, slot_of}
 use Rattle.av_plain.specs.Pass.{IsSlotFor, Spared, is_dirty, unmap_notes}
 use Rattle.av_plain.specs.Sound.{IsSound, mergings, pairs, uses}
 use Rattle.av_plain.proofs.Access.{after_notes-append}
-use Rattle.av_plain.proofs.Ledger.{without-none}
 use Rattle.av_plain.proofs.Sound.Changes.{free-is}
 use Rattle.av_plain.proofs.Sound.Counts.{holders-off_cache, same-itself}
 use Rattle.av_plain.proofs.Sound.Entries.{flag}
@@ -42,15 +42,6 @@ first-no (g ∷ fs) h = cc
 
 count-rev : (f : ℕ) (fs : List ℕ) → how_many (λ g. f == g) (reverse fs) ≡ how_many (λ g. f == g) fs
 count-rev f fs = let e = count-reverse (λ g. f == g) fs [] in omega (arith, e)
-
-without-append : (f : ℕ) (xs ys : List ℕ) → without f (xs ++ ys) ≡ without f xs ++ without f ys
-without-append f [] ys = refl
-without-append f (x ∷ xs) ys = by (f == x) (without-append f xs ys)
-  where
-    by : (b : Bool) → without f (xs ++ ys) ≡ without f xs ++ without f ys → cond (not b) (x ∷ without f (xs ++ ys)) (without f (xs ++ ys)) ≡
-        cond (not b) (x ∷ without f xs) (without f xs) ++ without f ys
-    by true h = h
-    by false h = ap (λ z. x ∷ z) h
 
 without-self : (f : ℕ) → without f (f ∷ []) ≡ []
 without-self f = by (f == f) (same-itself f)

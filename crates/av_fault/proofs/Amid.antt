@@ -7,7 +7,8 @@ use Rattle.av_vma.specs.declared.area.Area.{Area}
 use Rattle.av_plain.specs.Areas.{Anons, Areas, chain_by}
 use Rattle.av_plain.specs.Choice.{ListsAll}
 use Rattle.av_plain.specs.Event.{Event, FlagSet, Forked, FreeSorted, EntriesMoved, Noted, TurnedOff, TurnedOn, Used, Zapped, after}
-use Rattle.av_plain.specs.Ledger.{Ledger, Setting, key_cmp}
+use Rattle.av_base.specs.Keys.{key_cmp}
+use Rattle.av_plain.specs.Ledger.{Ledger, Setting}
 use Rattle.av_plain.specs.Load.{with_loads}
 use Rattle.av_plain.specs.Sound.{AreThere, AreasFit, AtPages, IsSound, IsTidy}
 use Rattle.av_plain.specs.Stands.{AnonsStand, AreasAre, AreasStand, free_of, kin_of}

@@ -5,6 +5,7 @@ use Rattle.std.proofs.lemmas.Result.{IfOk-weaker}
 use Rattle.std.specs.Option.{option_map_or}
 use Rattle.std.specs.Prelude.{Err, IfOk, Ok, Result, option_map}
 use Rattle.std.specs.declared.alloc.AllocError.{AllocError}
+use Rattle.av_base.specs.Keys.{Key}
 use Rattle.av_base.specs.Page.{address_of}
 use Rattle.av_base.specs.declared.flags.Flags.{Flags}
 use Rattle.av_base.specs.declared.slot.Slot.{Slot}
@@ -19,7 +20,7 @@ use Rattle.av_plain.specs.Areas.{Rmap, rmap_after_all, rmap_after_note}
 use Rattle.av_plain.specs.Device.{Device, as_told}
 use Rattle.av_plain.specs.Event.{Event, Noted, Used, after_all, after_notes, note_events}
 use Rattle.av_plain.specs.Fault.{ComesIn, FindsNone, IsMade, Serves, SwapIn, Touches, drop_at, is_allowed, need, need_of_slot, sparing, was_slot}
-use Rattle.av_plain.specs.Ledger.{InSlot, Key, Ledger, Setting, entry, frame_at}
+use Rattle.av_plain.specs.Ledger.{InSlot, Ledger, Setting, entry, frame_at}
 use Rattle.av_plain.specs.Load.{with_loads}
 use Rattle.av_plain.specs.Pass.{is_fail}
 use Rattle.av_plain.specs.Stands.{prot_of}

@@ -2,6 +2,8 @@
 use Rattle.std.proofs.Common.{◌≡◌, ℕ, ◌+◌, ◌-◌, ◌^◌, ◌<◌, Bool, true, false, cond, List, [], ◌∷◌, ◌++◌, Option, Some, None, IfSome, is_some, refl, sym, ap, subst, ◌∙◌, arith}
 use Rattle.std.proofs.lemmas.List.{append-nil, append_assoc}
 use Rattle.std.specs.Prelude.{IsSome, MatchOption, Err, Ok, Result, option_map, slice_index}
+use Rattle.av_base.specs.Keys.{Key}
+use Rattle.av_base.proofs.Keys.{same_key-itself}
 use Rattle.av_base.specs.Page.{address_of, page_of, page_size}
 use Rattle.av_base.specs.Words.{is_in}
 use Rattle.av_base.specs.declared.slot.Slot.{Slot}
@@ -22,7 +24,7 @@ use Rattle.av_plain.specs.Choice.{ChoosesAll}
 use Rattle.av_plain.specs.Device.{Device, IsSameDevice, as_told, Wrote}
 use Rattle.av_plain.specs.Event.{Event, Noted, after_all, after_note, after_notes, key_at, note_events, set_entry, notes_of}
 use Rattle.av_plain.specs.Fault.{ComesIn, need_of_slot, sparing}
-use Rattle.av_plain.specs.Ledger.{InFrame, InSlot, Key, Ledger, Setting, entry, frame_at, has_free, is_free}
+use Rattle.av_plain.specs.Ledger.{InFrame, InSlot, Ledger, Setting, entry, frame_at, has_free, is_free}
 use Rattle.av_plain.specs.Load.{with_loads}
 use Rattle.av_plain.specs.Pass.{TakesFor, fails, is_fail, is_spared, pages_written}
 use Rattle.av_plain.specs.Sound.{no_excuse, slots}
@@ -31,7 +33,7 @@ use Rattle.av_plain.specs.World.{World}
 use Rattle.av_plain.proofs.Access.{after_notes-append, note_events-all, note_events-append}
 use Rattle.av_plain.proofs.Covered.Page.{fit-areas}
 use Rattle.av_plain.proofs.Covered.Swap.{fit-seeks}
-use Rattle.av_plain.proofs.Ledger.{entry-set, how_many-append, same_key-itself}
+use Rattle.av_plain.proofs.Ledger.{entry-set, how_many-append}
 use Rattle.av_plain.proofs.Ledger.NoSwap.{key_at-address, key_is}
 use Rattle.av_plain.proofs.Load.{without-loads}
 use Rattle.av_plain.proofs.Sound.Access.{load-kept}

@@ -1,5 +1,7 @@
 -- A page gets a copy of its frame, and is written.
 use Rattle.std.proofs.Common.{◌≡◌, ℕ, ◌<◌, ◌==◌, Bool, true, false, cond, ◌&&◌, List, [], ◌∷◌, ◌++◌, Option, Some, None, is_some, refl, sym, ap, subst, ◌∙◌, arith}
+use Rattle.av_base.specs.Keys.{Key}
+use Rattle.av_base.proofs.Keys.{same_key-itself}
 use Rattle.av_base.specs.Page.{address_of, page_of}
 use Rattle.av_base.specs.Words.{with_at}
 use Rattle.av_base.specs.declared.slot.Slot.{Slot}
@@ -15,13 +17,13 @@ use Rattle.av_plain.specs.Choice.{ListsFree}
 use Rattle.av_plain.specs.Device.{Device}
 use Rattle.av_plain.specs.Event.{Noted, Used, after_note, after_notes, after_use}
 use Rattle.av_plain.specs.Fault.{CopyOnWrite, IsMade, Ready as NoNeed, drop_at, drop_of_entry, drop_of_slot, asks_copy, need, sparing}
-use Rattle.av_plain.specs.Ledger.{Entry, InFrame, InSlot, Zero as Zeros, Key, Ledger, Setting, entry, is_free, map_count, names_frame, slot_of}
+use Rattle.av_plain.specs.Ledger.{Entry, InFrame, InSlot, Zero as Zeros, Ledger, Setting, entry, is_free, map_count, names_frame, slot_of}
 use Rattle.av_plain.specs.Pass.{TakesFor, is_spared}
 use Rattle.av_plain.specs.Sound.{no_excuse}
 use Rattle.av_plain.specs.Stands.{Pte as Plain, View, entry_of}
 use Rattle.av_plain.specs.World.{World, pages}
 use Rattle.av_plain.proofs.Access.{after_notes-append, note_events-all}
-use Rattle.av_plain.proofs.Ledger.{entry-set, how_many-found, same_key-itself}
+use Rattle.av_plain.proofs.Ledger.{entry-set, how_many-found}
 use Rattle.av_plain.proofs.Load.{without-loads}
 use Rattle.av_plain.proofs.Event.{changed-by}
 use Rattle.av_plain.proofs.Sound.Access.{shared-is, shared-stays, sparing-pins, unused}

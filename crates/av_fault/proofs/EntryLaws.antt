@@ -1,6 +1,7 @@
 -- What stands says of the entry of a page, and of its place.
 use Rattle.std.proofs.Common.{◌≡◌, ℕ, true, Option, Some, None, is_some, IsSome, option_map, refl, sym, ap, ◌∙◌}
 use Rattle.std.proofs.lemmas.Bool.{false≢true}
+use Rattle.av_base.specs.Keys.{Key}
 use Rattle.av_base.specs.Page.{address_of, page_of}
 use Rattle.av_pagetable.specs.declared.pte.Pte.{Pte}
 use Rattle.av_pagetable.specs.Entries.{entry_at}
@@ -8,7 +9,7 @@ use Rattle.av_spaces.specs.Spaces.{pages_of}
 use Rattle.av_vma.specs.declared.area.Area.{Area}
 use Rattle.av_plain.specs.Areas.{Rmap}
 use Rattle.av_plain.specs.Device.{Device}
-use Rattle.av_plain.specs.Ledger.{Key, Ledger, entry}
+use Rattle.av_plain.specs.Ledger.{Ledger, entry}
 use Rattle.av_plain.specs.Stands.{entry_of}
 use Rattle.av_plain.specs.World.{World, pages}
 use Rattle.av_plain.proofs.Ledger.NoSwap.{key_at-address}

@@ -8,7 +8,8 @@ use Rattle.av_plain.specs.Areas.{Rmap, rmap_after_all}
 use Rattle.av_plain.specs.Device.{Device}
 use Rattle.av_plain.specs.Event.{Used, after_all, note_events}
 use Rattle.av_plain.specs.Fault.{CopyOnWrite, IsMade, Ready as NoNeed, drop_of_entry, drop_of_slot, asks_copy, need, sparing}
-use Rattle.av_plain.specs.Ledger.{InFrame, Key, Ledger, entry, slot_of}
+use Rattle.av_base.specs.Keys.{Key}
+use Rattle.av_plain.specs.Ledger.{InFrame, Ledger, entry, slot_of}
 use Rattle.av_plain.specs.Load.{with_loads}
 use Rattle.av_plain.specs.Pass.{fails}
 use Rattle.av_plain.specs.World.{World}

@@ -1,5 +1,7 @@
 -- A page gets its first frame, of zeros, and is written.
 use Rattle.std.proofs.Common.{◌≡◌, ℕ, ◌<◌, ◌==◌, true, false, cond, ◌&&◌, IsSome, IsSomeAnd, List, [], ◌∷◌, ◌++◌, Option, Some, None, is_some, refl, sym, ap, subst, ◌∙◌}
+use Rattle.av_base.specs.Keys.{Key}
+use Rattle.av_base.proofs.Keys.{same_key-itself}
 use Rattle.av_base.specs.Page.{address_of, page_of}
 use Rattle.av_anon.specs.declared.anons.Anons.{Anons as AnonSet}
 use Rattle.av_pagetable.specs.declared.pte.Pte.{Pte}
@@ -16,13 +18,13 @@ use Rattle.av_plain.specs.Choice.{ListsFree}
 use Rattle.av_plain.specs.Device.{Device}
 use Rattle.av_plain.specs.Event.{Noted, Used, after_note, after_notes, after_use}
 use Rattle.av_plain.specs.Fault.{IsMade, NewPage, drop_at, drop_of_entry, drop_of_slot, need, sparing}
-use Rattle.av_plain.specs.Ledger.{Entry, InFrame, InSlot, IsBlank, Key, Ledger, Setting, Zero, entry, is_free, slot_of}
+use Rattle.av_plain.specs.Ledger.{Entry, InFrame, InSlot, IsBlank, Ledger, Setting, Zero, entry, is_free, slot_of}
 use Rattle.av_plain.specs.Pass.{TakesFor, is_spared}
 use Rattle.av_plain.specs.Sound.{no_excuse}
 use Rattle.av_plain.specs.Stands.{View, entry_of}
 use Rattle.av_plain.specs.World.{World, pages}
 use Rattle.av_plain.proofs.Access.{after_notes-append, note_events-all}
-use Rattle.av_plain.proofs.Ledger.{entry-set, same_key-itself}
+use Rattle.av_plain.proofs.Ledger.{entry-set}
 use Rattle.av_plain.proofs.Load.{without-loads}
 use Rattle.av_plain.proofs.Sound.Access.{blank-steady, unused}
 use Rattle.av_plain.proofs.Sound.Counts.{same-itself}

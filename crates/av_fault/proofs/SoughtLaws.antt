@@ -2,6 +2,7 @@
 use Rattle.std.proofs.Common.{◌≡◌, ℕ, ◌<◌, ◌==◌, Bool, true, false, cond, ◌&&◌, nat_lt, IsSome, IsTrue, List, Option, Some, None, is_some, refl, sym, ap, subst, ◌∙◌, arith}
 use Rattle.std.proofs.lemmas.Bool.Decides.{nat_tests}
 use Rattle.std.proofs.lemmas.Bool.{false≢true}
+use Rattle.av_base.specs.Keys.{Key}
 use Rattle.av_base.specs.Words.{how_many, is_in}
 use Rattle.av_spaces.specs.Spaces.{areas_of, pages_of}
 use Rattle.av_vma.specs.Pages.{pages_in}
@@ -12,7 +13,7 @@ use Rattle.av_plain.specs.Choice.{ListsFree}
 use Rattle.av_plain.specs.Device.{Device}
 use Rattle.av_plain.specs.Event.{after_all, after_notes, note_events}
 use Rattle.av_plain.specs.Fault.{sparing}
-use Rattle.av_plain.specs.Ledger.{Key, Ledger, Setting, entry, has_free, is_free}
+use Rattle.av_plain.specs.Ledger.{Ledger, Setting, entry, has_free, is_free}
 use Rattle.av_plain.specs.Load.{with_loads}
 use Rattle.av_plain.specs.Pass.{is_spared}
 use Rattle.av_plain.specs.World.{World}

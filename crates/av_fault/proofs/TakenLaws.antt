@@ -1,6 +1,7 @@
 -- A frame is taken for a page and written: what comes behind the note, and the whole of it.
 use Rattle.std.proofs.Common.{◌≡◌, ℕ, ◌+◌, ◌==◌, Bool, true, false, cond, IfSome, List, [], ◌∷◌, ◌++◌, Option, Some, None, refl, sym, ap, subst, ◌∙◌, arith}
 use Rattle.std.proofs.lemmas.List.{append-nil, append_assoc}
+use Rattle.av_base.specs.Keys.{Key}
 use Rattle.av_base.specs.Words.{with_at}
 use Rattle.av_base.specs.declared.slot.Slot.{Slot}
 use Rattle.av_io.specs.Count.{RoseBy}
@@ -11,7 +12,7 @@ use Rattle.av_plain.specs.Areas.{Rmap, at_home}
 use Rattle.av_plain.specs.Device.{Device}
 use Rattle.av_plain.specs.Event.{Event, Noted, Used, after_notes, after_use, note_events}
 use Rattle.av_plain.specs.Fault.{FindsNone, IsMade, Need, drop_at, asks_copy, need, pinned_by, sparing, wants_frame}
-use Rattle.av_plain.specs.Ledger.{InFrame, Key, Ledger, Setting, entry, slot_of}
+use Rattle.av_plain.specs.Ledger.{InFrame, Ledger, Setting, entry, slot_of}
 use Rattle.av_plain.specs.Pass.{Seeks, fails, is_fail, out_of}
 use Rattle.av_plain.specs.Sound.{no_excuse}
 use Rattle.av_plain.specs.Stands.{entry_of}

@@ -6,6 +6,7 @@ use Rattle.std.proofs.lemmas.Result.{IfOk-weaker}
 use Rattle.std.specs.Bool.{then_some}
 use Rattle.std.specs.Prelude.{Err, IfOk, Ok, Result, option_map}
 use Rattle.std.specs.declared.alloc.AllocError.{AllocError}
+use Rattle.av_base.specs.Keys.{Key}
 use Rattle.av_base.specs.declared.slot.Slot.{Slot}
 use Rattle.av_pagetable.specs.declared.pte.Pte.{Pte}
 use Rattle.av_pagetable.specs.declared.pte.Pte.TheVariants.{Here, Zero}
@@ -19,7 +20,7 @@ use Rattle.av_plain.specs.Choice.{ChoosesAll, Free}
 use Rattle.av_plain.specs.Device.{Device, IsSameDevice, as_told, setting_of}
 use Rattle.av_plain.specs.Event.{Used, after_all, after_notes, after_use, after_use_of, when}
 use Rattle.av_plain.specs.Fault.{ComesIn, CopyOnWrite, IsMade, Need, NewPage, Ready as ReadyNeed, Serves as ServesPage, Touches, ZeroPage, drop_at, drop_of_entry, drop_of_slot, is_allowed, asks_copy, need, permits, sparing, was_slot}
-use Rattle.av_plain.specs.Ledger.{Entry, InFrame, InSlot, IsBlank, Key, Ledger, Setting, Zero as ZeroEntry, entry, in_flight, slot_entries, slot_of}
+use Rattle.av_plain.specs.Ledger.{Entry, InFrame, InSlot, IsBlank, Ledger, Setting, Zero as ZeroEntry, entry, in_flight, slot_entries, slot_of}
 use Rattle.av_plain.specs.Load.{with_loads}
 use Rattle.av_plain.specs.Sound.{IsSound}
 use Rattle.av_plain.specs.Stands.{entry_of, free_of, prot_of}

@@ -1,5 +1,7 @@
 -- A frame that a page has is read, or written in place; and its slot is dropped.
 use Rattle.std.proofs.Common.{◌≡◌, ℕ, ◌<◌, ◌==◌, Bool, true, false, cond, ◌&&◌, [], ◌∷◌, Option, Some, None, is_some, IfSome, refl, sym, ap, subst, ◌∙◌, arith}
+use Rattle.av_base.specs.Keys.{Key}
+use Rattle.av_base.proofs.Keys.{same_key-is}
 use Rattle.av_base.specs.Words.{with_at}
 use Rattle.av_base.specs.declared.slot.Slot.{Slot}
 use Rattle.av_frames.specs.Store.{Shown as ShownFrames, shown as shown_frames, with_dirty, with_home}
@@ -15,11 +17,11 @@ use Rattle.av_plain.specs.Areas.{Rmap, at_home, rmap_after_use}
 use Rattle.av_plain.specs.Device.{Device}
 use Rattle.av_plain.specs.Event.{Used, after_use, after_use_of, if_some, set_entry, with_stale}
 use Rattle.av_plain.specs.Fault.{asks_copy}
-use Rattle.av_plain.specs.Ledger.{InFrame, Key, Ledger, Setting, entry, frame_at, is_stale, map_count, names_frame, slot_of}
+use Rattle.av_plain.specs.Ledger.{InFrame, Ledger, Setting, entry, frame_at, is_stale, map_count, names_frame, slot_of}
 use Rattle.av_plain.specs.Stands.{IsKept, View, entry_of}
 use Rattle.av_plain.specs.World.{World, pages}
 use Rattle.av_plain.proofs.Load.{without-loads}
-use Rattle.av_plain.proofs.Ledger.{how_many-found, same_key-is}
+use Rattle.av_plain.proofs.Ledger.{how_many-found}
 use Rattle.av_plain.proofs.Ledger.NoSwap.{key_is}
 use Rattle.av_plain.proofs.Sound.Changes.{after_use-kept}
 use Rattle.av_plain.proofs.Sound.Counts.{same-is, same-itself}

@@ -1,5 +1,7 @@
 -- A page gets the page of zeros, for a read.
 use Rattle.std.proofs.Common.{◌≡◌, ℕ, true, false, cond, List, [], ◌∷◌, ◌++◌, Some, None, is_some, refl, sym, ap, subst, ◌∙◌, arith}
+use Rattle.av_base.specs.Keys.{Key}
+use Rattle.av_base.proofs.Keys.{same_key-itself}
 use Rattle.av_base.specs.Page.{address_of, page_of}
 use Rattle.av_pagetable.specs.declared.pte.Pte.TheVariants.{Empty}
 use Rattle.av_pagetable.specs.Entries.{entry_at}
@@ -9,10 +11,10 @@ use Rattle.av_plain.specs.Areas.{Rmap}
 use Rattle.av_plain.specs.Device.{Device}
 use Rattle.av_plain.specs.Event.{Noted, Used, after_note, after_use_of}
 use Rattle.av_plain.specs.Fault.{IsMade, drop_of_entry, need, sparing}
-use Rattle.av_plain.specs.Ledger.{IsBlank, Key, Ledger, Setting, Zero, entry}
+use Rattle.av_plain.specs.Ledger.{IsBlank, Ledger, Setting, Zero, entry}
 use Rattle.av_plain.specs.Sound.{no_excuse}
 use Rattle.av_plain.specs.World.{World, pages}
-use Rattle.av_plain.proofs.Ledger.{entry-set, same_key-itself}
+use Rattle.av_plain.proofs.Ledger.{entry-set}
 use Rattle.av_plain.proofs.Load.{without-loads}
 use Rattle.av_plain.proofs.Sound.Entries.{zeroed-kept}
 use Rattle.av_swap_laws.specs.Steps.{view_zero}

@@ -1,5 +1,6 @@
 -- How a page comes in whose entry names a slot.
 use Rattle.std.specs.Prelude.{◌≡◌, ℕ, ◌+◌, ◌≤◌, false, List, ◌++◌, None, Some, Result, Ok, Err}
+use Rattle.av_base.specs.Keys.{Key}
 use Rattle.av_base.specs.declared.slot.Slot.{Slot}
 use Rattle.av_io.specs.Count.{RoseBy}
 use Rattle.av_trace.specs.declared.note.Note.{Note}
@@ -7,7 +8,7 @@ use Rattle.av_plain.specs.Areas.{Rmap}
 use Rattle.av_plain.specs.Device.{Device}
 use Rattle.av_plain.specs.Event.{after_notes, note_events}
 use Rattle.av_plain.specs.Fault.{ComesIn, need_of_slot, sparing}
-use Rattle.av_plain.specs.Ledger.{InFrame, Key, Ledger, Setting, entry, frame_at}
+use Rattle.av_plain.specs.Ledger.{InFrame, Ledger, Setting, entry, frame_at}
 use Rattle.av_plain.specs.Pass.{Seeks, fails}
 use Rattle.av_plain.specs.Swapoff.{IsFetched}
 use Rattle.av_plain.specs.World.{World}

@@ -4,7 +4,7 @@ use Rattle.std.specs.Prelude.{Result, IfOk}
 use Rattle.std.specs.declared.alloc.AllocError.{AllocError}
 use Rattle.av_io.specs.Count.{RoseBy}
 use Rattle.av_trace.specs.declared.note.Note.{Note}
-use Rattle.av_plain.specs.Ledger.{Ledger, Key, Zero, InFrame, entry}
+use Rattle.av_plain.specs.Ledger.{Ledger, Zero, InFrame, entry}
 use Rattle.av_plain.specs.Device.{Device, IsSameDevice, Wrote}
 use Rattle.av_plain.specs.Event.{Event, after_all, notes_of}
 use Rattle.av_plain.specs.Fault as served
@@ -13,6 +13,7 @@ use Rattle.av_plain.specs.Access.{page_events}
 use Rattle.av_plain.specs.Choice.{ChoosesAll}
 use Rattle.av_plain.specs.Areas.{Rmap, rmap_after_all}
 use Rattle.av_plain.specs.World.{World, allows}
+use Rattle.av_base.specs.Keys.{Key}
 use Rattle.av_base.specs.declared.prot.Prot.{Prot}
 use Rattle.av_mem.specs.Between.{HasDone}
 use Rattle.av_plain.specs.Load.{with_loads}

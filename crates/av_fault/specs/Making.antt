@@ -1,5 +1,6 @@
 -- How a page gets the page of zeros, a frame, or a copy of its frame.
 use Rattle.std.specs.Prelude.{◌≡◌, ◌+◌, ◌<◌, ◌≤◌, Bool, true, List, ◌++◌, IsSome}
+use Rattle.av_base.specs.Keys.{Key}
 use Rattle.av_base.specs.Limits.{top_page}
 use Rattle.av_io.specs.Count.{RoseBy}
 use Rattle.av_pagetable.specs.Entries.{has}
@@ -10,7 +11,7 @@ use Rattle.av_plain.specs.Areas.{Rmap}
 use Rattle.av_plain.specs.Device.{Device}
 use Rattle.av_plain.specs.Event.{after_all, after_notes}
 use Rattle.av_plain.specs.Fault.{FindsNone, IsMade, drop_at, need, sparing}
-use Rattle.av_plain.specs.Ledger.{Key, Ledger, Setting, entry}
+use Rattle.av_plain.specs.Ledger.{Ledger, Setting, entry}
 use Rattle.av_plain.specs.Pass.{fails}
 use Rattle.av_plain.specs.World.{World}
 use Rattle.av_spaces.specs.Spaces.{pages_of}

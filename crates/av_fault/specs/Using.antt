@@ -1,6 +1,7 @@
 -- How a frame is used that a page has.
 use Rattle.std.specs.Prelude.{◌≡◌, ℕ, Bool, true, false, nat_lt, ◌||◌, List, ◌++◌, Option, Some}
 use Rattle.std.specs.Prelude.{None, is_some}
+use Rattle.av_base.specs.Keys.{Key}
 use Rattle.av_base.specs.declared.slot.Slot.{Slot}
 use Rattle.av_pagetable.specs.Entries.{entry_at}
 use Rattle.av_pagetable.specs.declared.pte.Pte.TheVariants.{Here}
@@ -10,7 +11,7 @@ use Rattle.av_plain.specs.Areas.{Rmap}
 use Rattle.av_plain.specs.Device.{Device}
 use Rattle.av_plain.specs.Event.{after_notes, note_events}
 use Rattle.av_plain.specs.Fault.{drop_of_slot}
-use Rattle.av_plain.specs.Ledger.{Key, Ledger, slot_of}
+use Rattle.av_plain.specs.Ledger.{Ledger, slot_of}
 use Rattle.av_plain.specs.Stands.{View}
 use Rattle.av_plain.specs.World.{World}
 use Rattle.av_mem.specs.declared.mem.Mem.{Mem}

@@ -2,13 +2,14 @@
 use Rattle.std.proofs.Common.{◌≡◌, ℕ, zero, suc, ◌+◌, ◌<◌, ◌≤◌, Bool, true, false, cond, ◌&&◌, ◌==◌, nat_lt, T, List, [], ◌∷◌, length, get_or, Some, None, refl, sym, ap, ◌∙◌, arith}
 use Rattle.std.proofs.lemmas.Bool.Decides.{nat_tests}
 use Rattle.std.specs.FinMap.Entries.{find, where_key, is_sorted}
+use Rattle.av_base.specs.Keys.{Key, key_cmp, same_key}
+use Rattle.av_base.proofs.Keys.{keys_total, same_key-is, same_key-itself}
 use Rattle.av_base.specs.Words.{how_many}
 use Rattle.av_plain.specs.Event.{without_seen}
-use Rattle.av_plain.specs.Ledger.{Entry, Key, key_cmp}
+use Rattle.av_plain.specs.Ledger.{Entry}
 use Rattle.av_plain.proofs.Event.{entries_with, how_many-map, how_many-same}
 use Rattle.av_plain.proofs.Fork.{copies}
-use Rattle.av_plain.proofs.Ledger.{same_key, same_key-is, same_key-itself}
-use Rattle.av_plain.proofs.Ledger.Order.{both_first, both_second, find_below, keys_total}
+use Rattle.av_plain.proofs.Ledger.Order.{both_first, both_second, find_below}
 use Rattle.av_plain.proofs.Ledger.Walk.{passes}
 
 -- ---- pages

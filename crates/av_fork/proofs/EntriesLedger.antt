@@ -4,16 +4,17 @@ use Rattle.std.proofs.lemmas.Bool.Decides.{nat_tests}
 use Rattle.std.proofs.lemmas.Bool.{false≢true}
 use Rattle.std.specs.FinMap.Entries.{find, is_sorted}
 use Rattle.std.specs.Option.{option_or}
+use Rattle.av_base.specs.Keys.{Key, key_cmp}
+use Rattle.av_base.proofs.Keys.{same_key-is}
 use Rattle.av_base.specs.Words.{is_in}
 use Rattle.av_base.specs.declared.slot.Slot.{Slot}
 use Rattle.av_plain.specs.Event.{put_all, without_seen}
 use Rattle.av_plain.specs.Fault.{is_named, asks_copy}
-use Rattle.av_plain.specs.Ledger.{Entry, Key, Ledger, Setting, entry, is_free, is_merged, key_cmp, map_count, names_frame, names_slot, slot_entries, slot_of}
+use Rattle.av_plain.specs.Ledger.{Entry, Ledger, Setting, entry, is_free, is_merged, map_count, names_frame, names_slot, slot_entries, slot_of}
 use Rattle.av_plain.specs.Stands.{LedgerStands, Pte, View, entry_of}
 use Rattle.av_plain.proofs.Event.{count-put_all, entries_with, put_all-only}
 use Rattle.std.specs.FinMap.Entries.{find-where_key}
 use Rattle.std.specs.Ordering.{is_eq}
-use Rattle.av_plain.proofs.Ledger.{same_key-is}
 use Rattle.av_plain.proofs.Fork.{child_ledger, copies, entry-forked, find-copies, forked-is, going, handed, is_sorted-copies, sorted-going, unseen-names_frame, unseen-names_slot}
 use Rattle.av_plain.proofs.Ledger.{only_one}
 use Rattle.av_plain.proofs.Ledger.NoSwap.{key_is}

@@ -3,8 +3,8 @@ use Rattle.std.proofs.Common.{◌≡◌, ℕ, zero, suc, ◌+◌, ◌≤◌, ◌
 use Rattle.std.proofs.lemmas.Bool.Decides.{nat_tests}
 use Rattle.std.specs.List.{range_with_len}
 use Rattle.av_base.specs.declared.slot.Slot.{Slot}
-use Rattle.av_base.specs.Words.{how_many, is_in}
-use Rattle.av_frames.specs.Store.{IsWhole, Shown, itself, without, relocated, with_bytes, with_maps, with_home, with_dirty, with_slot}
+use Rattle.av_base.specs.Words.{how_many, is_in, without}
+use Rattle.av_frames.specs.Store.{IsWhole, Shown, itself, relocated, with_bytes, with_maps, with_home, with_dirty, with_slot}
 use Rattle.av_base.proofs.Counted.{count-set}
 use Rattle.av_frames.proofs.Free.{not_in, none_in, within_flags}
 use Rattle.av_frames.proofs.Fresh.{once_from, numbers-suc}

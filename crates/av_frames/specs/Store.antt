@@ -4,7 +4,7 @@ use Rattle.std.specs.Prelude.{◌≡◌, ℕ, ◌+◌, ◌-◌, ◌^◌, ◌<◌
 use Rattle.std.specs.Prelude.{if◌then◌else◌, List, [], ◌∷◌, length, slice_index, slice_index_or}
 use Rattle.std.specs.Prelude.{Option, None, Some, filter, not}
 use Rattle.av_base.specs.declared.slot.Slot.{Slot}
-use Rattle.av_base.specs.Words.{how_many, is_in, within, with_at}
+use Rattle.av_base.specs.Words.{how_many, is_in, with_at, within, without}
 use Rattle.std.specs.List.{range_with_len}
 
 -- the value of `Frames`: a value has to be data, so each is a list by frame
@@ -75,10 +75,6 @@ with_dirty f dirty s = record s { dirty = with_at f dirty s.dirty }
 
 abbrev pub with_slot : ℕ → Option Slot → Shown → Shown
 with_slot f slot s = record s { slot = with_at f slot s.slot }
-
--- the other frames of a list
-abbrev pub without : ℕ → List ℕ → List ℕ
-without f fs = filter (λ g. not (g == f)) fs
 
 -- what is kept of a frame goes to a free one. The frame is free instead, in front of the others; no
 -- entry names it and no slot is cached at it

@@ -4,10 +4,10 @@ ghost use Rattle.std.specs.Prelude.{◌≡◌, ℕ, ◌+◌, ◌<◌, ◌≤◌,
 ghost use Rattle.std.specs.Prelude.{slice_index, MatchOption, IfOk, true, false, replicate, not};
 ghost use Rattle.std.specs.Prelude.{filter, is_some, slice_index_or};
 ghost use Rattle.av_frames.specs.Store.{shown, first_of, fresh, overlaid, with_bytes, with_maps};
-ghost use Rattle.av_frames.specs.Store.{with_home, with_dirty, with_slot, relocated, without};
+ghost use Rattle.av_frames.specs.Store.{with_home, with_dirty, with_slot, relocated};
 ghost use Rattle.av_frames.specs.Store.{free_in_order};
 ghost use Rattle.av_base.specs.Page.{page_size};
-ghost use Rattle.av_base.specs.Words.{is_in, how_many};
+ghost use Rattle.av_base.specs.Words.{how_many, is_in, without};
 ghost use Rattle.std.specs.List.{range_with_len};
 ghost use Rattle.std.specs.VecDeque.{deque_len, deque_capacity};
 

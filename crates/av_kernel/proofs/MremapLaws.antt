@@ -4,6 +4,7 @@ use Rattle.std.proofs.lemmas.Bool.{cases_lt, false≢true, ltb-false}
 use Rattle.std.proofs.lemmas.Bool.Decides.{nat_tests}
 use Rattle.std.specs.FinMap.Entries.{is_sorted}
 use Rattle.std.specs.Prelude.{MatchOption}
+use Rattle.av_base.specs.Keys.{key_cmp}
 use Rattle.av_base.specs.Limits.{top_page}
 use Rattle.av_base.specs.Page.{address_of, page_of, pages_of}
 use Rattle.av_base.specs.Words.{with_at, within}
@@ -29,7 +30,7 @@ use Rattle.av_plain.specs.Areas.{chain_length, rmap_after_all}
 use Rattle.av_plain.specs.Choice.{ChoosesAll}
 use Rattle.av_plain.specs.Event.{Event, EntriesMoved, after_all, notes_of}
 use Rattle.av_plain.specs.Fork.{IsRmapNext}
-use Rattle.av_plain.specs.Ledger.{Entry, Ledger, entry, key_cmp}
+use Rattle.av_plain.specs.Ledger.{Entry, Ledger, entry}
 use Rattle.av_plain.specs.Mremap.{MovesTo, after_mremap, have_one_prot, is_in_place, leaves_old, left_behind, marks_at, prot_at, range_zaps, remap_events, process_after_mremap}
 use Rattle.av_plain.specs.Refusal.{Refuses, refusal, tests, top}
 use Rattle.av_plain.specs.Stands.{AreasAre, AreasStand, IsKept, free_of}

@@ -5,6 +5,7 @@ use Rattle.std.proofs.lemmas.Bool.{false≢true}
 use Rattle.std.specs.Prelude.{MatchOption, map}
 use Rattle.std.specs.Ordering.{nat_cmp, is_eq, is_lt}
 use Rattle.std.specs.FinMap.Entries.{is_sorted, below_all, find}
+use Rattle.av_base.specs.Keys.{Key}
 use Rattle.av_base.specs.Limits.{most_processes}
 use Rattle.av_base.specs.Words.{with_at}
 use Rattle.av_base.specs.declared.flags.Flags.{Flags}
@@ -21,7 +22,7 @@ use Rattle.av_pagetable.specs.declared.pte.Pte.TheVariants.{Empty}
 use Rattle.av_pagetable.specs.Entries.{ProcessTables, entry_at, has}
 use Rattle.av_plain.specs.Device.{Device}
 use Rattle.av_plain.specs.World.{World, Page, no_pages, lives, pages, set_process, end_process}
-use Rattle.av_plain.specs.Ledger.{Key, Ledger, entry, names_frame}
+use Rattle.av_plain.specs.Ledger.{Ledger, entry, names_frame}
 use Rattle.av_plain.specs.Event.{Event, after_all, notes_of}
 use Rattle.av_plain.specs.Fault.{asks_copy}
 use Rattle.av_plain.specs.Zap.{keys_of_process, zaps_of}

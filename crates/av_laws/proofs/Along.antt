@@ -1,6 +1,7 @@
 -- In a compaction the entries of a frame go along with it.
 use Rattle.std.proofs.Common.{◌≡◌, ℕ, Bool, true, List, [], ◌∷◌, ◌++◌, Option, Some, None, IsSomeAnd, option_map, refl, sym, ap, subst, ◌∙◌}
 use Rattle.std.proofs.lemmas.Bool.{eq-eqb, eqb-true}
+use Rattle.av_base.specs.Keys.{Key}
 use Rattle.av_base.specs.Words.{renamed}
 use Rattle.av_trace.specs.declared.command.Command.TheVariants.{Compact}
 use Rattle.av_trace.specs.declared.note.Note.{Note}
@@ -8,7 +9,7 @@ use Rattle.av_trace.specs.declared.note.Note.TheVariants.{Moved}
 use Rattle.av_trace.specs.declared.reply.Reply.{Reply}
 use Rattle.av_plain.specs.Compact.{MovesDown}
 use Rattle.av_plain.specs.Event.{Event, FreeSorted, after_all, after_note, after_notes, note_events, notes_of, placed_entry}
-use Rattle.av_plain.specs.Ledger.{Entry, InFrame, InSlot, Key, Ledger, Setting, Zero, entry, names_frame}
+use Rattle.av_plain.specs.Ledger.{Entry, InFrame, InSlot, Ledger, Setting, Zero, entry, names_frame}
 use Rattle.av_plain.specs.Transcript.{IsStep, State}
 use Rattle.av_plain.proofs.Event.{entry-renamed}
 use Rattle.av_plain.proofs.Sound.Frames.{IsMove, move-is}

@@ -2,13 +2,13 @@
 use Rattle.std.proofs.Common.{◌≡◌, ℕ, ◌+◌, ◌≤◌, length, Bool, true, false, ◌&&◌, ◌==◌, List, [], ◌∷◌, ◌++◌, Option, Some, None, refl, sym, ap, arith}
 use Rattle.std.proofs.lemmas.Bool.Decides.{nat_tests}
 use Rattle.std.specs.Prelude.{min, if◌then◌else◌, IsSomeAnd, MatchBool, MatchOption, count_by, option_and_then, option_map}
-use Rattle.av_base.specs.Words.{is_in, with_at}
+use Rattle.av_base.specs.Words.{is_in, with_at, without}
 use Rattle.av_base.specs.declared.slot.Slot.{Slot}
 use Rattle.av_clusters.specs.Clusters.{Slots, fresh, is_free as is_free_page, take_slot}
 use Rattle.av_swapdev.specs.Device.{most_pages}
 use Rattle.av_swapdev.specs.Header.{Layout}
 use Rattle.av_plain.specs.Choice.{AreaSlots, ChoosesAll, ChoosesFrame, ChoosesSlot, Free, IsGiven, SwitchesArea, TakesFrame, TakesOut, frame_in, giving_swap_area, new_free, no_slots, slot_in, sorts_free, takes_any, with_given_back}
-use Rattle.av_plain.specs.Event.{Event, FlagSet, Forked, FreeSorted, EntriesMoved, Noted, TurnedOff, TurnedOn, Used, Zapped, after, without}
+use Rattle.av_plain.specs.Event.{Event, FlagSet, Forked, FreeSorted, EntriesMoved, Noted, TurnedOff, TurnedOn, Used, Zapped, after}
 use Rattle.av_plain.specs.Ledger.{HasNumbers, Ledger, Setting, SwapArea, free_frames, size_of}
 use Rattle.av_plain.proofs.Choice.{ChoosesFrames}
 

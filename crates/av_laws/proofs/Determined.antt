@@ -16,6 +16,7 @@ use Rattle.av_trace.specs.declared.row.Row.{Row}
 use Rattle.av_trace.specs.declared.reply.Reply.{Reply}
 use Rattle.av_trace.specs.declared.reply.Answer.{Answer}
 use Rattle.av_trace.specs.declared.reply.Answer.TheVariants.{AreaList, Done, Refused, Runs}
+use Rattle.av_base.specs.Keys.{Key}
 use Rattle.av_base.specs.Page.{address_of, page_of, page_size, pages_met, pages_of}
 use Rattle.av_base.specs.Words.{within}
 use Rattle.std.specs.List.{range_with_len}
@@ -33,7 +34,7 @@ use Rattle.av_plain.specs.Choice.{ChoosesAll, Free}
 use Rattle.av_plain.specs.Event.{Event, FreeSorted, Used, after_all, note_events, notes_of}
 use Rattle.av_plain.specs.Fault.{Denied, Lost, Starved, Stop, is_allowed, permits}
 use Rattle.av_plain.specs.Fork.{IsRmapNext}
-use Rattle.av_plain.specs.Ledger.{Key, Ledger, Setting}
+use Rattle.av_plain.specs.Ledger.{Ledger, Setting}
 use Rattle.av_plain.specs.Load.{after_loads, with_loads}
 use Rattle.av_plain.specs.Map.{with_prot_to_hole}
 use Rattle.av_plain.specs.Mremap.{MovesTo, events_to, leaves_old, left_behind, may_stay, process_after_mremap}

@@ -2,6 +2,7 @@
 use Rattle.std.proofs.Common.{◌≡◌, ℕ, Bool, true, false, cond, ◌&&◌, ◌==◌, List, [], ◌∷◌, ◌++◌, map, min, ◌+◌, ◌-◌, ◌⊎◌, inl, inr, Option, Some, None, refl, ap, ◌∙◌}
 use Rattle.std.specs.List.{list_all}
 use Rattle.std.specs.Prelude.{MatchOption}
+use Rattle.av_base.specs.Keys.{Key}
 use Rattle.av_base.specs.Page.{page_of, pages_of}
 use Rattle.av_base.specs.declared.slot.Slot.{Slot}
 use Rattle.av_trace.specs.declared.command.Command.{Command}
@@ -15,7 +16,7 @@ use Rattle.av_trace.specs.declared.row.Row.{Row}
 use Rattle.av_plain.specs.Access.{Accesses, End, page_events}
 use Rattle.av_plain.specs.Event.{Event, EntriesMoved, FlagSet, Forked, FreeSorted, Noted, TurnedOff, TurnedOn, Used, Zapped, after, after_all, note_events, when}
 use Rattle.av_plain.specs.Fault.{Stop}
-use Rattle.av_plain.specs.Ledger.{Key, Ledger, Setting, SwapArea, entry, is_orphan}
+use Rattle.av_plain.specs.Ledger.{Ledger, Setting, SwapArea, entry, is_orphan}
 use Rattle.av_plain.specs.Map.{zaps_for_place}
 use Rattle.av_plain.specs.Merge.{merges}
 use Rattle.av_plain.specs.Mremap.{events_to, range_zaps, remap_events}

@@ -5,6 +5,8 @@ use Rattle.std.specs.Prelude.{IsTrue, MatchOption, T, length, nat_lt}
 use Rattle.std.proofs.Common.{◌≡◌, ◌⊎◌, inl, inr, ℕ, zero, suc, ◌+◌, ◌<◌, ◌≤◌, Bool, true, false, cond, not, ◌&&◌, ◌||◌, List, [], ◌∷◌, ◌++◌, map, option_map, Option, Some, None, refl, sym, ap, subst, ◌∙◌, arith, ◌==◌}
 use Rattle.std.proofs.lemmas.Bool.{false≢true}
 use Rattle.std.proofs.lemmas.Bool.Decides.{nat_tests}
+use Rattle.av_base.specs.Keys.{Key, key_cmp, same_key}
+use Rattle.av_base.proofs.Keys.{same_key-itself}
 use Rattle.av_base.specs.Page.{address_of, page_of, pages_of, place_in_page}
 use Rattle.av_base.specs.Words.{how_many}
 use Rattle.av_base.specs.declared.slot.Slot.{Slot}
@@ -16,7 +18,7 @@ use Rattle.av_trace.specs.declared.reply.Errno.{Errno}
 use Rattle.av_trace.specs.declared.reply.OutOf.{OutOf}
 use Rattle.av_trace.specs.declared.reply.Reply.{Reply}
 use Rattle.av_plain.specs.World.{World}
-use Rattle.av_plain.specs.Ledger.{Cached, cached_by, Entry, InFrame, InSlot, Key, Ledger, Setting, Zero, entry, frame_at, in_flight, is_full, is_merged, key_cmp, map_count, names_frame, names_slot, same_slot, slot_entries, slot_of}
+use Rattle.av_plain.specs.Ledger.{Cached, cached_by, Entry, InFrame, InSlot, Ledger, Setting, Zero, entry, frame_at, in_flight, is_full, is_merged, map_count, names_frame, names_slot, same_slot, slot_entries, slot_of}
 use Rattle.av_plain.specs.Event.{Event, Used, after_all, after_note, after_notes, after_use, after_use_of, if_some, note_events, off_cache, set_entry, when, with_stale}
 use Rattle.av_plain.specs.Fault.{ComesIn, CopyOnWrite, Denied, IsMade, Lost, MapCached, Need, NewPage, Ready, RunsOut, Serves, Sparing, Starved, Stop, SwapIn, Touches, ZeroPage, drop_at, drop_of_entry, drop_of_slot, is_named, asks_copy, is_unneeded, need, need_of_slot, sparing, wants_frame, was_slot}
 use Rattle.av_plain.specs.Access.{Accesses, End, Stopped, Whole, page_events, read_answer, write_answer}
@@ -25,7 +27,7 @@ use Rattle.av_plain.specs.Sound.{slots}
 use Rattle.av_plain.specs.Step.{Follows, IsLegal}
 use Rattle.av_plain.proofs.Access.{after_all-append, after_notes-append, note_events-all}
 use Rattle.av_plain.specs.Sound.{AllSound, IsSound, pairs}
-use Rattle.av_plain.proofs.Ledger.{entry-set, how_many-found, map_count-set, same_key, same_key-itself}
+use Rattle.av_plain.proofs.Ledger.{entry-set, how_many-found, map_count-set}
 use Rattle.av_plain.proofs.Ledger.Order.{weight}
 use Rattle.av_plain.proofs.Ledger.NoSwap.{key_at-address, key_is}
 use Rattle.av_plain.proofs.NoDevice.{never}

@@ -1,11 +1,12 @@
 -- What a page gets is determined: by its entry, and by the order in which frames and slots are given.
 use Rattle.std.proofs.Common.{◌≡◌, ◌⊎◌, inl, inr, ℕ, Bool, true, false, List, [], ◌∷◌, ◌++◌, Option, Some, None, refl, sym, ap, subst, ◌∙◌}
+use Rattle.av_base.specs.Keys.{Key}
 use Rattle.av_base.specs.Page.{address_of}
 use Rattle.av_trace.specs.declared.reply.OutOf.{OutOf}
 use Rattle.av_trace.specs.declared.note.Note.{Note}
 use Rattle.av_trace.specs.declared.note.Note.TheVariants.{New, Copied, Loaded, Mapped}
 use Rattle.av_plain.specs.World.{World}
-use Rattle.av_plain.specs.Ledger.{Ledger, Setting, Key, entry, frame_at, has_free}
+use Rattle.av_plain.specs.Ledger.{Ledger, Setting, entry, frame_at, has_free}
 use Rattle.av_plain.specs.Event.{after_notes, note_events}
 use Rattle.av_plain.specs.Pass.{Seeks, out_of}
 use Rattle.av_plain.specs.Fault.{Need, Ready, ZeroPage, NewPage, CopyOnWrite, SwapIn, MapCached, need, Sparing, sparing, ComesIn, IsMade, drop_at, was_slot, Serves, pinned_by, wants_frame, FindsNone, RunsOut, is_allowed, Stop, Denied, Starved, Lost, Touches}

@@ -10,6 +10,7 @@ use Rattle.av_trace.specs.declared.reply.Reply.{Reply}
 use Rattle.av_trace.specs.declared.row.Row.{Row}
 use Rattle.av_trace.specs.declared.reply.Answer.{Answer}
 use Rattle.av_trace.specs.declared.reply.Answer.TheVariants.{Done, NoFrame, Refused, Oom, SlotBad}
+use Rattle.av_base.specs.Keys.{Key}
 use Rattle.av_base.specs.Page.{address_of, page_of, pages_met, pages_of}
 use Rattle.av_base.specs.Words.{how_many}
 use Rattle.std.specs.List.{range_with_len}
@@ -21,7 +22,7 @@ use Rattle.av_plain.specs.Advice.{flag_of_advice, pages_advised}
 use Rattle.av_plain.specs.Lock.{BringsIn, accesses_of, with_lock}
 use Rattle.av_plain.specs.Event.{Event, after_all, after_notes}
 use Rattle.av_plain.specs.Fault.{ComesIn, CopyOnWrite, Denied, Lost, Ready, RunsOut, Starved, Stop, Touches, asks_copy, need, need_of_slot, pinned_by, sparing}
-use Rattle.av_plain.specs.Ledger.{Entry, InFrame, InSlot, Key, Ledger, Setting, Zero, entry, frame_at, has_free, is_merged, is_usable, names_frame, slot_of, slots_in_use}
+use Rattle.av_plain.specs.Ledger.{Entry, InFrame, InSlot, Ledger, Setting, Zero, entry, frame_at, has_free, is_merged, is_usable, names_frame, slot_of, slots_in_use}
 use Rattle.av_plain.specs.Pass.{Spared, is_pinned, out_of}
 use Rattle.av_plain.specs.Place.{IsMapAt}
 use Rattle.av_plain.specs.Refusal.{Refuses, low, refusal, tests}

@@ -15,6 +15,7 @@ use Rattle.std.specs.Prelude.{IfSome, MatchBool, MatchOption, sum_by}
 use Rattle.std.proofs.Common.{◌≡◌, ◌⊎◌, inl, inr, ℕ, zero, suc, ◌+◌, ◌-◌, ◌^◌, ◌<◌, ◌≤◌, Bool, true, false, cond, not, ◌&&◌, List, [], ◌∷◌, ◌++◌, append-nil, map, take, reverse, length, Option, Some, None, is_some, option_map, refl, sym, ap, subst, ◌∙◌, arith, ◌==◌, nat_lt, nat_le, if◌then◌else◌}
 use Rattle.std.proofs.lemmas.Bool.Decides.{nat_tests}
 use Rattle.std.proofs.lemmas.List.{length-map}
+use Rattle.av_base.specs.Keys.{Key}
 use Rattle.av_base.specs.Limits.{most_locked, most_processes, top_page}
 use Rattle.av_base.specs.Page.{address_of, page_of, pages_met, pages_of, page_size, place_in_page}
 use Rattle.av_base.specs.Words.{within}
@@ -53,7 +54,7 @@ use Rattle.av_plain.specs.Lock.{BringsIn, access_of, accesses_of, lock_event, wi
 use Rattle.av_plain.specs.Event.{Event, Forked, FreeSorted, after_all, after_notes, note_events, notes_of}
 use Rattle.av_plain.specs.Fault.{Denied, Lost, Starved, Stop, is_allowed, permits, sparing}
 use Rattle.av_plain.specs.Fork.{inheritance}
-use Rattle.av_plain.specs.Ledger.{Entry, InFrame, InSlot, Key, Ledger, Setting, SwapArea, Zero, entry, free_frames, free_slots, is_cached, is_on, is_usable, size_of, slot_count, slot_entries, walk}
+use Rattle.av_plain.specs.Ledger.{Entry, InFrame, InSlot, Ledger, Setting, SwapArea, Zero, entry, free_frames, free_slots, is_cached, is_on, is_usable, size_of, slot_count, slot_entries, walk}
 use Rattle.av_plain.specs.Map.{zaps_for_place}
 use Rattle.av_plain.specs.Merge.{merges}
 use Rattle.av_plain.specs.Mremap.{MovesTo, events_to, may_stay}

@@ -3,6 +3,7 @@
 use Rattle.std.proofs.Common.{◌≡◌, ◌⊎◌, inl, inr, ℕ, ◌-◌, ◌+◌, Bool, true, false, cond, not, ◌&&◌, ◌||◌, ◌==◌, List, [], ◌∷◌, ◌++◌, map, filter, min, reverse, Option, Some, None, is_none, refl, sym, ap, subst, ◌∙◌}
 use Rattle.std.specs.List.{AllByRecursion, list_any}
 use Rattle.std.specs.Prelude.{MatchBool, MatchOption}
+use Rattle.av_base.specs.Keys.{Key}
 use Rattle.av_base.specs.Page.{address_of, page_of, pages_met, pages_of}
 use Rattle.av_base.specs.declared.flags.Flag.{Flag}
 use Rattle.av_base.specs.declared.slot.Slot.{Slot}
@@ -24,7 +25,7 @@ use Rattle.av_plain.specs.Access.{Accesses, End, page_events, pages_of_access}
 use Rattle.av_plain.specs.Advice.{advice_events, flag_of_advice, pages_advised}
 use Rattle.av_plain.specs.Event.{Event, EntriesMoved, FreeSorted, Noted, TurnedOn, Used, Zapped, after, after_all, after_note, after_notes, change_entries, if_some, note_events, off_cache, when}
 use Rattle.av_plain.specs.Fault.{ComesIn, CopyOnWrite, Denied, IsMade, Lost, MapCached, Need, NewPage, Ready, Starved, Stop, SwapIn, Touches, ZeroPage, drop_at, drop_of_entry, drop_of_slot, is_locked, need, pinned_by, sparing, was_slot}
-use Rattle.av_plain.specs.Ledger.{Entry, InFrame, InSlot, Key, Ledger, Setting, SwapArea, Zero, entry, frame_at, has_free, is_merged, is_orphan, keys_of_slot, map_count, names_frame, slot_of, slots_in_use}
+use Rattle.av_plain.specs.Ledger.{Entry, InFrame, InSlot, Ledger, Setting, SwapArea, Zero, entry, frame_at, has_free, is_merged, is_orphan, keys_of_slot, map_count, names_frame, slot_of, slots_in_use}
 use Rattle.av_plain.specs.Lock.{BringsIn, accesses_of, with_lock}
 use Rattle.av_plain.specs.Compact.{MovesDown}
 use Rattle.av_plain.specs.Map.{zaps_for_place}

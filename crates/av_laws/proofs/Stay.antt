@@ -6,6 +6,8 @@ use Rattle.std.specs.FinMap.Entries.{find, is_sorted}
 use Rattle.std.specs.List.{list_any}
 use Rattle.std.specs.Option.{option_or}
 use Rattle.std.specs.Prelude.{MatchBool, MatchOption, filter}
+use Rattle.av_base.specs.Keys.{Key, key_cmp, same_key}
+use Rattle.av_base.proofs.Keys.{same_key-is}
 use Rattle.av_base.specs.Page.{address_of, page_of, pages_met, pages_of}
 use Rattle.av_base.specs.Words.{within}
 use Rattle.av_base.specs.declared.flags.Flag.{Flag}
@@ -28,7 +30,7 @@ use Rattle.av_plain.specs.Advice.{advice_events, flag_of_advice, pages_advised}
 use Rattle.av_plain.specs.Event.{Event, Forked, Noted, TurnedOn, Used, after_all, after_note, after_notes, after_use, after_use_of, change_entries, change_frame, if_some, key_at, note_events, notes_of, off_cache, set_entry, with_stale, without_seen}
 use Rattle.av_plain.specs.Fault.{ComesIn, CopyOnWrite, Denied, IsMade, Lost, Ready, Serves, Starved, Stop, Touches, drop_at, drop_of_entry, drop_of_slot, is_locked, asks_copy, need, pinned_by, sparing, was_slot}
 use Rattle.av_plain.specs.Fork.{inheritance}
-use Rattle.av_plain.specs.Ledger.{Entry, InFrame, InSlot, Key, Ledger, Setting, SwapArea, Zero, entry, frame_at, is_merged, key_cmp, keys_of_slot, names_frame, names_slot, slot_of, slots_in_use}
+use Rattle.av_plain.specs.Ledger.{Entry, InFrame, InSlot, Ledger, Setting, SwapArea, Zero, entry, frame_at, is_merged, keys_of_slot, names_frame, names_slot, slot_of, slots_in_use}
 use Rattle.av_plain.specs.Lock.{BringsIn, accesses_of, with_lock}
 use Rattle.av_plain.specs.Map.{zaps_for_place}
 use Rattle.av_plain.specs.Merge.{FrameBytes, candidate, candidate_by, join_notes, may_merge, merge_notes, merged_like, merges, other_like, with_candidate}
@@ -46,7 +48,7 @@ use Rattle.av_plain.specs.Zap.{keys_in, keys_of_process, zaps_of}
 use Rattle.av_plain.proofs.Access.{after_all-append, after_notes-append, note_events-all, notes_of-append, notes_of-note_events}
 use Rattle.av_plain.proofs.Event.{changed-by, entry-unmap, entry-unseen, to_slot, to_unseen}
 use Rattle.av_plain.proofs.Fork.{entry-forked, handed}
-use Rattle.av_plain.proofs.Ledger.{entry-set, same_key, same_key-is}
+use Rattle.av_plain.proofs.Ledger.{entry-set}
 use Rattle.av_plain.proofs.Ledger.NoSwap.{key_at-address}
 use Rattle.av_plain.proofs.Ledger.Walk.{keys-filter, passes}
 use Rattle.av_plain.proofs.Mremap.{after-elsewhere, after-in_place, entry-moved, entry-then_tail, in_order-zaps, then_tail, then_target}

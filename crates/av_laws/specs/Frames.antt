@@ -11,10 +11,11 @@
 --     goes_along; the free ones (`takes_any`, `sorts_free`, `Compacts`): moved_from_anywhere,
 --     risen, no_move, one_move
 use Rattle.std.specs.Prelude.{true, false, if◌then◌else◌, List, [], ◌∷◌, Some, None, ◌==◌}
+use Rattle.av_base.specs.Keys.{Key}
 use Rattle.av_base.specs.Flags.{no_flags}
 use Rattle.av_trace.specs.declared.note.Note.{Note}
 use Rattle.av_trace.specs.declared.note.Note.TheVariants.{Joined, Shared}
-use Rattle.av_plain.specs.Ledger.{InFrame, Key, Ledger, first_ledger}
+use Rattle.av_plain.specs.Ledger.{InFrame, Ledger, first_ledger}
 use Rattle.av_plain.specs.Merge.{FrameBytes}
 use Rattle.av_plain.specs.Pass.{Spared}
 use Rattle.av_plain.specs.World.{World, Page}

@@ -15,6 +15,7 @@
 --   entries of merged frames (`AreMergedCovered`): merged_at_home, item_left_out, item_twice,
 --     item_of_member
 use Rattle.std.specs.Prelude.{◌≡◌, ℕ, true, false, List, [], ◌∷◌, map, Option, Some, None}
+use Rattle.av_base.specs.Keys.{Key}
 use Rattle.av_base.specs.Words.{with_at}
 use Rattle.std.specs.List.{range_with_len}
 use Rattle.av_trace.specs.declared.note.Note.TheVariants.{Aged, Copied, Loaded, Mapped, New}
@@ -23,7 +24,7 @@ use Rattle.av_vma.specs.declared.area.Area.{Area}
 use Rattle.av_plain.specs.Areas.{Homes, Rmap, no_homes, no_items, rmap_after}
 use Rattle.av_plain.specs.Covered.{IsRmapSound}
 use Rattle.av_plain.specs.Event.{Event, Noted, Used, Zapped, after}
-use Rattle.av_plain.specs.Ledger.{Entry, InFrame, InSlot, Key, Ledger, first_ledger}
+use Rattle.av_plain.specs.Ledger.{Entry, InFrame, InSlot, Ledger, first_ledger}
 use Rattle.av_laws.specs.Areas.{alone, and_at, anons_of, areas_of, child, family, moved_of, root}
 use Rattle.av_laws.specs.Areas.{two_roots}
 use Rattle.av_laws.specs.Examples.{cached_at, slot}

@@ -1,5 +1,6 @@
 -- What is said of the frames of locked pages.
 use Rattle.std.specs.Prelude.{◌≡◌, ℕ, Bool, true, false, ◌==◌, ◌&&◌, List, [], ◌∷◌}
+use Rattle.av_base.specs.Keys.{Key}
 use Rattle.av_base.specs.Page.{page_of, pages_met}
 use Rattle.av_base.specs.Words.{renamed}
 use Rattle.av_trace.specs.declared.command.Command.{Command}
@@ -9,7 +10,7 @@ use Rattle.av_trace.specs.declared.note.Note.{Note}
 use Rattle.av_trace.specs.declared.note.Note.TheVariants.{Copied, Moved, Unmapped}
 use Rattle.av_plain.specs.Event.{Event, Noted, after}
 use Rattle.av_plain.specs.Fault.{is_locked}
-use Rattle.av_plain.specs.Ledger.{Key, Ledger}
+use Rattle.av_plain.specs.Ledger.{Ledger}
 use Rattle.av_plain.specs.Lock.{with_lock}
 use Rattle.av_plain.specs.World.{World}
 

@@ -9,6 +9,7 @@
 --     other_page_of_other, told; by which entries (`after_loads`): put_before; what a read shows
 --     then (`ReadsPages`): shown
 use Rattle.std.specs.Prelude.{◌≡◌, ℕ, Bool, true, false, List, [], ◌∷◌, Option}
+use Rattle.av_base.specs.Keys.{Key}
 use Rattle.av_base.specs.declared.slot.Slot.{Slot}
 use Rattle.av_trace.specs.declared.command.Command.TheVariants.{Complete, Read}
 use Rattle.av_trace.specs.declared.reply.Answer.TheVariants.{Bus, Done}
@@ -18,7 +19,7 @@ use Rattle.av_trace.specs.declared.note.Note.TheVariants.{Unmapped, Started, Wri
 use Rattle.av_trace.specs.declared.note.Note.TheVariants.{Dropped, Kept, Aged}
 use Rattle.av_trace.specs.declared.note.Cause.TheVariants.{Referenced, NoSlot, Writeback}
 use Rattle.av_plain.specs.World.{World, byte_at, pages}
-use Rattle.av_plain.specs.Ledger.{Ledger, Setting, Cached, Entry, Key, Zero, InFrame, InSlot}
+use Rattle.av_plain.specs.Ledger.{Ledger, Setting, Cached, Entry, Zero, InFrame, InSlot}
 use Rattle.av_plain.specs.Ledger.{SwapArea, first_ledger}
 use Rattle.av_plain.specs.Event.{Event, Noted, Used, Forked, EntriesMoved, TurnedOn, TurnedOff}
 use Rattle.av_plain.specs.Event.{Zapped, after}

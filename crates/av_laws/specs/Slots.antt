@@ -14,6 +14,7 @@
 --     no_header, adds_up, too_short, too_long, miscounted
 use Rattle.std.specs.Prelude.{◌≡◌, ℕ, suc, ◌+◌, ℤ, pos, true, false, ◌==◌, nat_lt, if◌then◌else◌}
 use Rattle.std.specs.Prelude.{List, [], ◌∷◌, map, Option, Some, None}
+use Rattle.av_base.specs.Keys.{Key}
 use Rattle.av_base.specs.Words.{with_at}
 use Rattle.std.specs.List.{range_with_len}
 use Rattle.av_base.specs.declared.slot.Slot.{Slot}
@@ -21,7 +22,7 @@ use Rattle.av_clusters.specs.Clusters.{fresh}
 use Rattle.av_trace.specs.declared.note.Note.TheVariants.{Put, Unmapped, Started, Failed, Dropped}
 use Rattle.av_plain.specs.Choice.{AreFresh, ChoosesAll, Free, giving_swap_area, no_slots}
 use Rattle.av_plain.specs.Event.{Event, Noted, Zapped, TurnedOn, TurnedOff}
-use Rattle.av_plain.specs.Ledger.{Entry, Key, Ledger, Setting, SwapArea, InFrame, InSlot}
+use Rattle.av_plain.specs.Ledger.{Entry, Ledger, Setting, SwapArea, InFrame, InSlot}
 use Rattle.av_plain.specs.Ledger.{first_ledger}
 use Rattle.av_laws.specs.Examples.{cached_at, one_area, only_frames, slot, swap_area, untold}
 use Rattle.av_laws.specs.Examples.{when_given, with_slots}

@@ -1,9 +1,10 @@
 -- Ledgers and memories that are not sound. Each is a sound one, whose page is in frame 0 and cached
 -- at slot 1 with a write in flight, but for one thing: one clause of soundness alone refuses it.
 use Rattle.std.specs.Prelude.{ℕ, false, List, [], ◌∷◌, Some}
+use Rattle.av_base.specs.Keys.{Key}
 use Rattle.av_base.specs.declared.slot.Slot.{Slot}
 use Rattle.av_plain.specs.World.{World}
-use Rattle.av_plain.specs.Ledger.{Ledger, Setting, Cached, Entry, Key, first_ledger}
+use Rattle.av_plain.specs.Ledger.{Ledger, Setting, Cached, Entry, first_ledger}
 use Rattle.av_plain.specs.Sound.{AllSound}
 use Rattle.av_laws.specs.Examples.{cached_at, one_area, two_bytes, with_swap}
 

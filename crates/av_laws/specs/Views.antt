@@ -8,8 +8,9 @@ use Rattle.av_clusters.specs.Clusters.{Slots}
 use Rattle.std.specs.List.{range_with_len}
 use Rattle.av_swapdev.specs.Device.{no_history}
 use Rattle.av_plain.specs.Device.{Device, no_device, setting_of}
-use Rattle.av_plain.specs.Ledger.{Entry, InFrame, InSlot, Key, SwapArea, entry, frame_at}
+use Rattle.av_plain.specs.Ledger.{Entry, InFrame, InSlot, SwapArea, entry, frame_at}
 use Rattle.av_plain.specs.Ledger.{map_count, slot_entries, slot_of}
+use Rattle.av_base.specs.Keys.{Key}
 use Rattle.av_base.specs.Words.{with_at}
 use Rattle.av_vma.specs.Pages.{fresh_area, pages_in}
 use Rattle.av_vma.specs.declared.area.Area.{Area}

@@ -3,7 +3,8 @@ use Rattle.std.proofs.Common.{◌≡◌, ◌≢◌, ◌⊎◌, ℕ, zero, suc, �
 use Rattle.std.proofs.lemmas.Bool.{cases_eq, cond-true, cond-false, not_from_true, not_from_false}
 use Rattle.std.proofs.lemmas.Option.{none-some}
 use Rattle.av_lru.specs.declared.lists.Which.{Which}
-use Rattle.av_lru.specs.Lists.{without, last_of, frame_before}
+use Rattle.av_base.specs.Words.{without}
+use Rattle.av_lru.specs.Lists.{last_of, frame_before}
 use Rattle.av_lru.specs.Links.{IsIn, AreApart, Joins, Inserts, walk, IsPath, IsRing}
 
 -- ---- lists of frames

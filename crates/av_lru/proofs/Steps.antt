@@ -8,8 +8,8 @@ use Rattle.std.proofs.lemmas.List.Folds.{sum_by-replicate}
 use Rattle.av_lru.specs.declared.lists.Which.{Which}
 use Rattle.av_lru.specs.declared.lists.Which.TheVariants.{Active, Inactive}
 use Rattle.av_lru.specs.declared.lists.Lengths.{Lengths}
-use Rattle.av_lru.specs.Lists.{Lists, list_of, with_list, without, without_frame, with_renamed, last_of, frame_before, place_in, IsApart}
-use Rattle.av_base.specs.Words.{is_in}
+use Rattle.av_lru.specs.Lists.{Lists, list_of, with_list, without_frame, with_renamed, last_of, frame_before, place_in, IsApart}
+use Rattle.av_base.specs.Words.{is_in, without}
 use Rattle.av_lru.specs.Links.{head_of, len_of, with_len, Joins, Inserts, lists_of, place_of, IsWhole, is_off, IsIn, IsRing, walk, after_links}
 use Rattle.av_lru.proofs.Paths.{IsIn-without, frame_at, frame_past, last_path, prev_path}
 use Rattle.av_lru.proofs.Tails.{back_in, tails_path}

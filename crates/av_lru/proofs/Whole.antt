@@ -8,8 +8,8 @@ use Rattle.std.proofs.lemmas.Option.{none-some, same_Some}
 use Rattle.av_lru.specs.declared.lists.Which.{Which}
 use Rattle.av_lru.specs.declared.lists.Which.TheVariants.{Active, Inactive}
 use Rattle.av_lru.specs.declared.lists.Lengths.{Lengths}
-use Rattle.av_lru.specs.Lists.{Lists, list_of, with_list, without, without_frame, with_renamed, IsApart}
-use Rattle.av_base.specs.Words.{is_in, renamed}
+use Rattle.av_lru.specs.Lists.{Lists, list_of, with_list, without_frame, with_renamed, IsApart}
+use Rattle.av_base.specs.Words.{is_in, renamed, without}
 use Rattle.av_lru.specs.Links.{head_of, len_of, with_len, is_off, IsIn, AreApart, Joins, Inserts, walk, frames_of, lists_of, IsPath, IsRing, place_of, IsWhole}
 use Rattle.av_lru.proofs.Renamed.{IsRing-renamed, map-absent, length-renamed}
 use Rattle.av_lru.proofs.Paths.{IsOn, without_absent, length-without, length-walk, walk_path, prev_end_on, next_start_on, prev_on, next_on, IsRing-kept, IsRing-skip, IsRing-push, IsRing-front}

@@ -1,7 +1,7 @@
 -- What is shown of `Lru`: how many frames there are, and the two lists, each from its head on.
 use Rattle.std.specs.Prelude.{◌≡◌, ℕ, false, ◌==◌, not, cond, if◌then◌else◌, List, [], ◌∷◌}
 use Rattle.std.specs.Prelude.{filter, map, Option, Some, None}
-use Rattle.av_base.specs.Words.{is_in, renamed}
+use Rattle.av_base.specs.Words.{is_in, renamed, without}
 use Rattle.av_lru.specs.declared.lists.Which.{Which}
 use Rattle.av_lru.specs.declared.lists.Which.TheVariants.{Active, Inactive}
 
@@ -30,10 +30,6 @@ IsApart (g ∷ gs) = (is_in g gs ≡ false) × IsApart gs
 abbrev pub place_in : ℕ → Lists → Option Which
 place_in f ls = if is_in f ls.active then Some Active else (if is_in f ls.inactive
     then Some Inactive else None)
-
--- the other frames of a list, in their order
-abbrev pub without : ℕ → List ℕ → List ℕ
-without f fs = filter (λ g. not (g == f)) fs
 
 -- both lists without a frame
 abbrev pub without_frame : ℕ → Lists → Lists

@@ -1,11 +1,10 @@
 -- The view after a frame is put at a slot, and as its write begins and ends.
 use Rattle.std.proofs.Common.{◌≡◌, ℕ, ◌≤◌, true, false, List, [], ◌∷◌, ◌++◌, Option, Some, None, IfSome, sym, ap, subst, ◌∙◌}
 use Rattle.std.specs.Prelude.{MatchOption}
-use Rattle.av_base.specs.Words.{how_many}
+use Rattle.av_base.specs.Words.{how_many, without}
 use Rattle.av_base.specs.declared.slot.Slot.{Slot}
 use Rattle.av_frames.specs.Store.{shown as shown_frames, with_dirty}
 use Rattle.av_lru.specs.Lists.{Lists, without_frame}
-use Rattle.av_plain.specs.Event.{without}
 use Rattle.av_plain.specs.Ledger.{same_slot}
 use Rattle.av_swap_laws.specs.Steps.{view_start, without_slot}
 use Rattle.av_swap_laws.proofs.From.{flight-first}

@@ -3,6 +3,7 @@ use Rattle.std.proofs.Common.{◌≡◌, ℕ, ◌+◌, Bool, true, false, cond, 
 use Rattle.std.proofs.lemmas.Bool.{false≢true}
 use Rattle.std.proofs.lemmas.Bool.Decides.{nat_tests}
 use Rattle.std.specs.Prelude.{option_map}
+use Rattle.av_base.specs.Items.{is_item}
 use Rattle.av_base.specs.declared.slot.Slot.{Slot}
 use Rattle.av_frames.specs.Store.{shown as shown_frames, with_maps}
 use Rattle.av_pagetable.specs.declared.pte.Pte.{Pte}
@@ -11,7 +12,7 @@ use Rattle.av_pagetable.specs.Entries.{entry_at}
 use Rattle.av_plain.specs.Ledger.{InFrame, InSlot}
 use Rattle.av_plain.specs.Stands.{Pte as Plain, View}
 use Rattle.av_rmap.specs.Covered.{IsCoveredFrom, IsReached}
-use Rattle.av_rmap.specs.Items.{AreCovered, is_item, is_merged, shown as shown_items}
+use Rattle.av_rmap.specs.Items.{AreCovered, is_merged, shown as shown_items}
 use Rattle.av_rmap.specs.Walk.{names_frame, names_seen}
 use Rattle.av_rmap.specs.Seen.{unseen}
 use Rattle.av_rmap.specs.Unmap.{away}

@@ -1,6 +1,7 @@
 -- The page of a slot that is served comes into a frame, and the entry that names the slot names that: what both steps ask for and leave.
 use Rattle.std.proofs.Common.{◌≡◌, ℕ, ◌-◌, ◌^◌, ◌<◌, ◌≤◌, Bool, true, false, List, [], ◌∷◌, Option, Some, None, IfSome, option_map, refl, sym, ap, subst, ◌∙◌, arith}
 use Rattle.std.specs.Prelude.{slice_index}
+use Rattle.av_base.specs.Keys.{Key}
 use Rattle.av_base.specs.Page.{address_of, page_of, page_size}
 use Rattle.av_base.specs.Words.{is_in}
 use Rattle.av_base.specs.declared.slot.Slot.{Slot}
@@ -13,7 +14,7 @@ use Rattle.av_plain.specs.Choice.{ListsFree}
 use Rattle.av_plain.proofs.Wrote.{device-told, some-same}
 use Rattle.av_plain.specs.Device.{Device, IsSameDevice, as_told}
 use Rattle.av_plain.specs.Event.{Noted, after_note, key_at}
-use Rattle.av_plain.specs.Ledger.{InSlot, Key, Ledger, Setting, entry, frame_at, keys_of_slot, map_count}
+use Rattle.av_plain.specs.Ledger.{InSlot, Ledger, Setting, entry, frame_at, keys_of_slot, map_count}
 use Rattle.av_plain.specs.Load.{with_loads}
 use Rattle.av_plain.specs.Sound.{IsSoundBut, uses}
 use Rattle.av_plain.specs.Stands.{View}

@@ -1,13 +1,12 @@
 -- A frame is taken for a page: a new one, or one for a copy.
 use Rattle.std.proofs.Common.{◌≡◌, ℕ, ◌+◌, ◌-◌, ◌<◌, ◌==◌, Bool, true, false, cond, not, ◌&&◌, ◌||◌, List, [], ◌∷◌, filter, Option, Some, is_none, refl, sym, ap, subst, ◌∙◌, arith}
-use Rattle.av_base.specs.Words.{is_in, with_at}
+use Rattle.av_base.specs.Words.{is_in, with_at, without}
 use Rattle.av_frames.specs.Store.{Shown, Store, shown as shown_frames, with_bytes, with_home, with_maps}
 use Rattle.av_lru.specs.Lists.{Lists, without_frame}
 use Rattle.av_pagetable.specs.declared.pte.Pte.TheVariants.{Here}
 use Rattle.av_pagetable.specs.Entries.{entry_at, with_entry}
 use Rattle.av_rmap.specs.Items.{shown as shown_items}
 use Rattle.av_swapcache.specs.Swap.{shown as shown_swap}
-use Rattle.av_plain.specs.Event.{without}
 use Rattle.av_plain.specs.Ledger.{InFrame}
 use Rattle.av_plain.specs.Stands.{Pte as Plain, View}
 use Rattle.av_plain.proofs.Sound.Counts.{same-is}

@@ -4,13 +4,14 @@ use Rattle.std.proofs.lemmas.Bool.Decides.{nat_tests}
 use Rattle.std.proofs.lemmas.Bool.{false≢true}
 use Rattle.std.proofs.lemmas.List.{append-nil}
 use Rattle.std.specs.List.{list_any}
+use Rattle.av_base.specs.Keys.{Key}
 use Rattle.av_base.specs.declared.slot.Slot.{Slot}
 use Rattle.av_base.specs.Words.{is_in, with_at}
 use Rattle.av_pagetable.specs.declared.pte.Pte.{Pte}
 use Rattle.av_pagetable.specs.declared.pte.Pte.TheVariants.{Away, Empty, Here, Zero as ZeroPte}
 use Rattle.av_plain.specs.Choice.{Chooses, ChoosesAll}
 use Rattle.av_plain.specs.Event.{Event, Noted, Zapped, after_all, after_note, after_zap, note_events, notes_of, when}
-use Rattle.av_plain.specs.Ledger.{Entry, InFrame, InSlot, Ledger, Setting, Zero, Key, entry, frame_at, is_orphan as is_orphan_in, is_unmapped as is_unmapped_in, map_count, names_frame, names_slot, same_slot, slot_of}
+use Rattle.av_plain.specs.Ledger.{Entry, InFrame, InSlot, Ledger, Setting, Zero, entry, frame_at, is_orphan as is_orphan_in, is_unmapped as is_unmapped_in, map_count, names_frame, names_slot, same_slot, slot_of}
 use Rattle.av_plain.specs.Ledger as in_ledger
 use Rattle.av_plain.specs.Sound.{IsSoundBut, is_there}
 use Rattle.av_plain.specs.Areas.{Items}

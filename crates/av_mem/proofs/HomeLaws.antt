@@ -4,6 +4,7 @@ use Rattle.std.specs.FinMap.Entries.{is_sorted}
 use Rattle.std.specs.Option.{option_map_or}
 use Rattle.std.specs.Prelude.{IsSome, IsSomeAnd, option_map}
 use Rattle.av_anon.specs.declared.infos.Info.{Info}
+use Rattle.av_base.specs.Keys.{Key, key_cmp}
 use Rattle.av_base.specs.declared.slot.Slot.{Slot}
 use Rattle.av_pagetable.specs.declared.pte.Pte.{Pte}
 use Rattle.av_pagetable.specs.declared.pte.Pte.TheVariants.{Away, Empty, Here, Zero}
@@ -16,7 +17,7 @@ use Rattle.av_vma.proofs.Laid.{has_parts}
 use Rattle.av_plain.specs.Areas.{AnonVma, Rmap, home_for, root_of}
 use Rattle.av_plain.specs.Covered.{IsKin}
 use Rattle.av_plain.specs.Device.{Device}
-use Rattle.av_plain.specs.Ledger.{InSlot, Key, Ledger, entry, key_cmp, keys_of_slot, names_slot, slot_entries}
+use Rattle.av_plain.specs.Ledger.{InSlot, Ledger, entry, keys_of_slot, names_slot, slot_entries}
 use Rattle.av_plain.specs.Stands.{entry_of, kin_of}
 use Rattle.av_plain.specs.World.{World}
 use Rattle.av_plain.proofs.Sound.Counts.{slot-itself}

@@ -1,12 +1,13 @@
 -- The items of merged frames as an entry goes, and as a slot is dropped: a frame that is free then has none, and all others keep theirs.
 use Rattle.std.proofs.Common.{◌≡◌, ℕ, ◌-◌, ◌==◌, ◌&&◌, Bool, true, false, cond, Some, is_none, T, refl, sym, ap, subst, ◌∙◌}
 use Rattle.std.specs.FinMap.Entries.{is_sorted}
+use Rattle.av_base.specs.Keys.{key_cmp}
 use Rattle.av_base.specs.Words.{with_at}
 use Rattle.av_base.specs.declared.slot.Slot.{Slot}
 use Rattle.av_trace.specs.declared.note.Note.TheVariants.{Dropped}
 use Rattle.av_plain.specs.Areas.{Items}
 use Rattle.av_plain.specs.Event.{after_note, after_zap, off_cache, off_lists, settle_entry}
-use Rattle.av_plain.specs.Ledger.{Entry, InFrame, InSlot, Ledger, Setting, Zero, entry, frame_at, key_cmp, map_count}
+use Rattle.av_plain.specs.Ledger.{Entry, InFrame, InSlot, Ledger, Setting, Zero, entry, frame_at, map_count}
 use Rattle.av_plain.specs.Stands.{ItemsAre, LedgerStands, View}
 use Rattle.av_plain.proofs.Zap.{after_zap-is, leaving}
 use Rattle.av_swap_laws.specs.May.{AreOnce}

@@ -3,14 +3,13 @@ use Rattle.std.proofs.Common.{◌≡◌, ℕ, ◌+◌, ◌-◌, Bool, true, fals
 use Rattle.std.specs.Prelude.{slice_index}
 use Rattle.std.proofs.lemmas.Bool.Decides.{nat_tests}
 use Rattle.av_anon.proofs.Words.{with_at-same}
-use Rattle.av_base.specs.Words.{is_in, with_at}
+use Rattle.av_base.specs.Words.{is_in, with_at, without}
 use Rattle.av_base.specs.declared.slot.Slot.{Slot}
 use Rattle.av_clusters.specs.Clusters.{give_slot}
 use Rattle.av_frames.specs.Store.{Shown as ShownFrames, Store, shown as shown_frames, with_bytes, with_dirty, with_home, with_maps, with_slot as with_frame_slot}
 use Rattle.av_lru.specs.Lists.{Lists, without_frame}
 use Rattle.av_pagetable.specs.declared.pte.Pte.TheVariants.{Here}
 use Rattle.av_pagetable.specs.Entries.{entry_at, with_entry}
-use Rattle.av_plain.specs.Event.{without}
 use Rattle.av_plain.proofs.Sound.Counts.{same-itself}
 use Rattle.av_swap_laws.specs.Steps.{view_map}
 use Rattle.av_swapcache.specs.Calls.{IsLoaded}

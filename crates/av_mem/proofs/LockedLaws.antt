@@ -5,6 +5,9 @@ use Rattle.std.specs.Prelude.{IsSomeAnd}
 use Rattle.std.proofs.lemmas.Bool.{false≢true}
 use Rattle.std.specs.FinMap.Entries.{is_sorted}
 use Rattle.std.specs.List.{list_any}
+use Rattle.av_base.specs.Keys.{Key, key_cmp, same_key}
+use Rattle.av_base.specs.Items.{same_item}
+use Rattle.av_base.proofs.Keys.{same_key-is, same_key-itself}
 use Rattle.av_base.specs.declared.flags.Flags.{Flags}
 use Rattle.av_vma.specs.Areas.{area_of}
 use Rattle.av_vma.specs.Pages.{pages_in}
@@ -13,14 +16,13 @@ use Rattle.av_pagetable.specs.Entries.{entry_at}
 use Rattle.av_rmap.specs.Walk.{names_frame}
 use Rattle.av_spaces.specs.Spaces.{AreNumbered}
 use Rattle.av_rmap.specs.Items.{is_merged as has_items}
-use Rattle.av_plain.specs.Areas.{Rmap, same_item}
+use Rattle.av_plain.specs.Areas.{Rmap}
 use Rattle.av_plain.specs.Sound.{mergings}
 use Rattle.av_plain.proofs.Sound.Changes.{any-counts}
 use Rattle.av_plain.specs.Device.{Device}
 use Rattle.av_plain.specs.Fault.{is_locked}
-use Rattle.av_plain.specs.Ledger.{Entry, Key, Ledger, entry, is_merged, key_cmp, map_count, names_frame as names, walk}
+use Rattle.av_plain.specs.Ledger.{Entry, Ledger, entry, is_merged, map_count, names_frame as names, walk}
 use Rattle.av_plain.specs.World.{Page, World, is_locked_page, pages}
-use Rattle.av_plain.proofs.Ledger.{same_key, same_key-is, same_key-itself}
 use Rattle.av_plain.proofs.Ledger.Walk.{keys-filter, length-keys, passes}
 use Rattle.av_mem.specs.declared.mem.Mem.{Mem}
 use Rattle.av_rmap.specs.Locked.{IsLocked}

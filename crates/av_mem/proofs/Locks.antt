@@ -6,6 +6,7 @@ use Rattle.std.specs.Cmp.{both_ways}
 use Rattle.std.specs.FinMap.Entries.{find as find_process, is_sorted}
 use Rattle.std.specs.List.{find, list_any, range_with_len}
 use Rattle.std.specs.Ordering.{eq_by_cmp, nat_cmp}
+use Rattle.av_base.specs.Keys.{Key, key_cmp}
 use Rattle.av_base.specs.Words.{within}
 use Rattle.av_vma.specs.declared.area.Area.{Area}
 use Rattle.av_vma.specs.Index.{first_of, past_of}
@@ -17,7 +18,7 @@ use Rattle.av_spaces.specs.Spaces.{AreNumbered, Spaces, pages_of}
 use Rattle.av_plain.specs.Areas.{Rmap}
 use Rattle.av_plain.specs.Device.{Device}
 use Rattle.av_plain.specs.Fault.{is_locked}
-use Rattle.av_plain.specs.Ledger.{Entry, Key, Ledger, entry, key_cmp, names_frame as names, walk}
+use Rattle.av_plain.specs.Ledger.{Entry, Ledger, entry, names_frame as names, walk}
 use Rattle.av_plain.specs.World.{World, is_locked_page, pages}
 use Rattle.av_plain.proofs.Ledger.Walk.{passes, walk-has}
 use Rattle.av_mem.specs.Chains.{HasLocked}

@@ -4,6 +4,7 @@ use Rattle.std.proofs.lemmas.Bool.Decides.{nat_tests}
 use Rattle.std.proofs.lemmas.Bool.{false≢true}
 use Rattle.std.specs.Prelude.{IfSome, IsSomeAnd, option_map, length, map, slice_index}
 use Rattle.std.specs.List.{find, list_any, range_with_len}
+use Rattle.av_base.specs.Items.{Item}
 use Rattle.av_base.specs.declared.slot.Slot.{Slot}
 use Rattle.av_base.specs.declared.prot.Prot.{Prot}
 use Rattle.av_base.specs.Words.{is_in, within}
@@ -33,7 +34,7 @@ use Rattle.av_plain.specs.Stands.{View, Pte as Plain, entry_of, kin_of, prot_of,
 use Rattle.av_plain.specs.World.{Holds}
 use Rattle.av_plain.specs.Transcript.{State, at_first}
 use Rattle.av_plain.proofs.Covered.{merged-first, slots-first, sound-first}
-use Rattle.av_rmap.specs.Items.{Item, Shown as ShownItems, none_merged, shown as shown_items}
+use Rattle.av_rmap.specs.Items.{Shown as ShownItems, none_merged, shown as shown_items}
 use Rattle.av_plain.proofs.Ledger.NoSwap.{itself, is_in-numbers}
 use Rattle.av_plain.proofs.FreeFrames.{first-lists_free}
 use Rattle.av_plain.proofs.Sound.{first-sound}

@@ -4,6 +4,8 @@ use Rattle.std.proofs.lemmas.Bool.{false≢true}
 use Rattle.std.proofs.lemmas.Bool.Decides.{nat_tests}
 use Rattle.std.specs.List.{list_any}
 use Rattle.std.specs.Option.{option_map_or}
+use Rattle.av_base.specs.Keys.{Key}
+use Rattle.av_base.specs.Items.{same_item}
 use Rattle.av_base.specs.Words.{is_in}
 use Rattle.av_base.specs.declared.slot.Slot.{Slot}
 use Rattle.av_vma.specs.declared.area.Area.{Area}
@@ -22,11 +24,11 @@ use Rattle.av_spaces.specs.Kin.{AnonsFit, info_of}
 use Rattle.av_rmap.specs.Covered.{IsCoveredFrom, IsReached}
 use Rattle.av_rmap.specs.Items.{AreCovered as AreCoveredFrom, AreRoots, is_merged as has_items}
 use Rattle.av_rmap.specs.Walk.{names_frame, names_slot}
-use Rattle.av_plain.specs.Areas.{AnonVma, Rmap, chain_by, root_of, same_item}
+use Rattle.av_plain.specs.Areas.{AnonVma, Rmap, chain_by, root_of}
 use Rattle.av_plain.specs.Covered.{AreMergedCovered, AreSlotsCovered, IsOfFrame, IsReached as IsReachedAt, IsRmapSound, IsRooted}
 use Rattle.av_plain.proofs.Covered.Slots.{at_area, of_area, root-is, rooted-own}
 use Rattle.av_plain.specs.Device.{Device}
-use Rattle.av_plain.specs.Ledger.{Entry, Key, Ledger, entry, frame_at, is_merged, names_frame as names, names_slot as in_slot}
+use Rattle.av_plain.specs.Ledger.{Entry, Ledger, entry, frame_at, is_merged, names_frame as names, names_slot as in_slot}
 use Rattle.av_plain.specs.Stands.{AnonsStand, AreasAre, HomesAre, ItemsAre, entry_of, kin_of}
 use Rattle.av_plain.specs.Transcript.{State, rmap_of}
 use Rattle.av_plain.specs.World.{World}

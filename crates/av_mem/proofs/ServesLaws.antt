@@ -4,6 +4,7 @@ use Rattle.std.specs.Prelude.{not, option_map, option_and_then}
 use Rattle.std.specs.FinMap.Entries.{find, is_sorted}
 use Rattle.std.specs.Ordering.{nat_cmp}
 use Rattle.av_anon.specs.declared.anons.Anons.{Anons as AnonSet}
+use Rattle.av_base.specs.Keys.{Key, key_cmp}
 use Rattle.av_base.specs.declared.slot.Slot.{Slot}
 use Rattle.av_swapdev.specs.Header.{Layout, header_of}
 use Rattle.av_swapdev.specs.declared.header.Header.{Header}
@@ -15,7 +16,7 @@ use Rattle.av_plain.specs.Areas.{Anons, Areas, Rmap, chain_by, rmap_after_note}
 use Rattle.av_plain.specs.Choice.{ListsAll}
 use Rattle.av_plain.specs.Device.{Device, IsSameDevice, headers_of, setting_of, without_fault}
 use Rattle.av_plain.specs.Event.{Event, Noted, after, after_note}
-use Rattle.av_plain.specs.Ledger.{Key, Ledger, key_cmp}
+use Rattle.av_plain.specs.Ledger.{Ledger}
 use Rattle.av_plain.specs.Load.{with_loads}
 use Rattle.av_plain.specs.Sound.{AreThere, AreasFit, AtPages, IsTidy}
 use Rattle.av_plain.specs.Stands.{AnonsStand, free_of, kin_of}

@@ -4,7 +4,7 @@ use Rattle.av_frames.specs.Store.{Shown as ShownFrames, shown as shown_frames}
 use Rattle.av_lru.specs.Lists.{Lists, without_frame}
 use Rattle.av_pagetable.specs.Entries.{entry_at}
 use Rattle.av_rmap.specs.Items.{shown as shown_items}
-use Rattle.av_plain.specs.Event.{without}
+use Rattle.av_base.specs.Words.{without}
 use Rattle.av_plain.specs.Stands.{Pte as Plain}
 use Rattle.av_swap_laws.proofs.From.{without-turned}
 use Rattle.av_swapcache.specs.Swap.{Shown as ShownSwap, shown as shown_swap}

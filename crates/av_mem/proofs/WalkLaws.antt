@@ -6,6 +6,7 @@ use Rattle.std.proofs.lemmas.Bool.Decides.{nat_tests}
 use Rattle.std.specs.List.{AllByRecursion, list_any}
 use Rattle.std.specs.FinMap.Entries.{below_all, is_sorted}
 use Rattle.std.specs.Ordering.{is_lt}
+use Rattle.av_base.specs.Keys.{Key, key_cmp, same_key}
 use Rattle.av_base.specs.Limits.{top_page}
 use Rattle.av_base.specs.Words.{how_many}
 use Rattle.av_base.specs.declared.slot.Slot.{Slot}
@@ -21,19 +22,18 @@ use Rattle.av_spaces.proofs.Rising.{laid}
 use Rattle.av_rmap.specs.View.{AreApart, AreSpanned, View as Reach, view_with}
 use Rattle.av_rmap.specs.Items.{AreCovered, AreRootsApart, is_merged, looks_from_all}
 use Rattle.av_rmap.specs.Sorted.{AreRising, IsBefore}
-use Rattle.av_rmap.specs.Walk.{AreItsEntries, Key, looks_from, names_frame, names_slot, same_key}
+use Rattle.av_rmap.specs.Walk.{AreItsEntries, looks_from, names_frame, names_slot}
 use Rattle.av_rmap.proofs.Counting.{keys-as-long}
 use Rattle.av_rmap.proofs.LinkedAreas.{spans-are-areas}
 use Rattle.av_rmap.proofs.MergedLemmas.{roots-apart}
 use Rattle.av_rmap.proofs.SortedLemmas.{below-before, once-there, rising-same}
 use Rattle.av_plain.specs.Device.{Device}
 use Rattle.av_plain.specs.Areas.{Rmap}
-use Rattle.av_plain.specs.Ledger.{Entry, Ledger, entry, key_cmp, keys_of_slot, names_frame as names, names_slot as in_slot, walk}
+use Rattle.av_plain.specs.Ledger.{Entry, Ledger, entry, keys_of_slot, names_frame as names, names_slot as in_slot, walk}
 use Rattle.av_plain.specs.Sound.{AtPages}
 use Rattle.av_plain.specs.Stands.{AreasStand}
 use Rattle.av_plain.specs.World.{World, pages}
 use Rattle.av_plain.specs.Transcript.{State, rmap_of}
-use Rattle.av_plain.proofs.Ledger.{same_key as same_key_by}
 use Rattle.av_plain.proofs.Ledger.NoSwap.{key_is}
 use Rattle.av_plain.proofs.Ledger.Order.{both_first, both_second}
 use Rattle.av_plain.proofs.Ledger.Walk.{all-listed, keys-filter, length-keys, passes}
@@ -72,10 +72,6 @@ keys-rise p (e ∷ es) h = by (p e.1) (keys-rise p es (both_second _ _ h))
     by false rest = rest
 
 -- ---- an entry in both words
-
-any-same : (k : Key) (ks : List Key) → list_any (same_key k) ks ≡ list_any (same_key_by k) ks
-any-same k [] = refl
-any-same k (j ∷ js) = ap (λ b. b || list_any (same_key k) js) (sym (key_is k.0 k.1 j.0 j.1)) ∙ ap (λ b. same_key_by k j || b) (any-same k js)
 
 -- ---- the entries that a walk finds
 

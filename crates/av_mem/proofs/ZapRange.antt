@@ -3,12 +3,13 @@ use Rattle.std.proofs.Common.{◌≡◌, ℕ, zero, suc, ◌+◌, ◌-◌, true,
 use Rattle.std.proofs.lemmas.Bool.Decides.{nat_tests}
 use Rattle.std.proofs.lemmas.List.{append-nil, append_assoc}
 use Rattle.std.specs.FinMap.Entries.{is_sorted, is_sorted-where_key}
+use Rattle.av_base.specs.Keys.{Key, key_cmp, same_key}
+use Rattle.av_base.proofs.Keys.{same_key-itself}
 use Rattle.av_base.specs.Words.{within}
 use Rattle.av_plain.specs.Event.{Event, after_all}
-use Rattle.av_plain.specs.Ledger.{Entry, Key, Ledger, entry, key_cmp}
+use Rattle.av_plain.specs.Ledger.{Entry, Ledger, entry}
 use Rattle.av_plain.specs.Zap.{keys_in, zap_of, zaps_of}
 use Rattle.av_plain.proofs.Access.{after_all-append}
-use Rattle.av_plain.proofs.Ledger.{same_key, same_key-itself}
 use Rattle.av_mem.proofs.PagesGone.{within-none, within-one}
 use Rattle.av_plain.proofs.Zap.{entries-zap_of, entry-zap_of, range-behind, range-done, range-empty, range-least}
 

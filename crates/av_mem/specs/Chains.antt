@@ -1,5 +1,6 @@
 -- What is reached of the entries of a frame, or of its slot, through its home, and how many it has.
 use Rattle.std.specs.Prelude.{◌≡◌, ℕ, true, if◌then◌else◌, List, [], ◌∷◌, Option, Some, None}
+use Rattle.av_base.specs.Keys.{Key}
 use Rattle.av_base.specs.declared.slot.Slot.{Slot}
 use Rattle.av_anon.specs.Anons.{family}
 use Rattle.av_anon.specs.Spans.{spans_of}
@@ -8,7 +9,7 @@ use Rattle.av_rmap.specs.Covered.{IsCoveredFrom}
 use Rattle.av_rmap.specs.View.{View, view_with}
 use Rattle.av_rmap.specs.Items.{AreCovered, is_merged}
 use Rattle.av_rmap.specs.Locked.{IsLocked}
-use Rattle.av_rmap.specs.Walk.{HasSoMany, Key, names_frame, names_slot}
+use Rattle.av_rmap.specs.Walk.{HasSoMany, names_frame, names_slot}
 use Rattle.av_spaces.specs.Spaces.{AreNumbered}
 use Rattle.av_vma.specs.Areas.{area_of}
 use Rattle.av_mem.specs.Mem.{view}

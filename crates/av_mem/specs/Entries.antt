@@ -4,15 +4,16 @@ use Rattle.std.specs.Prelude.{◌≡◌, ℕ, ◌+◌, ◌^◌, ◌<◌, Bool, t
 use Rattle.std.specs.Prelude.{if◌then◌else◌, List, [], ◌∷◌, ◌++◌, length, slice_index_or, Option}
 use Rattle.std.specs.Prelude.{Some, None, IfSome, MatchBool, is_none}
 use Rattle.std.specs.List.{list_any}
-use Rattle.av_base.specs.Words.{how_many, is_in, with_at, within}
+use Rattle.av_base.specs.Keys.{Key}
+use Rattle.av_base.specs.Words.{how_many, is_in, with_at, within, without}
 use Rattle.av_base.specs.declared.slot.Slot.{Slot}
 use Rattle.av_pagetable.specs.Entries.{entry_at}
 use Rattle.av_pagetable.specs.declared.pte.Pte.{Pte}
 use Rattle.av_pagetable.specs.declared.pte.Pte.TheVariants.{Away, Empty, Here, Zero as ZeroPte}
 use Rattle.av_plain.specs.Choice.{ChoosesAll}
 use Rattle.av_plain.specs.Device.{Device}
-use Rattle.av_plain.specs.Event.{after_all, notes_of, without}
-use Rattle.av_plain.specs.Ledger.{Entry, InFrame, InSlot, Key, Ledger, Zero, names_frame}
+use Rattle.av_plain.specs.Event.{after_all, notes_of}
+use Rattle.av_plain.specs.Ledger.{Entry, InFrame, InSlot, Ledger, Zero, names_frame}
 use Rattle.av_plain.specs.Ledger.{names_slot, same_slot}
 use Rattle.av_plain.specs.Areas.{Items}
 use Rattle.av_plain.specs.Stands.{ItemsAre, Pte as Plain, View, free_of}

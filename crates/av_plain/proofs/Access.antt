@@ -4,7 +4,8 @@ use Rattle.std.proofs.lemmas.List.{append_assoc}
 use Rattle.av_trace.specs.declared.note.Note.{Note}
 use Rattle.std.specs.List.{list_any}
 use Rattle.av_plain.specs.World.{World, is_locked_page, pages}
-use Rattle.av_plain.specs.Ledger.{Key, Ledger, Setting, walk}
+use Rattle.av_base.specs.Keys.{Key}
+use Rattle.av_plain.specs.Ledger.{Ledger, Setting, walk}
 use Rattle.av_plain.specs.Event.{Event, Noted, after, after_all, note_in, notes_of, after_notes, note_events}
 use Rattle.av_plain.specs.Fault.{Stop, Denied, Starved, Lost, Touches, sparing, Serves, RunsOut, IsLost, is_allowed}
 use Rattle.av_plain.specs.Access.{Accesses, End, Whole, Stopped, page_events}

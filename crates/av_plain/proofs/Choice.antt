@@ -4,9 +4,10 @@ use Rattle.std.proofs.Common.{◌≡◌, ℕ, zero, suc, ◌+◌, ◌-◌, ◌<�
 use Rattle.std.proofs.lemmas.Bool.Decides.{nat_tests}
 use Rattle.std.specs.Prelude.{MatchOption, fold, unwrap_or}
 use Rattle.std.specs.FinMap.Entries.{is_sorted}
+use Rattle.av_base.specs.Keys.{Key, key_cmp}
 use Rattle.av_base.specs.Words.{how_many}
 use Rattle.std.specs.List.{range_with_len}
-use Rattle.av_plain.specs.Ledger.{Ledger, Setting, Cached, Key, key_cmp, Entry, InFrame, entry, names_frame, is_free, slot_count}
+use Rattle.av_plain.specs.Ledger.{Ledger, Setting, Cached, Entry, InFrame, entry, names_frame, is_free, slot_count}
 use Rattle.av_plain.specs.Event.{Event, set_entry, after, after_all, after_zap}
 use Rattle.av_clusters.specs.Clusters.{give_slot}
 use Rattle.av_base.specs.declared.slot.Slot.{Slot}

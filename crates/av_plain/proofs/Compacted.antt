@@ -4,6 +4,7 @@ use mathlib.Core.List.{reverse_aux}
 use Rattle.std.proofs.lemmas.Bool.{false≢true}
 use Rattle.std.proofs.lemmas.Bool.Decides.{nat_tests}
 use Rattle.std.specs.List.{find, list_all, list_any, range_with_len}
+use Rattle.av_base.specs.Keys.{Key}
 use Rattle.av_base.specs.Words.{how_many, renamed}
 use Rattle.av_trace.specs.declared.command.Command.TheVariants.{Compact, Merge}
 use Rattle.av_trace.specs.declared.note.Note.{Note}
@@ -12,7 +13,7 @@ use Rattle.av_trace.specs.declared.reply.Answer.{Answer}
 use Rattle.av_trace.specs.declared.row.Row.{Row}
 use Rattle.av_plain.specs.Compact.{Compacts, IsCompacted, MovesDown, greatest_used, least_free, move_down, next_move}
 use Rattle.av_plain.specs.Event.{Event, FreeSorted, Noted, after_all, after_note, after_notes, note_events, placed_entry, with_places}
-use Rattle.av_plain.specs.Ledger.{Cached, Entry, InFrame, InSlot, Key, Ledger, Setting, Zero, is_free, names_frame, walk}
+use Rattle.av_plain.specs.Ledger.{Cached, Entry, InFrame, InSlot, Ledger, Setting, Zero, is_free, names_frame, walk}
 use Rattle.av_plain.specs.Merge.{FrameBytes, Merges, candidate, join_notes, merge_notes, merged_like, merges, other_like, with_candidate}
 use Rattle.av_plain.specs.Pass.{how_many_frames}
 use Rattle.av_plain.specs.Sound.{AllSound, IsSound, no_excuse, uses}

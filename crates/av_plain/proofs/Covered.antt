@@ -16,6 +16,9 @@ use Rattle.std.proofs.lemmas.Bool.{false≢true}
 use Rattle.std.proofs.lemmas.Bool.Decides.{nat_tests}
 use Rattle.std.specs.Prelude.{IfSome, IsSome, IsSomeAnd, unwrap_or}
 use Rattle.std.specs.Option.{option_map_or, option_or}
+use Rattle.av_base.specs.Keys.{Key, key_cmp, same_key}
+use Rattle.av_base.proofs.Without.{count-without}
+use Rattle.av_base.proofs.Keys.{same_key-is, same_key-itself}
 use Rattle.av_base.specs.Words.{is_in, with_at}
 use Rattle.av_vma.specs.declared.area.Area.{Area}
 use Rattle.av_vma.specs.Index.{first_of, index_of, past_of}
@@ -24,18 +27,18 @@ use Rattle.av_vma.specs.Pages.{AreLaid, Lengths, Pages, after_prepare, has_page,
 use Rattle.av_plain.specs.Areas.{AnonVma, Anons, AreLeft, Areas, IsLinked, Rmap, at_home, chain_length, chain_by, prepare_page, root_of, with_root}
 use Rattle.av_plain.specs.Covered.{AreMergedCovered, AreSlotsCovered, IsKin, IsReached, IsRmapSound, IsRooted}
 use Rattle.av_plain.specs.Event.{set_entry}
-use Rattle.av_plain.specs.Ledger.{Entry, InFrame, InSlot, Key, Ledger, Setting, Zero, entry, first_ledger, key_cmp, map_count, names_frame}
+use Rattle.av_plain.specs.Ledger.{Entry, InFrame, InSlot, Ledger, Setting, Zero, entry, first_ledger, map_count, names_frame}
 use Rattle.av_plain.specs.Transcript.{at_first, rmap_of}
 use Rattle.std.specs.FinMap.Entries.{is_sorted}
 use Rattle.av_plain.proofs.Chains.{rise-left, rise-rooted}
-use Rattle.av_plain.proofs.Ledger.{entry-set, how_many-found, only_one, same_key, same_key-is, same_key-itself}
+use Rattle.av_plain.proofs.Ledger.{entry-set, how_many-found, only_one}
 use Rattle.av_plain.specs.Sound.{uses}
 use Rattle.av_plain.specs.Ledger.{is_free, is_merged}
-use Rattle.av_plain.specs.Event.{off_lists, settle, settle_entry, without}
+use Rattle.av_plain.specs.Event.{off_lists, settle, settle_entry}
 use Rattle.av_plain.proofs.Sound.Changes.{any-counts, free-is}
-use Rattle.av_plain.proofs.Sound.Counts.{count-without-list, same-is}
+use Rattle.av_plain.proofs.Sound.Counts.{same-is}
 use Rattle.std.proofs.Common.{nat_lt}
-use Rattle.av_base.specs.Words.{how_many}
+use Rattle.av_base.specs.Words.{how_many, without}
 
 -- the entry of a key names the frame
 abbrev pub Names : Ledger → Key → ℕ → Type 0
@@ -290,7 +293,7 @@ settled-merged g l k f names = by (is_free l g) refl
         no_use n e = grind (arith, nat_tests, e)
 
     by : (b : Bool) → is_free l g ≡ b → is_merged (cond b (off_lists g l) l) f ≡ is_merged l f
-    by true is = any-counts (λ x. f == x) (without g l.merged) ∙ left (f == g) refl _ (count-without-list g f l.merged) is
+    by true is = any-counts (λ x. f == x) (without g l.merged) ∙ left (f == g) refl _ (count-without g f l.merged) is
         ∙ sym (any-counts (λ x. f == x) l.merged)
     by false is = refl
 

@@ -5,12 +5,14 @@ use Rattle.std.specs.Ordering.{is_eq, is_lt, eq_by_cmp, ordering_reverse}
 use Rattle.std.specs.declared.cmp.Ordering.TheVariants.{Less, Equal, Greater}
 use Rattle.std.specs.Cmp.{IsTotalOrder, tied_itself}
 use Rattle.std.specs.FinMap.Entries.{find, where_key, is_sorted, below_all}
+use Rattle.av_base.specs.Keys.{Key, key_cmp, same_key}
+use Rattle.av_base.proofs.Keys.{keys_total, same_key-is, same_key-itself}
 use Rattle.av_base.specs.declared.slot.Slot.{Slot}
 use Rattle.av_base.specs.Words.{how_many, renamed}
-use Rattle.av_plain.specs.Ledger.{Key, key_cmp, Entry, InFrame, InSlot, Zero, Ledger, entry, map_count, slot_entries, names_frame, names_slot, same_slot}
+use Rattle.av_plain.specs.Ledger.{Entry, InFrame, InSlot, Zero, Ledger, entry, map_count, slot_entries, names_frame, names_slot, same_slot}
 use Rattle.av_plain.specs.Event.{set_entry, change_entries, put_all, without_seen}
-use Rattle.av_plain.proofs.Ledger.Order.{keys_total, both_first, both_second, count-put, is_less, find_below, below_less, weight}
-use Rattle.av_plain.proofs.Ledger.{entry-set, is_sorted-set, same_key, same_key-is, same_key-itself}
+use Rattle.av_plain.proofs.Ledger.Order.{both_first, both_second, count-put, is_less, find_below, below_less, weight}
+use Rattle.av_plain.proofs.Ledger.{entry-set, is_sorted-set}
 use Rattle.av_plain.specs.Ledger.{is_free}
 use Rattle.av_plain.specs.Event.{change_frame, off_lists, placed_entry, settle, settle_entry, with_places}
 

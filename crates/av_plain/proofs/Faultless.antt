@@ -2,6 +2,7 @@
 use Rattle.std.specs.List.{AllByRecursion}
 use Rattle.std.specs.Prelude.{MatchOption, unwrap_or, if◌then◌else◌}
 use Rattle.std.proofs.Common.{◌≡◌, ◌⊎◌, inl, inr, ℕ, ◌+◌, ◌-◌, min, Bool, true, false, cond, not, List, [], ◌∷◌, ◌++◌, map, Option, Some, None, is_none, refl, sym, ap, subst, ◌∙◌, arith, ◌==◌}
+use Rattle.av_base.specs.Keys.{Key}
 use Rattle.av_base.specs.Page.{page_of, pages_of}
 use Rattle.av_base.specs.declared.slot.Slot.{Slot}
 use Rattle.av_swapdev.specs.Header.{Layout}
@@ -21,7 +22,7 @@ use Rattle.av_trace.specs.declared.reply.Reply.{Reply}
 use Rattle.av_trace.specs.declared.row.Row.{Row}
 use Rattle.av_plain.specs.Event.{Event, EntriesMoved, Zapped, after, after_all, after_notes, note_events, notes_of, when}
 use Rattle.av_plain.specs.Fault.{sparing}
-use Rattle.av_plain.specs.Ledger.{Entry, InFrame, InSlot, Key, Ledger, Setting, Zero, entry, is_orphan, is_usable, map_count, slot_of}
+use Rattle.av_plain.specs.Ledger.{Entry, InFrame, InSlot, Ledger, Setting, Zero, entry, is_orphan, is_usable, map_count, slot_of}
 use Rattle.av_plain.specs.Map.{zaps_for_place}
 use Rattle.av_plain.specs.Mremap.{events_to, range_zaps}
 use Rattle.av_plain.specs.Pass.{IsSlotFor, Spared, is_dirty, pages_written}

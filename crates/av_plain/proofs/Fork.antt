@@ -7,15 +7,16 @@ use Rattle.std.specs.Prelude.{IsSomeAnd}
 use Rattle.std.specs.Ordering.{is_eq, is_lt}
 use Rattle.std.specs.declared.cmp.Ordering.TheVariants.{Less}
 use Rattle.std.specs.FinMap.Entries.{find, where_key, is_sorted, below_all, find-where_key, is_sorted-where_key}
+use Rattle.av_base.specs.Keys.{Key, key_cmp, same_key}
+use Rattle.av_base.proofs.Keys.{same_key-is}
 use Rattle.av_base.specs.Words.{how_many, is_in}
 use Rattle.av_base.specs.declared.slot.Slot.{Slot}
 use Rattle.av_plain.specs.Event.{after_fork, put_all, without_seen}
 use Rattle.av_plain.specs.Fork.{goes_over, inheritance}
 use Rattle.av_plain.specs.World.{Process}
 use Rattle.av_plain.specs.Zap.{keys_of_process}
-use Rattle.av_plain.specs.Ledger.{Entry, InFrame, InSlot, Key, Ledger, Zero, entry, key_cmp, names_frame, names_slot}
+use Rattle.av_plain.specs.Ledger.{Entry, InFrame, InSlot, Ledger, Zero, entry, names_frame, names_slot}
 use Rattle.av_plain.proofs.Event.{count-put_all, entries_with, entry-put_all}
-use Rattle.av_plain.proofs.Ledger.{same_key, same_key-is}
 use Rattle.av_plain.proofs.Ledger.Order.{both_first, both_second, is_less}
 
 -- ---- what is copied

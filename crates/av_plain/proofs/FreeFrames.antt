@@ -8,6 +8,9 @@ use Rattle.av_trace.specs.declared.command.Command.TheVariants.{Spawn, Fork, Exi
 use Rattle.av_trace.specs.declared.place.Place.TheVariants.{Auto, At, Fixed, NoReplace}
 use Rattle.av_trace.specs.declared.reply.Errno.{Errno}
 use Rattle.av_trace.specs.declared.reply.Reply.{Reply}
+use Rattle.av_base.specs.Keys.{Key, key_cmp}
+use Rattle.av_base.proofs.Without.{count-without}
+use Rattle.av_base.proofs.Keys.{same_key-itself}
 use Rattle.av_base.specs.Page.{address_of, page_of, pages_of}
 use Rattle.av_base.specs.Words.{how_many, is_in, renamed, within}
 use Rattle.std.specs.List.{range_with_len}
@@ -24,7 +27,7 @@ use Rattle.av_plain.specs.Lock.{BringsIn, Locks, accesses_of, with_lock}
 use Rattle.av_plain.specs.Event.{Event, FlagSet, Forked, EntriesMoved, TurnedOff, TurnedOn, Used, after, after_all, after_move, after_note, after_notes, after_use, after_use_of, after_zap, change_entries, if_some, key_at, note_events, off_cache, put_all, set_entry, when, with_stale}
 use Rattle.av_plain.specs.Fault.{ComesIn, CopyOnWrite, Denied, IsMade, Lost, MapCached, Need, NewPage, Ready, RunsOut, Serves, Sparing, Starved, Stop, SwapIn, Touches, ZeroPage, drop_at, drop_of_entry, drop_of_slot, asks_copy, is_unneeded, need, need_of_slot, pinned_by, sparing, was_slot}
 use Rattle.av_plain.specs.Fork.{inheritance}
-use Rattle.av_plain.specs.Ledger.{Cached, Entry, InFrame, InSlot, Key, Ledger, Setting, SwapArea, Zero, entry, first_ledger, frame_at, has_free, is_free, is_orphan, key_cmp, keys_of_slot, map_count, names_frame, slot_of, slots_in_use}
+use Rattle.av_plain.specs.Ledger.{Cached, Entry, InFrame, InSlot, Ledger, Setting, SwapArea, Zero, entry, first_ledger, frame_at, has_free, is_free, is_orphan, keys_of_slot, map_count, names_frame, slot_of, slots_in_use}
 use Rattle.av_plain.specs.Pass.{Completes, IsPass, IsSlotFor, Seeks, Spared, TakesFor, Turns, end_note, end_notes, frames_in_turn, is_dirty, is_stuck, stays_cached, turn_notes, unmap_notes}
 use Rattle.av_plain.specs.Refusal.{Refuses, refusal, tests}
 use Rattle.av_plain.specs.Sound.{AllSound, IsSound, count, flights, holders, uses}
@@ -37,7 +40,7 @@ use Rattle.av_plain.proofs.Choice.{ChoosesFrames, frames-chosen, frames-first}
 use Rattle.av_plain.proofs.Access.{after_all-append, note_events-all}
 use Rattle.av_plain.proofs.Event.{map_count-unseen, put_all-only}
 use Rattle.av_plain.proofs.Fork.{copies, child_ledger, going, forked-is, frames-grow}
-use Rattle.av_plain.proofs.Ledger.{entry-set, how_many-append, how_many-found, map_count-set, same_key-itself}
+use Rattle.av_plain.proofs.Ledger.{entry-set, how_many-append, how_many-found, map_count-set}
 use Rattle.av_plain.proofs.Ledger.Order.{weight}
 use Rattle.av_plain.proofs.Refusal.{may-fork}
 use Rattle.av_plain.proofs.Sound.{first-sound, no_entries, step-sound}
@@ -83,7 +86,6 @@ use Rattle.av_plain.specs.Sound.{no_excuse}
 use Rattle.av_plain.specs.Event.{with_places}
 use Rattle.av_plain.proofs.Sound.Frames.{move-holds}
 use Rattle.av_plain.proofs.Sound.Sharing.{uses-go, uses-stay}
-use Rattle.av_plain.proofs.Sound.Counts.{count-without-list}
 
 -- ---- the numbers of a range, each once
 
@@ -213,7 +215,7 @@ chosen-lists m l e free free' steady c h = by (sorts_free e) refl c
   where
     -- the frame that is taken stands once in the list
     out : (f : ℕ) (rest : List ℕ) → TakesOut f free rest → IsLeft (Some f) free rest
-    out f rest q g = parts (g == f) refl _ (ap (how_many (λ x. g == x)) q.1 ∙ count-without-list f g free)
+    out f rest q g = parts (g == f) refl _ (ap (how_many (λ x. g == x)) q.1 ∙ count-without f g free)
       where
         once_only : (n : ℕ) (b : Bool) → n ≡ cond b 1 0 → nat_lt 0 n ≡ true → n ≡ 1
         once_only n true e i = e

@@ -1,11 +1,12 @@
 -- After each event what is free is listed, frames and slots, and slots in use are there.
 use Rattle.std.proofs.Common.{refl, ◌≡◌, ℕ, false, true, T, [], Option, None, ◌<◌}
 use Rattle.std.specs.FinMap.Entries.{is_sorted}
+use Rattle.av_base.specs.Keys.{key_cmp}
 use Rattle.av_base.specs.Words.{within}
 use Rattle.av_plain.specs.Choice.{Chooses, Free, ListsAll, frame_in, slot_in_note}
 use Rattle.av_plain.specs.Device.{AreLayouts}
 use Rattle.av_plain.specs.Event.{Event, FlagSet, Forked, EntriesMoved, Noted, TurnedOff, TurnedOn, Used, Zapped, after, after_move, after_note, after_use, after_zap}
-use Rattle.av_plain.specs.Ledger.{Ledger, Setting, entry, is_on, key_cmp, size_of, slots_in_use}
+use Rattle.av_plain.specs.Ledger.{Ledger, Setting, entry, is_on, size_of, slots_in_use}
 use Rattle.av_plain.specs.Sound.{AreThere, AreasFit, IsSound}
 use Rattle.av_plain.proofs.Fork.{child_ledger}
 use Rattle.av_plain.proofs.FreeFrames.{IsHeld, Steady, fewer-steady, fork-steady, from_lists, move-steady, note-steady, to_lists, used-steady, zap-steady}

@@ -7,6 +7,7 @@ use Rattle.std.specs.Option.{option_map_or}
 use Rattle.std.specs.Ordering.{eq_by_cmp, nat_cmp}
 use Rattle.std.specs.Prelude.{IsSomeAnd, MatchOption}
 use Rattle.std.specs.FinMap.Entries.{find, is_sorted}
+use Rattle.av_base.specs.Keys.{Key, key_cmp}
 use Rattle.av_base.specs.Words.{with_at, within}
 use Rattle.av_base.specs.declared.slot.Slot.{Slot}
 use Rattle.av_clusters.specs.declared.clusters.Page.{Page}
@@ -19,7 +20,7 @@ use Rattle.av_trace.specs.declared.note.Note.TheVariants.{Aged, Copied, Dropped,
 use Rattle.av_plain.specs.Choice.{AreaSlots, ChoosesAll, ChoosesSlot, Free, IsGiven, ListsSlots, new_free_slots, no_slots, slot_in_note, with_given_back}
 use Rattle.av_plain.specs.Device.{AreLayouts}
 use Rattle.av_plain.specs.Event.{TurnedOff, TurnedOn, after, after_move, after_note, after_notes, after_use, after_zap, note_events}
-use Rattle.av_plain.specs.Ledger.{Key, Ledger, Setting, SwapArea, entry, free_slots, is_cached, is_free_slot, is_on, is_usable, key_cmp, same_slot, size_of, slot_count, slot_entries, slots_in_use}
+use Rattle.av_plain.specs.Ledger.{Ledger, Setting, SwapArea, entry, free_slots, is_cached, is_free_slot, is_on, is_usable, same_slot, size_of, slot_count, slot_entries, slots_in_use}
 use Rattle.av_plain.specs.Sound.{AreThere, AreasFit, IsSound, count, is_there, slots}
 use Rattle.av_plain.proofs.Clusters.{AreTaken, Gives, back-at, back-count, gives-one, set-at}
 use Rattle.av_plain.proofs.Fork.{child_ledger}

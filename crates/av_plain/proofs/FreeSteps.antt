@@ -1,6 +1,7 @@
 -- After each step what is free is listed as the ledger has it, frames and slots: a page is taken where its slot is in use, and only slots are free.
 use Rattle.std.proofs.Common.{◌≡◌, ◌⊎◌, inl, inr, ℕ, ◌+◌, ◌-◌, min, Bool, true, false, cond, List, [], ◌∷◌, length, map, take, Option, Some, None, refl, sym, ap, subst, ◌∙◌, ◌==◌, ◌++◌}
 use Rattle.std.specs.Prelude.{MatchOption}
+use Rattle.av_base.specs.Keys.{Key}
 use Rattle.av_base.specs.declared.slot.Slot.{Slot}
 use Rattle.av_base.specs.Page.{page_of, pages_of}
 use Rattle.av_trace.specs.declared.command.Command.{Command}
@@ -28,7 +29,7 @@ use Rattle.av_plain.specs.Lock.{BringsIn, Locks, accesses_of, with_lock}
 use Rattle.av_plain.specs.Event.{Event, FlagSet, Forked, EntriesMoved, TurnedOff, TurnedOn, Used, Zapped, after, after_all, after_move, after_notes, after_use, after_zap, note_events, when}
 use Rattle.av_plain.specs.Fault.{Stop, Touches}
 use Rattle.av_plain.specs.Fork.{inheritance}
-use Rattle.av_plain.specs.Ledger.{Key, Ledger, Setting, SwapArea, entry, is_on, is_orphan, size_of, slots_in_use}
+use Rattle.av_plain.specs.Ledger.{Ledger, Setting, SwapArea, entry, is_on, is_orphan, size_of, slots_in_use}
 use Rattle.av_plain.specs.Refusal.{Refuses, no_device_at, refusal, tests}
 use Rattle.av_plain.specs.Sound.{AllSound, IsSound}
 use Rattle.av_plain.specs.Step.{Follows, IsLegal, closing_swap_area}

@@ -7,25 +7,12 @@ use Rattle.std.proofs.lemmas.Bool.Decides.{nat_tests}
 use Rattle.std.specs.Ordering.{is_eq, eq_by_cmp}
 use Rattle.std.specs.Cmp.{eq_by_cmp_equiv}
 use Rattle.std.specs.FinMap.Entries.{find, where_key, is_sorted, find-put, find-where_key, is_sorted-put}
-use Rattle.av_base.specs.Words.{how_many}
-use Rattle.av_plain.specs.Ledger.{Key, key_cmp, Entry, Ledger, entry, map_count, names_frame}
-use Rattle.av_plain.specs.Event.{set_entry, without}
-use Rattle.av_plain.proofs.Ledger.Order.{keys_total, weight, count-put, count-without}
-
-abbrev pub same_key : Key → Key → Bool
-same_key q k = eq_by_cmp key_cmp q k
-
-pub same_key-is : (q k : Key) → same_key q k ≡ true → q ≡ k
-same_key-is q k h = λ i. (first i, second i)
-  where
-    first : q.0 ≡ k.0
-    first = grind (arith, nat_tests, h)
-
-    second : q.1 ≡ k.1
-    second = grind (arith, nat_tests, h)
-
-pub same_key-itself : (k : Key) → same_key k k ≡ true
-same_key-itself k = (eq_by_cmp_equiv keys_total).refl k
+use Rattle.av_base.specs.Keys.{Key, key_cmp, same_key}
+use Rattle.av_base.proofs.Keys.{keys_total, same_key-is}
+use Rattle.av_base.specs.Words.{how_many, without}
+use Rattle.av_plain.specs.Ledger.{Entry, Ledger, entry, map_count, names_frame}
+use Rattle.av_plain.specs.Event.{set_entry}
+use Rattle.av_plain.proofs.Ledger.Order.{weight, count-put, count-without}
 
 pub entry-set : (k : Key) (e : Entry) (l : Ledger) (q : Key) → entry (set_entry k e l) q ≡ cond (same_key q k) (Some e) (entry l q)
 entry-set k e l q = find-put key_cmp keys_total q k e l.entries
@@ -67,11 +54,3 @@ only_one l f k q d e h few at named at' named' =
 pub how_many-append : {X : Type 0} (p : X → Bool) (xs ys : List X) → how_many p (xs ++ ys) ≡ how_many p xs + how_many p ys
 how_many-append p [] ys = omega arith
 how_many-append p (x ∷ xs) ys = let rest = how_many-append p xs ys in rw rest (omega arith)
-
-pub without-none : (f : ℕ) (fs : List ℕ) → how_many (λ g. f == g) fs ≡ 0 → without f fs ≡ fs
-without-none f [] h = refl
-without-none f (g ∷ fs) h =
-    elim (f == g) as (λ b. cond b 1 0 + how_many (λ g. f == g) fs ≡ 0 → cond (not b) (g ∷ without f fs) (without f fs) ≡ g ∷ fs) [
-      | true ↦ λ e. absurd (omega (arith, e))
-      | false ↦ λ e. ap (λ gs. g ∷ gs) (without-none f fs (omega (arith, e)))
-    ] h

@@ -1,10 +1,11 @@
 -- Where no note is a load, the memories are as they were.
 use Rattle.std.proofs.Common.{◌≡◌, ℕ, ◌+◌, ◌-◌, min, Bool, true, false, cond, ◌&&◌, ◌==◌, List, [], ◌∷◌, ◌++◌, Option, Some, None, is_some, refl, ap, ◌∙◌}
 use Rattle.std.specs.List.{list_all}
+use Rattle.av_base.specs.Keys.{Key}
 use Rattle.av_base.specs.declared.slot.Slot.{Slot}
 use Rattle.av_trace.specs.declared.note.Note.TheVariants.{Aged, Copied, Dropped, Failed, Kept, Loaded, Mapped, New, Put, Started, Unmapped, Written, Zeroed}
 use Rattle.av_plain.specs.Event.{Event, FlagSet, Forked, EntriesMoved, Noted, TurnedOff, TurnedOn, Used, Zapped, after, after_all, note_events, when}
-use Rattle.av_plain.specs.Ledger.{Key, Ledger, Setting, entry, is_orphan}
+use Rattle.av_plain.specs.Ledger.{Ledger, Setting, entry, is_orphan}
 use Rattle.av_plain.specs.Load.{after_load, after_loads, with_loads}
 use Rattle.av_plain.specs.Mremap.{events_to, range_zaps, remap_events}
 use Rattle.av_plain.specs.World.{World}

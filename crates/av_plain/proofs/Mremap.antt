@@ -9,14 +9,15 @@ use Rattle.std.specs.Option.{option_or}
 use Rattle.std.specs.Ordering.{is_eq, is_lt}
 use Rattle.std.specs.declared.cmp.Ordering.TheVariants.{Less}
 use Rattle.std.specs.FinMap.Entries.{find, where_key, is_sorted, below_all, find-where_key, is_sorted-where_key}
+use Rattle.av_base.specs.Keys.{Key, key_cmp, same_key}
+use Rattle.av_base.proofs.Keys.{same_key-is}
 use Rattle.av_base.specs.Words.{within}
 use Rattle.av_plain.specs.Event.{EntriesMoved, after_all, after_move}
-use Rattle.av_plain.specs.Ledger.{Entry, Key, Ledger, entry, key_cmp}
+use Rattle.av_plain.specs.Ledger.{Entry, Ledger, entry}
 use Rattle.av_plain.specs.Mremap.{range_zaps, remap_events}
 use Rattle.av_plain.specs.Zap.{keys_in, zap_of, zaps_of}
 use Rattle.av_plain.proofs.Access.{after_all-append}
 use Rattle.av_plain.proofs.Event.{entries_with, entry-put_all}
-use Rattle.av_plain.proofs.Ledger.{same_key, same_key-is}
 use Rattle.av_plain.proofs.Ledger.Order.{both_first, both_second, is_less}
 use Rattle.av_plain.proofs.Zap.{entries-zap_of, entry-range, in_range}
 

@@ -5,6 +5,7 @@ use Rattle.std.specs.List.{AllByRecursion, range_with_len}
 use Rattle.std.specs.Prelude.{MatchBool, MatchOption, IsTrue, unwrap_or}
 use Rattle.std.proofs.Common.{◌≡◌, ◌⊎◌, inl, inr, ℕ, zero, suc, ◌+◌, ◌-◌, ◌<◌, min, Bool, true, false, cond, not, ◌&&◌, List, [], ◌∷◌, ◌++◌, take, Option, Some, None, is_none, is_some, refl, sym, ap, subst, ◌∙◌, arith, ◌==◌, nat_lt, append-nil}
 use Rattle.std.proofs.lemmas.Bool.Decides.{nat_tests}
+use Rattle.av_base.specs.Keys.{Key, key_cmp}
 use Rattle.av_base.specs.Page.{address_of}
 use Rattle.av_base.specs.Words.{how_many}
 use Rattle.av_base.specs.declared.slot.Slot.{Slot}
@@ -13,7 +14,7 @@ use Rattle.av_trace.specs.declared.reply.OutOf.{OutOf}
 use Rattle.av_trace.specs.declared.note.Note.TheVariants.{Aged, Copied, Dropped, Failed, Kept, Loaded, Mapped, New, Put, Started, Unmapped, Written, Zeroed}
 use Rattle.av_plain.specs.Device.{HasNoDevice}
 use Rattle.av_plain.specs.World.{Page, World, pages}
-use Rattle.av_plain.specs.Ledger.{has_free_slot, is_open, slot_count, Cached, Entry, InFrame, InSlot, Key, Ledger, Setting, Zero, entry, frame_at, has_free, is_on, is_orphan, is_usable, may_give, names_slot, same_slot, size_of, slot_entries, slot_of, SwapArea}
+use Rattle.av_plain.specs.Ledger.{has_free_slot, is_open, slot_count, Cached, Entry, InFrame, InSlot, Ledger, Setting, Zero, entry, frame_at, has_free, is_on, is_orphan, is_usable, may_give, names_slot, same_slot, size_of, slot_entries, slot_of, SwapArea}
 use Rattle.av_plain.specs.Event.{Event, EntriesMoved, Used, after_all, after_note, after_notes, after_use, after_use_of, change_entries, if_some, note_events, notes_of, off_cache, off_flight, set_entry, to_inactive_tail, when, with_stale}
 use Rattle.av_plain.specs.Pass.{Completes, IsPass, IsSlotFor, Seeks, Spared, Turns, frames_in_turn, is_stuck, stays_cached, turn_notes}
 use Rattle.av_plain.specs.Fault.{drop_of_slot, ComesIn, CopyOnWrite, Denied, IsMade, Lost, MapCached, Need, NewPage, Ready, RunsOut, Serves, Sparing, Starved, Stop, SwapIn, Touches, ZeroPage, drop_at, drop_of_entry, asks_copy, need, permits, pinned_by, sparing, was_slot}
@@ -36,7 +37,6 @@ use Rattle.av_trace.specs.declared.reply.Reply.{Reply}
 use Rattle.av_trace.specs.declared.row.Row.{Row}
 use Rattle.av_trace.specs.declared.reply.Answer.{Answer}
 use Rattle.av_plain.specs.Access.{bytes_before, pages_of_access, read_answer, stop_answer, write_answer}
-use Rattle.av_plain.specs.Ledger.{key_cmp}
 use Rattle.av_plain.specs.Event.{after_zap}
 use Rattle.av_plain.specs.Mremap.{range_zaps, remap_events}
 use Rattle.av_plain.proofs.Mremap.{then_target}

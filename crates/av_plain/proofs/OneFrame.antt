@@ -6,20 +6,22 @@ use Rattle.std.specs.FinMap.Entries.{find as find_in, is_sorted}
 use Rattle.std.specs.List.{find, list_all, list_any, range_with_len}
 use Rattle.std.specs.Option.{option_or}
 use Rattle.std.specs.Prelude.{IfSome, IsSome, IsSomeAnd, option_and_then}
+use Rattle.av_base.specs.Keys.{Key, key_cmp, same_key}
+use Rattle.av_base.proofs.Keys.{keys_total, same_key-is, same_key-itself}
 use Rattle.av_base.specs.Page.{page_size}
 use Rattle.av_trace.specs.declared.note.Note.TheVariants.{Shared}
 use Rattle.av_trace.specs.declared.reply.Answer.{Answer}
 use Rattle.av_trace.specs.declared.row.Row.{Row}
 use Rattle.av_plain.specs.Event.{Event, after_all, after_note, after_notes, change_frame, frame_of, set_entry}
-use Rattle.av_plain.specs.Ledger.{Entry, InFrame, InSlot, Key, Ledger, Setting, Zero, entry, is_merged, key_cmp, names_frame}
+use Rattle.av_plain.specs.Ledger.{Entry, InFrame, InSlot, Ledger, Setting, Zero, entry, is_merged, names_frame}
 use Rattle.av_plain.specs.Merge.{ClaimSame, FrameBytes, Has, HasJoined, HoldClaims, Merges, candidate, candidates, with_page, frame_named, hold_same, join_notes, merge_notes, merged_like, merges, other_like, with_candidate}
 use Rattle.av_plain.specs.Sound.{AllSound, IsSound, mergings}
 use Rattle.av_plain.specs.World.{Holds as HoldsAt, Page, World, pages}
 use Rattle.av_plain.specs.Covered.{IsOfFrame}
 use Rattle.av_plain.proofs.Access.{after_notes-append, note_events-all}
 use Rattle.av_plain.proofs.Covered.Swap.{settled_entry-entries}
-use Rattle.av_plain.proofs.Ledger.{entry-set, how_many-append, same_key, same_key-is, same_key-itself}
-use Rattle.av_plain.proofs.Ledger.Order.{both_first, both_second, find_below, keys_total}
+use Rattle.av_plain.proofs.Ledger.{entry-set, how_many-append}
+use Rattle.av_plain.proofs.Ledger.Order.{both_first, both_second, find_below}
 use Rattle.av_plain.proofs.Ledger.NoSwap.{key_at-address}
 use Rattle.av_plain.proofs.Sound.Changes.{any-counts}
 use Rattle.av_plain.proofs.Sound.Counts.{same-is, same-itself, same-turned}

@@ -3,19 +3,20 @@ use Rattle.std.proofs.Common.{◌≡◌, ℕ, zero, suc, ◌+◌, ◌<◌, ◌�
 use Rattle.std.proofs.lemmas.Bool.{false≢true}
 use Rattle.std.specs.List.{find, list_all, list_any, range_with_len}
 use Rattle.std.specs.Prelude.{IfSome, IsSomeAnd}
+use Rattle.av_base.specs.Keys.{Key, same_key}
 use Rattle.av_base.specs.Page.{page_size}
 use Rattle.av_trace.specs.declared.note.Note.{Note}
 use Rattle.av_trace.specs.declared.note.Note.TheVariants.{Shared}
 use Rattle.av_plain.specs.Compact.{MovesDown}
 use Rattle.av_plain.specs.Covered.{IsOfFrame}
 use Rattle.av_plain.specs.Event.{after_note, after_notes, change_frame, set_entry}
-use Rattle.av_plain.specs.Ledger.{Entry, InFrame, Key, Ledger, Setting, entry, is_merged, names_frame}
+use Rattle.av_plain.specs.Ledger.{Entry, InFrame, Ledger, Setting, entry, is_merged, names_frame}
 use Rattle.av_plain.specs.Merge.{FrameBytes, HoldClaims, candidate, hold_same, join_notes, merge_notes, merged_like, merges, other_like, with_candidate}
 use Rattle.av_plain.specs.Sound.{AllSound, mergings}
 use Rattle.av_plain.specs.World.{Holds, Page, World, pages}
 use Rattle.av_plain.proofs.Covered.MergeCommands.{some-entry}
 use Rattle.av_plain.proofs.Covered.Swap.{merged-settled_entry, settled_entry-entries}
-use Rattle.av_plain.proofs.Ledger.{entry-set, same_key}
+use Rattle.av_plain.proofs.Ledger.{entry-set}
 use Rattle.av_plain.proofs.Ledger.NoSwap.{key_at-address}
 use Rattle.av_plain.proofs.Sound.Counts.{same-is, same-itself}
 use Rattle.av_plain.proofs.Sound.Frames.{candidate-is, found-is, positive, split}

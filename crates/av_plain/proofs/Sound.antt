@@ -367,7 +367,7 @@ stored-sound m w l p a (b ∷ bytes) s alive =
     kept f (Some x) h = refl
 
 -- pages change that were mapped
-change-sound : (m : Setting) (w : World) (l : Ledger) (p from n : ℕ) (change : Page → Page) → AllSound m w l → lives w p ≡ true
+pub change-sound : (m : Setting) (w : World) (l : Ledger) (p from n : ℕ) (change : Page → Page) → AllSound m w l → lives w p ≡ true
     → AllSound m (set_process w p (with_change_on (pages w p) from n change)) l
 change-sound m w l p from n change s alive = changed-sound m w l p (with_change_on (pages w p) from n change) s alive
     (λ page i. still (within from n page) (pages w p page) i)

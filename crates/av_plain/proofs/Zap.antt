@@ -6,14 +6,16 @@ use Rattle.std.specs.List.{list_any}
 use Rattle.std.specs.declared.cmp.Ordering.TheVariants.{Less}
 use Rattle.std.specs.Ordering.{is_eq}
 use Rattle.std.specs.FinMap.Entries.{find, where_key, is_sorted, find-where_key, is_sorted-where_key}
+use Rattle.av_base.specs.Keys.{Key, key_cmp, same_key}
+use Rattle.av_base.proofs.Keys.{keys_total, same_key-is, same_key-itself}
 use Rattle.av_base.specs.declared.slot.Slot.{Slot}
 use Rattle.av_base.specs.Words.{how_many, within}
 use Rattle.av_trace.specs.declared.note.Note.TheVariants.{Dropped}
-use Rattle.av_plain.specs.Ledger.{Ledger, Key, key_cmp, Entry, Zero, InFrame, InSlot, entry, map_count, slot_entries, names_frame, names_slot, is_free, is_orphan, frame_at, slot_of}
+use Rattle.av_plain.specs.Ledger.{Ledger, Entry, Zero, InFrame, InSlot, entry, map_count, slot_entries, names_frame, names_slot, is_free, is_orphan, frame_at, slot_of}
 use Rattle.av_plain.specs.Event.{Zapped, after, after_all, settle, settle_entry, off_lists, off_cache, if_some, frame_of, after_zap, when, note_events}
 use Rattle.av_plain.specs.Zap.{keys_of_process, keys_in, orphan_drop, slot_behind_key, zap_of, zaps_of}
-use Rattle.av_plain.proofs.Ledger.Order.{keys_total, weight, count-without}
-use Rattle.av_plain.proofs.Ledger.{same_key, same_key-is, same_key-itself, how_many-found}
+use Rattle.av_plain.proofs.Ledger.Order.{weight, count-without}
+use Rattle.av_plain.proofs.Ledger.{how_many-found}
 use Rattle.av_plain.proofs.Event.{keys_from_least}
 use Rattle.av_plain.proofs.Access.{after_all-append}
 use Rattle.av_plain.proofs.Sound.Counts.{same-itself, slot-itself}

@@ -3,13 +3,14 @@ use Rattle.std.specs.Prelude.{◌≡◌, ◌⊎◌, ℕ, ◌-◌, ◌^◌, ◌<�
 use Rattle.std.specs.Prelude.{List, [], ◌∷◌, ◌++◌, length, map, take, Option, Some}
 use Rattle.std.specs.Prelude.{None}
 use Rattle.std.specs.List.{AllByRecursion, range_with_len}
+use Rattle.av_base.specs.Keys.{Key}
 use Rattle.av_base.specs.Page.{page_of, address_of, pages_met}
 use Rattle.av_trace.specs.declared.reply.Answer.{Answer}
 use Rattle.av_trace.specs.declared.reply.Answer.TheVariants.{Done, Data, Segv, Bus, Oom}
 use Rattle.av_trace.specs.declared.note.Note.{Note}
 use Rattle.av_trace.specs.declared.row.Row.{Row}
 use Rattle.av_plain.specs.World.{Process, World, pages, with_bytes, Shows, set_process}
-use Rattle.av_plain.specs.Ledger.{Setting, Ledger, Key}
+use Rattle.av_plain.specs.Ledger.{Setting, Ledger}
 use Rattle.av_plain.specs.Event.{Event, Used, note_events, after_all}
 use Rattle.av_plain.specs.Fault.{Stop, Denied, Starved, Lost, Touches}
 use Rattle.av_plain.specs.Load.{with_loads}

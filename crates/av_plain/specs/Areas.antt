@@ -7,7 +7,9 @@ use Rattle.std.specs.Prelude.{Option, Some, None, IfSome, IsSome, IsSomeAnd, opt
 use Rattle.std.specs.Prelude.{◌&&◌, ◌==◌}
 use Rattle.std.specs.List.{list_any}
 use Rattle.std.specs.Option.{option_map_or}
+use Rattle.av_base.specs.Keys.{Key}
 use Rattle.av_base.specs.Flags.{no_flags}
+use Rattle.av_base.specs.Items.{Item, with_item}
 use Rattle.av_base.specs.Page.{page_of, pages_of}
 use Rattle.av_base.specs.Words.{is_in, with_at}
 use Rattle.av_base.specs.declared.flags.Flag.{Flag}
@@ -28,7 +30,7 @@ use Rattle.av_vma.specs.Pages.{Lengths, Pages, after_map, after_prepare, after_u
 use Rattle.av_vma.specs.Pages.{makes_anon, pages_changed, to_flag, to_prot}
 use Rattle.av_vma.specs.declared.area.Area.{Area}
 use Rattle.av_plain.specs.Event.{Event, FlagSet, Noted, Used, after}
-use Rattle.av_plain.specs.Ledger.{Entry, InFrame, Key, Ledger, entry, keys_of_slot}
+use Rattle.av_plain.specs.Ledger.{Entry, InFrame, Ledger, entry, keys_of_slot}
 use Rattle.av_plain.specs.Mremap.{after_mremap, leaves_old, marks_at}
 use Rattle.av_plain.specs.Refusal.{wraps}
 use Rattle.av_plain.specs.World.{Process, World, pages, pages_to_hole}
@@ -144,15 +146,10 @@ home_for r (k ∷ q ∷ ks) = at_root r.anons (home_of k.1 (r.areas k.0 k.1))
 
 -- ---- items
 
--- whether two items are one
-abbrev pub same_item : ℕ × ℕ → ℕ × ℕ → Bool
-same_item a b = a.0 == b.0 && a.1 == b.1
-
--- an item, if there is one, is added where it isn't there
-abbrev pub with_item : Option (ℕ × ℕ) → List (ℕ × ℕ) → List (ℕ × ℕ)
-with_item None items = items
-with_item (Some item) items =
-    if list_any (same_item item) items then items else items ++ item ∷ []
+-- with an item, if there is one
+abbrev pub with_any_item : Option Item → List Item → List Item
+with_any_item None items = items
+with_any_item (Some item) items = with_item item items
 
 -- the item of a page: the root of its area's own anon_vma, and its linear index
 abbrev pub item_of : Rmap → Key → Option (ℕ × ℕ)
@@ -162,12 +159,12 @@ item_of r k = at_root r.anons (home_of k.1 (r.areas k.0 k.1))
 abbrev pub with_first_item : ℕ → Rmap → Rmap
 with_first_item f r = record r {
   homes = with_at f None r.homes;
-  items = with_at f (with_item (at_root r.anons (r.homes f)) []) r.items;
+  items = with_at f (with_any_item (at_root r.anons (r.homes f)) []) r.items;
 }
 
 -- a frame has the item of one page more
 abbrev pub with_item_of : ℕ → Key → Rmap → Rmap
-with_item_of f k r = record r { items = with_at f (with_item (item_of r k) (r.items f)) r.items }
+with_item_of f k r = record r { items = with_at f (with_any_item (item_of r k) (r.items f)) r.items }
 
 -- home and items go over from one frame to another
 abbrev pub with_home_moved : ℕ → ℕ → Rmap → Rmap

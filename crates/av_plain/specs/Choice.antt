@@ -8,7 +8,7 @@ use Rattle.std.specs.Prelude.{◌≡◌, ◌<◌, ◌≤◌, ◌<ℤ◌, ◌≤�
 use Rattle.std.specs.Prelude.{◌==◌, nat_lt, int_le, if◌then◌else◌, true, false, List, [], ◌∷◌, ◌++◌}
 use Rattle.std.specs.Prelude.{filter, fold, count_by, option_map, Option, Some, None, IsSomeAnd}
 use Rattle.std.specs.Prelude.{Bool, MatchBool, MatchOption}
-use Rattle.av_base.specs.Words.{how_many, is_in, with_at}
+use Rattle.av_base.specs.Words.{how_many, is_in, with_at, without}
 use Rattle.av_base.specs.declared.slot.Slot.{Slot}
 use Rattle.av_clusters.specs.Clusters.{Slots, fresh, take_slot, give_slot, is_free as is_free_page}
 use Rattle.av_clusters.specs.Clusters.{is_taken, page_at}
@@ -18,7 +18,7 @@ use Rattle.av_trace.specs.declared.note.Note.{Note}
 use Rattle.av_trace.specs.declared.note.Note.TheVariants.{New, Copied, Loaded, Put, Moved}
 use Rattle.av_plain.specs.Ledger.{HasNumbers, Ledger, Setting, SwapArea, is_free, is_free_slot}
 use Rattle.av_plain.specs.Ledger.{is_on, is_open, free_frames, free_slots, size_of, slot_count}
-use Rattle.av_plain.specs.Event.{Event, FreeSorted, Noted, TurnedOff, TurnedOn, after, without}
+use Rattle.av_plain.specs.Event.{Event, FreeSorted, Noted, TurnedOff, TurnedOn, after}
 
 -- the slots of each swap area, with their clusters
 abbrev pub AreaSlots : Type 0

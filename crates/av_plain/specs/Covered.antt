@@ -2,11 +2,13 @@
 -- merged one, through a chain alone.
 use Rattle.std.specs.List.{list_any}
 use Rattle.std.specs.Prelude.{◌≡◌, ◌<◌, ◌≤◌, ℕ, true, false, Some, None, IfSome, IsSome, IsSomeAnd}
+use Rattle.av_base.specs.Keys.{Key}
+use Rattle.av_base.specs.Items.{same_item}
 use Rattle.av_base.specs.declared.slot.Slot.{Slot}
 use Rattle.av_base.specs.Words.{how_many, is_in}
 use Rattle.av_vma.specs.Index.{index_of}
-use Rattle.av_plain.specs.Areas.{AnonVma, Anons, ChainsRise, Rmap, chain_by, root_of, same_item}
-use Rattle.av_plain.specs.Ledger.{Key, Ledger, entry, frame_at, is_merged, names_frame}
+use Rattle.av_plain.specs.Areas.{AnonVma, Anons, ChainsRise, Rmap, chain_by, root_of}
+use Rattle.av_plain.specs.Ledger.{Ledger, entry, frame_at, is_merged, names_frame}
 use Rattle.av_plain.specs.Ledger.{names_slot}
 
 -- a page is reached from a home: its area's chain has the home's anon_vma, and its linear index is

@@ -3,8 +3,9 @@ use Rattle.std.specs.FinMap.Entries.{put, where_key}
 use Rattle.std.specs.Ordering.{nat_cmp}
 use Rattle.std.specs.Prelude.{ℕ, ◌+◌, ◌-◌, Bool, true, false, not, ◌&&◌, ◌==◌, if◌then◌else◌, List}
 use Rattle.std.specs.Prelude.{[], ◌∷◌, ◌++◌, map, filter, fold, Option, Some, None}
+use Rattle.av_base.specs.Keys.{Key, key_cmp}
 use Rattle.av_base.specs.Page.{page_of}
-use Rattle.av_base.specs.Words.{is_in, renamed, within}
+use Rattle.av_base.specs.Words.{is_in, renamed, within, without}
 use Rattle.av_base.specs.declared.flags.Flag.{Flag}
 use Rattle.av_base.specs.declared.slot.Slot.{Slot}
 use Rattle.av_trace.specs.declared.note.Cause.TheVariants.{Writeback, Referenced, NoSlot}
@@ -14,8 +15,8 @@ use Rattle.av_trace.specs.declared.note.Note.TheVariants.{Zeroed, New, Copied, L
 use Rattle.av_trace.specs.declared.note.Note.TheVariants.{Unmapped, Started, Written, Failed}
 use Rattle.av_trace.specs.declared.note.Note.TheVariants.{Dropped, Kept, Aged, Shared, Joined}
 use Rattle.av_trace.specs.declared.note.Note.TheVariants.{Moved}
-use Rattle.av_plain.specs.Ledger.{names_frame, key_cmp, same_slot, is_free, frame_at, InFrame}
-use Rattle.av_plain.specs.Ledger.{slot_of, Entry, Zero, entry, Cached, Key, Ledger, SwapArea}
+use Rattle.av_plain.specs.Ledger.{names_frame, same_slot, is_free, frame_at, InFrame}
+use Rattle.av_plain.specs.Ledger.{slot_of, Entry, Zero, entry, Cached, Ledger, SwapArea}
 use Rattle.av_plain.specs.Ledger.{InSlot}
 use Rattle.av_plain.specs.World.{process}
 
@@ -54,10 +55,6 @@ without_seen (InSlot s) = InSlot s
 abbrev pub change_entries : ℕ → (Entry → Entry) → Ledger → Ledger
 change_entries f change l =
     record l { entries = map (λ e. (e.0, if names_frame f e.1 then change e.1 else e.1)) l.entries }
-
--- the list without the frame
-abbrev pub without : ℕ → List ℕ → List ℕ
-without f fs = filter (λ g. not (f == g)) fs
 
 -- the frame leaves its list, and is merged no longer
 abbrev pub off_lists : ℕ → Ledger → Ledger

@@ -2,6 +2,7 @@
 use Rattle.std.specs.Prelude.{◌≡◌, ◌⊎◌, ℕ, Bool, true, false, not, ◌&&◌, ◌||◌, ◌==◌, nat_lt}
 use Rattle.std.specs.Prelude.{if◌then◌else◌, IsTrue, List, [], ◌∷◌, ◌++◌, Option, Some, None}
 use Rattle.std.specs.List.{list_any}
+use Rattle.av_base.specs.Keys.{Key}
 use Rattle.av_base.specs.Page.{address_of}
 use Rattle.av_base.specs.declared.slot.Slot.{Slot}
 use Rattle.av_trace.specs.declared.reply.OutOf.{OutOf}
@@ -9,7 +10,7 @@ use Rattle.av_trace.specs.declared.note.Note.{Note}
 use Rattle.av_trace.specs.declared.note.Note.TheVariants.{Zeroed, New, Copied, Loaded, Mapped}
 use Rattle.av_trace.specs.declared.note.Note.TheVariants.{Dropped}
 use Rattle.av_plain.specs.World.{World, Page, pages, allows, is_locked_page}
-use Rattle.av_plain.specs.Ledger.{Ledger, Setting, Key, Entry, Zero, InFrame, InSlot, entry}
+use Rattle.av_plain.specs.Ledger.{Ledger, Setting, Entry, Zero, InFrame, InSlot, entry}
 use Rattle.av_plain.specs.Ledger.{map_count, slot_entries, slot_of, frame_at, in_flight, has_free}
 use Rattle.av_plain.specs.Ledger.{is_full, is_merged, walk}
 use Rattle.av_plain.specs.Event.{after_notes, when}

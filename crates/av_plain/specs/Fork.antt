@@ -3,6 +3,7 @@
 use Rattle.std.specs.Option.{option_map_or}
 use Rattle.std.specs.Prelude.{◌≡◌, ◌<◌, ◌≤◌, ◌==◌, ◌&&◌, ℕ, suc, Bool, true, false, List, [], ◌∷◌, ◌++◌}
 use Rattle.std.specs.Prelude.{map, filter, not, Option, Some, None, IfSome, IsSomeAnd}
+use Rattle.av_base.specs.Keys.{Key}
 use Rattle.av_base.specs.Words.{how_many, is_in, with_at}
 use Rattle.std.specs.List.{range_with_len}
 use Rattle.av_trace.specs.declared.command.Command.{Command}
@@ -15,7 +16,7 @@ use Rattle.av_vma.specs.Fork.{areas_to_fork, forked_area, own_to_fork}
 use Rattle.av_vma.specs.Pages.{pages_in, with_area}
 use Rattle.av_plain.specs.Areas.{AnonVma, Anons, AreNext, Rmap, chain_by, none_on, root_of}
 use Rattle.av_plain.specs.Event.{Event, Forked}
-use Rattle.av_plain.specs.Ledger.{Key, Ledger}
+use Rattle.av_plain.specs.Ledger.{Ledger}
 use Rattle.av_plain.specs.Report.{AreApart, range_of}
 use Rattle.av_plain.specs.World.{Page, Process, World, pages}
 use Rattle.av_plain.specs.Zap.{keys_of_process}

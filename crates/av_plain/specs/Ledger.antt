@@ -3,13 +3,13 @@
 use Rattle.std.specs.FinMap.Entries.{find}
 use Rattle.std.specs.List.{list_any, list_all, range_with_len}
 use Rattle.std.specs.Option.{option_map_or}
-use Rattle.std.specs.Ordering.{nat_cmp, ordering_then}
+use Rattle.std.specs.Ordering.{nat_cmp}
 use Rattle.std.specs.Prelude.{◌≡◌, ℕ, ℤ, ◌+◌, ◌-◌, Bool, true, false, not, ◌&&◌, ◌==◌}
 use Rattle.std.specs.Prelude.{if◌then◌else◌, List, [], ◌∷◌, map, filter, Option, Some, None}
 use Rattle.std.specs.Prelude.{is_some, ◌||◌, length, nat_lt, sum_by, option_map, ◌*◌, is_none}
 use Rattle.std.specs.Prelude.{unwrap_or}
-use Rattle.std.specs.declared.cmp.Ordering.{Ordering}
 use Rattle.av_swapdev.specs.Header.{Layout}
+use Rattle.av_base.specs.Keys.{Key, key_cmp}
 use Rattle.av_base.specs.Words.{how_many, is_in}
 use Rattle.av_base.specs.declared.slot.Slot.{Slot}
 
@@ -23,14 +23,6 @@ pub record Setting : Type 0 where
   pub headers : Option (ℕ → Option Layout)
 
 -- ---- the ledger
-
--- a process and a page
-abbrev pub Key : Type 0
-Key = ℕ × ℕ
-
--- by process, then page
-abbrev pub key_cmp : Key → Key → Ordering
-key_cmp a b = ordering_then (nat_cmp a.0 b.0) (nat_cmp a.1 b.1)
 
 -- an entry is the zero page, a frame (seen or not), or a slot
 pub data Entry : Type 0 where

@@ -3,6 +3,7 @@ use Rattle.std.specs.List.{find, list_all, range_with_len}
 use Rattle.std.specs.Prelude.{◌≡◌, ℕ, not, ◌&&◌, ◌==◌, if◌then◌else◌, Bool, true, false, List, []}
 use Rattle.std.specs.Prelude.{◌∷◌, ◌++◌, map, Option, Some, None, option_and_then, is_none}
 use Rattle.std.specs.Prelude.{IsSomeAnd, ◌<◌, ◌⊎◌}
+use Rattle.av_base.specs.Keys.{Key}
 use Rattle.av_base.specs.Page.{address_of, page_size}
 use Rattle.av_trace.specs.declared.note.Note.{Note}
 use Rattle.av_trace.specs.declared.note.Note.TheVariants.{Shared, Joined}
@@ -11,7 +12,7 @@ use Rattle.av_trace.specs.declared.reply.Answer.TheVariants.{Done}
 use Rattle.av_trace.specs.declared.row.Row.{Row}
 use Rattle.av_plain.specs.Event.{Event, after_notes, frame_of, note_events}
 use Rattle.av_plain.specs.Fault.{is_locked}
-use Rattle.av_plain.specs.Ledger.{Entry, InFrame, Key, Ledger, Setting, entry, is_merged, names_frame}
+use Rattle.av_plain.specs.Ledger.{Entry, InFrame, Ledger, Setting, entry, is_merged, names_frame}
 use Rattle.av_plain.specs.Ledger.{slot_of}
 use Rattle.av_plain.specs.World.{Holds, Page, World, pages}
 

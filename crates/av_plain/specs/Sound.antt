@@ -5,12 +5,12 @@ use Rattle.std.specs.Ordering.{nat_cmp}
 use Rattle.std.specs.Prelude.{ℕ, ◌+◌, ◌*◌, Bool, true, false, ◌&&◌, ◌==◌, if◌then◌else◌, ◌++◌, Option}
 use Rattle.std.specs.Prelude.{Some, None, ◌≡◌, ◌<◌, is_some, ◌≤◌, ◌||◌, length, T, nat_lt, min}
 use Rattle.std.specs.Prelude.{IfSome}
+use Rattle.av_base.specs.Keys.{Key, key_cmp}
 use Rattle.av_base.specs.Limits.{most_processes, top_page}
 use Rattle.av_base.specs.Words.{how_many}
 use Rattle.av_base.specs.declared.slot.Slot.{Slot}
-use Rattle.av_plain.specs.Ledger.{Cached, Entry, InFrame, InSlot, Key, Ledger, Setting, Zero, entry}
+use Rattle.av_plain.specs.Ledger.{Cached, Entry, InFrame, InSlot, Ledger, Setting, Zero, entry}
 use Rattle.av_plain.specs.Ledger.{is_cached, is_free, is_merged, is_on, is_orphan, is_usable}
-use Rattle.av_plain.specs.Ledger.{key_cmp}
 use Rattle.av_plain.specs.Ledger.{map_count, names_frame, names_slot, same_slot, size_of}
 use Rattle.av_plain.specs.Ledger.{slot_entries, slot_of, slots_in_use}
 use Rattle.av_plain.specs.World.{World, pages}

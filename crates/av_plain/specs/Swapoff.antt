@@ -1,6 +1,7 @@
 -- A swap area is turned off: first each of its slots in use is emptied.
 use Rattle.std.specs.Prelude.{◌≡◌, ℕ, List, [], ◌∷◌, ◌++◌, map, if◌then◌else◌, Some, None}
 use Rattle.std.specs.Prelude.{MatchOption}
+use Rattle.av_base.specs.Keys.{Key}
 use Rattle.av_base.specs.Page.{address_of}
 use Rattle.av_base.specs.declared.slot.Slot.{Slot}
 use Rattle.av_trace.specs.declared.note.Note.{Note}
@@ -12,7 +13,7 @@ use Rattle.av_trace.specs.declared.reply.OutOf.{OutOf}
 use Rattle.av_trace.specs.declared.row.Row.{Row}
 use Rattle.av_plain.specs.Event.{Event, TurnedOff, after_notes, note_events}
 use Rattle.av_plain.specs.Fault.{sparing}
-use Rattle.av_plain.specs.Ledger.{Key, Ledger, Setting, frame_at, has_free, keys_of_slot}
+use Rattle.av_plain.specs.Ledger.{Ledger, Setting, frame_at, has_free, keys_of_slot}
 use Rattle.av_plain.specs.Ledger.{slots_in_use}
 use Rattle.av_plain.specs.Pass.{Completes, Seeks, Spared, TakesFor, out_of}
 use Rattle.av_plain.specs.World.{World}

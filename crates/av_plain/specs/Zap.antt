@@ -1,10 +1,11 @@
 -- Entries of a range go, one by one: a process exits, or a range is unmapped or mapped anew.
 use Rattle.std.specs.Prelude.{ℕ, ◌==◌, List, [], ◌∷◌, ◌++◌, map, filter, Option, Some, None}
+use Rattle.av_base.specs.Keys.{Key}
 use Rattle.av_base.specs.Words.{within}
 use Rattle.av_base.specs.declared.slot.Slot.{Slot}
 use Rattle.av_trace.specs.declared.note.Note.TheVariants.{Dropped}
 use Rattle.av_plain.specs.Event.{slot_behind, Event, when, after, after_all, Zapped, note_events}
-use Rattle.av_plain.specs.Ledger.{entry, Entry, Key, Ledger, is_orphan}
+use Rattle.av_plain.specs.Ledger.{entry, Entry, Ledger, is_orphan}
 
 -- the keys of a process's entries, by rising page
 abbrev pub keys_of_process : Ledger → ℕ → List Key

@@ -6,7 +6,8 @@ use Rattle.av_plain.specs.Areas.{Rmap, rmap_after_all}
 use Rattle.av_plain.specs.Choice.{ChoosesAll}
 use Rattle.av_plain.specs.Device.{Device, IsSameDevice, as_told, Wrote}
 use Rattle.av_plain.specs.Event.{after_notes, note_events}
-use Rattle.av_plain.specs.Ledger.{Ledger, Setting, key_cmp}
+use Rattle.av_base.specs.Keys.{key_cmp}
+use Rattle.av_plain.specs.Ledger.{Ledger, Setting}
 use Rattle.av_plain.specs.Fault.{sparing}
 use Rattle.av_plain.specs.Load.{with_loads}
 use Rattle.av_plain.specs.Pass.{Spared, pages_written}

@@ -1,6 +1,7 @@
 -- No step changes which frames are those of locked pages.
 use Rattle.std.proofs.Common.{◌≡◌, ℕ, ◌≤◌, Bool, true, false, cond, T, List, [], ◌∷◌, Option, Some, None, is_some, OnErr, OnOk, Ok, Err, Result, refl, sym, ap, ◌∙◌}
 use Rattle.std.specs.FinMap.Entries.{is_sorted}
+use Rattle.av_base.specs.Keys.{key_cmp}
 use Rattle.av_base.specs.declared.slot.Slot.{Slot}
 use Rattle.av_trace.specs.declared.note.Cause.{Cause}
 use Rattle.av_trace.specs.declared.note.Cause.TheVariants.{Referenced}
@@ -10,7 +11,7 @@ use Rattle.av_plain.specs.Areas.{Rmap, rmap_after_all}
 use Rattle.av_plain.specs.Device.{Device, as_told}
 use Rattle.av_plain.specs.Event.{Noted, after_note, after_notes, note_events}
 use Rattle.av_plain.specs.Fault.{is_locked}
-use Rattle.av_plain.specs.Ledger.{Ledger, Setting, key_cmp}
+use Rattle.av_plain.specs.Ledger.{Ledger, Setting}
 use Rattle.av_plain.specs.Load.{after_load, with_loads}
 use Rattle.av_plain.specs.World.{World}
 use Rattle.av_plain.proofs.Sound.There.{sorted-note}

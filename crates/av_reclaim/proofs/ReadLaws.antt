@@ -6,6 +6,8 @@ use Rattle.std.proofs.lemmas.List.{append_assoc, append-nil, reverse-append}
 use Rattle.std.specs.FinMap.Entries.{is_sorted}
 use Rattle.std.specs.List.{list_any, range_with_len}
 use Rattle.std.specs.Prelude.{MatchBool, MatchOption, slice_get}
+use Rattle.av_base.specs.Keys.{Key, key_cmp, same_key}
+use Rattle.av_base.proofs.Keys.{same_key-itself}
 use Rattle.av_base.specs.Words.{how_many, is_in}
 use Rattle.av_frames.specs.Store.{first_of}
 use Rattle.av_lru.specs.Lists.{frame_before, last_of}
@@ -19,13 +21,13 @@ use Rattle.av_vma.specs.declared.area.Area.{Area}
 use Rattle.av_plain.specs.Areas.{Rmap}
 use Rattle.av_plain.specs.Choice.{ListsFree}
 use Rattle.av_plain.specs.Device.{Device}
-use Rattle.av_plain.specs.Ledger.{Entry, Key, Ledger, Setting, has_free, is_free, is_merged, key_cmp, slot_of}
+use Rattle.av_plain.specs.Ledger.{Entry, Ledger, Setting, has_free, is_free, is_merged, slot_of}
 use Rattle.av_plain.specs.Reclaim.{is_referenced, names_seen}
 use Rattle.av_plain.specs.Sound.{IsSoundBut, uses}
 use Rattle.av_plain.specs.Stands.{entry_of}
 use Rattle.av_plain.specs.World.{World}
 use Rattle.av_plain.proofs.Event.{how_many-same}
-use Rattle.av_plain.proofs.Ledger.{how_many-append, same_key, same_key-itself}
+use Rattle.av_plain.proofs.Ledger.{how_many-append}
 use Rattle.av_plain.proofs.Ledger.Walk.{keys-filter, passes}
 use Rattle.av_plain.proofs.Sound.Changes.{any-counts}
 use Rattle.av_plain.proofs.Sound.Counts.{same-itself, same-turned}

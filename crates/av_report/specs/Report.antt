@@ -3,7 +3,7 @@ use Rattle.std.specs.Prelude.{◌≡◌, ℕ, List, [], length, map}
 use Rattle.av_trace.specs.declared.reply.Answer.TheVariants.{Walk}
 use Rattle.av_trace.specs.declared.reply.Reply.{Reply}
 use Rattle.av_trace.specs.declared.row.Row.{Row}
-use Rattle.av_plain.specs.Ledger.{Key}
+use Rattle.av_base.specs.Keys.{Key}
 use Rattle.av_plain.specs.Report.{Range, prot_in, AreLongest, key_row, row_of}
 
 -- the rows of the longest runs of pages of the ranges with one protection

@@ -4,6 +4,7 @@ use Rattle.std.proofs.Math.Seq.{drop-cons}
 use Rattle.std.proofs.lemmas.Bool.{false≢true}
 use Rattle.std.proofs.lemmas.Bool.Decides.{nat_tests}
 use Rattle.std.specs.List.{AllByRecursion, list_any}
+use Rattle.av_base.specs.Items.{Item, is_item, same_item}
 use Rattle.av_base.specs.Words.{how_many}
 use Rattle.av_pagetable.specs.declared.pte.Pte.{Pte}
 use Rattle.av_pagetable.specs.Entries.{with_entry}
@@ -11,7 +12,7 @@ use Rattle.av_vma.specs.Pages.{has_page}
 use Rattle.av_vma.specs.declared.area.Area.{Area}
 use Rattle.av_rmap.specs.Changed.{changed_in, changed_over, with_changed}
 use Rattle.av_rmap.specs.Covered.{IsCovered, IsReached}
-use Rattle.av_rmap.specs.Items.{AreCovered, Item, is_item, same_item}
+use Rattle.av_rmap.specs.Items.{AreCovered}
 use Rattle.av_rmap.specs.View.{View, AreApart, AreSpanned}
 use Rattle.av_rmap.specs.Walk.{areas_from, holds, names_frame, page_at, passes_in, walk_of}
 use Rattle.av_rmap.proofs.Entries.{has-holds, holds-has, one-area}

@@ -1,8 +1,8 @@
 -- Lists that hold each item equally often have equally many that pass any test.
 use Rattle.std.proofs.Common.{◌≡◌, ℕ, ◌+◌, ◌<◌, Bool, true, false, cond, List, [], ◌∷◌, length, refl, sym, ap, ◌∙◌, arith, ◌==◌, eqb-true, eq-eqb}
 use Rattle.std.proofs.lemmas.Bool.Decides.{nat_tests}
+use Rattle.av_base.specs.Keys.{Key, same_key}
 use Rattle.av_base.specs.Words.{how_many}
-use Rattle.av_rmap.specs.Walk.{Key, same_key}
 
 module _ {X : Type 0} (same : X → X → Bool) (itself : (x : X) → same x x ≡ true) (is_same : (x y : X) → same x y ≡ true → x ≡ y) where
   -- without the first that is this one

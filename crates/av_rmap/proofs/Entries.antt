@@ -2,6 +2,7 @@
 use Rattle.std.proofs.Common.{◌≡◌, ℕ, zero, suc, ◌+◌, ◌<◌, Bool, true, false, cond, ◌&&◌, List, [], ◌∷◌, ◌++◌, Option, Some, None, length, refl, sym, ap, subst, ◌∙◌, arith, inl, inr, ◌==◌, eq-eqb, ne_eqb}
 use Rattle.std.proofs.lemmas.Bool.{cases_eq}
 use Rattle.std.proofs.lemmas.Bool.Decides.{nat_tests}
+use Rattle.av_base.specs.Keys.{Key, same_key}
 use Rattle.av_base.specs.Words.{how_many}
 use Rattle.av_chain.specs.Links.{one_if}
 use Rattle.av_pagetable.specs.declared.pte.Pte.{Pte}
@@ -10,7 +11,7 @@ use Rattle.av_vma.specs.Index.{index_of}
 use Rattle.av_vma.specs.Pages.{has_page}
 use Rattle.av_rmap.specs.Covered.{IsCovered, IsReached}
 use Rattle.av_rmap.specs.View.{View, AreApart, AreSpanned}
-use Rattle.av_rmap.specs.Walk.{Key, same_key, areas_from, holds, page_at, found_from, found_in, walk_of, AreItsEntries, HasSoMany}
+use Rattle.av_rmap.specs.Walk.{areas_from, holds, page_at, found_from, found_in, walk_of, AreItsEntries, HasSoMany}
 use Rattle.av_rmap.proofs.NextAreas.{often}
 use Rattle.av_rmap.proofs.SpanLemmas.{are_spans, one-span}
 

@@ -7,9 +7,10 @@ use Rattle.std.specs.declared.alloc.Global.{Global}
 use Rattle.std.proofs.lemmas.Bool.{false≢true}
 use Rattle.std.proofs.lemmas.Bool.Decides.{nat_tests}
 use Rattle.std.proofs.lemmas.List.{map-set, length-replicate}
+use Rattle.av_base.specs.Items.{Item, is_item, same_item, with_item}
 use Rattle.av_base.specs.Words.{how_many, with_at}
 use Rattle.av_base.proofs.Counted.{count-most, count-none, count-set, count-some}
-use Rattle.av_rmap.specs.Items.{AreOnce, Item, is_item, is_merged, none_merged, same_item, shown, with_item, with_items, with_renamed}
+use Rattle.av_rmap.specs.Items.{AreOnce, is_merged, none_merged, shown, with_items, with_renamed}
 use Rattle.av_rmap.specs.ItemLists.{AllOnce, AreKept, lists_of}
 
 -- ---- no item twice

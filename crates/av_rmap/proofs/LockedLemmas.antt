@@ -3,14 +3,16 @@ use Rattle.std.proofs.Common.{◌≡◌, ℕ, ◌<◌, Bool, true, false, ◌&&�
 use Rattle.std.proofs.lemmas.Bool.{false≢true}
 use Rattle.std.proofs.lemmas.Bool.Decides.{nat_tests}
 use Rattle.std.specs.List.{list_any}
+use Rattle.av_base.specs.Keys.{Key}
+use Rattle.av_base.specs.Items.{Item, is_item, same_item}
 use Rattle.av_base.specs.Words.{how_many}
 use Rattle.av_pagetable.specs.declared.pte.Pte.{Pte}
 use Rattle.av_vma.specs.declared.area.Area.{Area}
 use Rattle.av_rmap.specs.Covered.{IsReached}
-use Rattle.av_rmap.specs.Items.{AreCovered, Item, is_item, same_item}
+use Rattle.av_rmap.specs.Items.{AreCovered}
 use Rattle.av_rmap.specs.Locked.{IsLocked, finds_locked}
 use Rattle.av_rmap.specs.View.{View, AreApart, AreSpanned}
-use Rattle.av_rmap.specs.Walk.{Key, areas_from, holds, page_at, passes_in}
+use Rattle.av_rmap.specs.Walk.{areas_from, holds, page_at, passes_in}
 use Rattle.av_rmap.proofs.Entries.{has-holds, holds-has, one-area}
 use Rattle.av_rmap.proofs.NextAreas.{any-where}
 

@@ -5,7 +5,8 @@ use Rattle.av_chain.specs.Links.{one_if}
 use Rattle.av_pagetable.specs.declared.pte.Pte.{Pte}
 use Rattle.av_vma.specs.declared.area.Area.{Area}
 use Rattle.av_rmap.specs.View.{View}
-use Rattle.av_rmap.specs.Walk.{Key, holds, page_at, found_in, looks_to_last, passes_in, walk_of}
+use Rattle.av_base.specs.Keys.{Key}
+use Rattle.av_rmap.specs.Walk.{holds, page_at, found_in, looks_to_last, passes_in, walk_of}
 
 -- a look that finds nothing
 pub finds-nothing : (view : View) (f : Pte → Bool) (i : ℕ) (o : Option Area) → passes_in view f i o ≡ false → found_in view f i o ≡ []

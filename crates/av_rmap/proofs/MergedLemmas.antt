@@ -4,6 +4,8 @@ use Rattle.std.proofs.lemmas.Bool.{cases_eq, false≢true}
 use Rattle.std.proofs.lemmas.Bool.Decides.{nat_tests}
 use Rattle.std.proofs.lemmas.List.{append_assoc}
 use Rattle.std.specs.Prelude.{IfSome, IsSome, is_some}
+use Rattle.av_base.specs.Keys.{Key, same_key}
+use Rattle.av_base.specs.Items.{Item, is_item, same_item}
 use Rattle.av_base.specs.Words.{how_many, is_in}
 use Rattle.av_chain.specs.Links.{one_if}
 use Rattle.av_pagetable.specs.declared.pte.Pte.{Pte}
@@ -15,9 +17,9 @@ use Rattle.av_anon.specs.Order.{IsInOrder}
 use Rattle.av_anon.specs.Spans.{is_of, present}
 use Rattle.av_anon.specs.declared.infos.Info.{Info}
 use Rattle.av_rmap.specs.Covered.{IsReached}
-use Rattle.av_rmap.specs.Items.{AreCovered, AreOnce, AreRoots, AreRootsApart, Item, found_from_all, is_item, same_item}
+use Rattle.av_rmap.specs.Items.{AreCovered, AreOnce, AreRoots, AreRootsApart, found_from_all}
 use Rattle.av_rmap.specs.View.{View, AreApart, AreSpanned, view_with}
-use Rattle.av_rmap.specs.Walk.{AreItsEntries, Key, areas_from, found_from, found_in, same_key, walk_of}
+use Rattle.av_rmap.specs.Walk.{AreItsEntries, areas_from, found_from, found_in, walk_of}
 use Rattle.av_rmap.proofs.Entries.{has-holds, look-found, look-index, look-none, look-of, many-append, not_more, walk-none, walk-of}
 use Rattle.av_rmap.proofs.ItemLemmas.{some_item}
 use Rattle.av_rmap.proofs.NextAreas.{often}

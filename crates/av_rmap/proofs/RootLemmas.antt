@@ -3,6 +3,7 @@ use Rattle.std.proofs.Common.{◌≡◌, ℕ, ◌<◌, Bool, true, false, cond, 
 use Rattle.std.proofs.lemmas.Bool.{false≢true}
 use Rattle.std.proofs.lemmas.Bool.Decides.{nat_tests}
 use Rattle.std.specs.Prelude.{IfSome, IsSome, IsSomeAnd, is_some}
+use Rattle.av_base.specs.Items.{Item, is_item, same_item, with_item}
 use Rattle.av_base.specs.Words.{is_in}
 use Rattle.av_pagetable.specs.declared.pte.Pte.{Pte}
 use Rattle.av_vma.specs.declared.area.Area.{Area}
@@ -13,7 +14,7 @@ use Rattle.av_anon.specs.Anons.{Family, own_of}
 use Rattle.av_anon.specs.Order.{IsInOrder}
 use Rattle.av_anon.specs.declared.infos.Info.{Info}
 use Rattle.av_rmap.specs.Covered.{IsReached}
-use Rattle.av_rmap.specs.Items.{AreRoots, Item, KeepsRoots, is_item, same_item, with_item}
+use Rattle.av_rmap.specs.Items.{AreRoots, KeepsRoots}
 use Rattle.av_rmap.specs.View.{view_with}
 
 pub roots-stay : (old new : Family) (items : List Item) → KeepsRoots old new → AreRoots old items → AreRoots new items

@@ -6,7 +6,8 @@ use Rattle.av_vma.specs.declared.area.Area.{Area}
 use Rattle.av_rmap.specs.Changed.{changed_in}
 use Rattle.av_rmap.specs.Seen.{unseen, with_unseen}
 use Rattle.av_rmap.specs.View.{View}
-use Rattle.av_rmap.specs.Walk.{Key, holds, names_frame, names_seen, page_at, passes_in}
+use Rattle.av_base.specs.Keys.{Key}
+use Rattle.av_rmap.specs.Walk.{holds, names_frame, names_seen, page_at, passes_in}
 use Rattle.av_rmap.proofs.Changes.{IsOfFrame, look-still}
 use Rattle.av_rmap.proofs.LookLemmas.{finds-one}
 

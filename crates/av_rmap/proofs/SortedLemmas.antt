@@ -8,12 +8,13 @@ use Rattle.std.specs.List.{list_any, sum_by, AllByRecursion}
 use Rattle.std.specs.List.Sorted.{IsPermutation, IsSortedBy}
 use Rattle.std.specs.Ordering.{is_lt, nat_cmp, ordering_then}
 use Rattle.av_arena.proofs.Order.{AllByRecursion-map}
+use Rattle.av_base.specs.Keys.{Key, same_key}
 use Rattle.av_base.specs.Words.{how_many}
 use Rattle.av_rmap.specs.Sorted.{IsBefore, AreRising}
 use Rattle.av_chain.specs.Links.{one_if}
 use Rattle.av_pagetable.specs.declared.pte.Pte.{Pte}
 use Rattle.av_rmap.specs.View.{View}
-use Rattle.av_rmap.specs.Walk.{Key, AreItsEntries, same_key}
+use Rattle.av_rmap.specs.Walk.{AreItsEntries}
 
 -- what is counted is counted in any order
 as-sum : {X : Type 0} (test : X → Bool) (xs : List X) → how_many test xs ≡ sum_by (λ x. cond (test x) 1 0) xs

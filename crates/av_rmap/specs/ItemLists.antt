@@ -2,8 +2,9 @@
 use Rattle.std.specs.Prelude.{◌≡◌, ℕ, ◌<◌, ◌^◌, List, [], length, map, slice_index_or}
 use Rattle.std.specs.declared.vec.Vec.{Vec}
 use Rattle.std.specs.declared.alloc.Global.{Global}
+use Rattle.av_base.specs.Items.{Item}
 use Rattle.av_base.specs.Words.{how_many}
-use Rattle.av_rmap.specs.Items.{AreOnce, Item, is_merged}
+use Rattle.av_rmap.specs.Items.{AreOnce, is_merged}
 
 -- the lists of some vectors
 abbrev pub lists_of : List (Vec Item Global) → List (List Item)

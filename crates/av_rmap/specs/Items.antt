@@ -2,23 +2,15 @@
 use Rattle.std.specs.List.{list_any}
 use Rattle.std.specs.Prelude.{◌≡◌, ◌<◌, ◌≤◌, ℕ, ◌+◌, Bool, true, false, ◌&&◌, ◌==◌, if◌then◌else◌}
 use Rattle.std.specs.Prelude.{List, [], ◌∷◌, ◌++◌, length, slice_index_or, Some, IfSome, IsSomeAnd}
+use Rattle.av_base.specs.Keys.{Key}
+use Rattle.av_base.specs.Items.{Item, is_item, same_item}
 use Rattle.av_base.specs.Words.{how_many, is_in, with_at}
 use Rattle.av_pagetable.specs.declared.pte.Pte.{Pte}
 use Rattle.av_anon.specs.Anons.{Family}
 use Rattle.av_anon.specs.declared.infos.Info.{Info}
 use Rattle.av_rmap.specs.Covered.{IsReached}
 use Rattle.av_rmap.specs.View.{View}
-use Rattle.av_rmap.specs.Walk.{Key, found_from, looks_from}
-
--- the root of an anon_vma and a linear index
-abbrev pub Item : Type 0
-Item = ℕ × ℕ
-
-abbrev pub same_item : Item → Item → Bool
-same_item x y = x.0 == y.0 && x.1 == y.1
-
-abbrev pub is_item : Item → List Item → Bool
-is_item x items = list_any (same_item x) items
+use Rattle.av_rmap.specs.Walk.{found_from, looks_from}
 
 -- no item stands twice
 abbrev pub AreOnce : List Item → Type 0
@@ -41,10 +33,6 @@ none_merged frames = record { frames = frames; items = λ f. [] }
 
 abbrev pub with_items : ℕ → List Item → Shown → Shown
 with_items f items s = record s { items = with_at f items s.items }
-
--- with an item, unless it is there
-abbrev pub with_item : Item → List Item → List Item
-with_item x items = if is_item x items then items else items ++ x ∷ []
 
 -- a frame gives its items to one that has none
 abbrev pub with_renamed : ℕ → ℕ → Shown → Shown

@@ -1,7 +1,7 @@
 -- Entries in order.
 use Rattle.std.specs.Prelude.{◌≡◌, ◌<◌, ◌⊎◌, List, [], ◌∷◌}
 use Rattle.std.specs.List.{AllByRecursion}
-use Rattle.av_rmap.specs.Walk.{Key}
+use Rattle.av_base.specs.Keys.{Key}
 
 -- by process, then by page
 abbrev pub IsBefore : Key → Key → Type 0

@@ -1,6 +1,7 @@
 -- The entries of a frame or a slot, and what one look finds.
 use Rattle.std.specs.Prelude.{◌≡◌, ℕ, ◌+◌, ◌-◌, Bool, false, ◌&&◌, ◌==◌, if◌then◌else◌, List, []}
 use Rattle.std.specs.Prelude.{◌∷◌, ◌++◌, Option, Some, None, length, map}
+use Rattle.av_base.specs.Keys.{Key, same_key}
 use Rattle.av_base.specs.Words.{how_many, within}
 use Rattle.av_base.specs.declared.slot.Slot.{Slot}
 use Rattle.av_chain.specs.Links.{one_if}
@@ -13,13 +14,6 @@ use Rattle.av_interval.specs.Search.{overlaps}
 use Rattle.av_rmap.specs.View.{View}
 use Rattle.av_rmap.specs.declared.target.Target.{Target}
 use Rattle.av_rmap.specs.declared.target.Target.TheVariants as target
-
--- a process and a page
-abbrev pub Key : Type 0
-Key = ℕ × ℕ
-
-abbrev pub same_key : Key → Key → Bool
-same_key k j = k.0 == j.0 && k.1 == j.1
 
 -- whether an entry names the frame
 abbrev pub names_frame : ℕ → Pte → Bool

@@ -3,9 +3,10 @@
 ghost use Rattle.std.specs.Prelude.{◌≡◌, ◌+◌, ◌<◌, ◌≤◌, ◌^◌, [], IfOk, MatchResult, replicate};
 ghost use Rattle.std.specs.Prelude.{if◌then◌else◌};
 ghost use Rattle.std.specs.List.{range_with_len};
+ghost use Rattle.av_base.specs.Items.{is_item, with_item};
 ghost use Rattle.av_base.specs.Words.{how_many};
 ghost use Rattle.av_rmap.specs.ItemLists.{lists_of};
-ghost use Rattle.av_rmap.specs.Items.{AreOnce, is_item, is_merged, none_merged, shown, with_item};
+ghost use Rattle.av_rmap.specs.Items.{AreOnce, is_merged, none_merged, shown};
 ghost use Rattle.av_rmap.specs.Items.{with_items, with_renamed};
 
 use std::alloc::{AllocError, Global};

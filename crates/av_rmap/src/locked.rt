@@ -6,7 +6,8 @@ ghost use Rattle.av_chain.specs.Links.{one_if};
 ghost use Rattle.av_rmap.specs.Items.{AreCovered};
 ghost use Rattle.av_rmap.specs.Locked.{IsLocked, finds_locked, locked_looks, locked_looks_all};
 ghost use Rattle.av_rmap.specs.View.{AreApart, AreSpanned};
-ghost use Rattle.av_rmap.specs.Walk.{Key, areas_from, holds, looks_from, names_frame};
+ghost use Rattle.av_base.specs.Keys.{Key};
+ghost use Rattle.av_rmap.specs.Walk.{areas_from, holds, looks_from, names_frame};
 ghost use Rattle.av_vma.specs.Areas.{is_locked};
 
 use crate::look::Look;

@@ -5,7 +5,8 @@ ghost use Rattle.std.specs.Prelude.{OnErr, OnOk};
 ghost use Rattle.av_rmap.specs.Items.{AreCovered, AreOnce, AreRootsApart, looks_from_all};
 ghost use Rattle.av_rmap.specs.Sorted.{AreRising};
 ghost use Rattle.av_rmap.specs.View.{AreApart, AreSpanned};
-ghost use Rattle.av_rmap.specs.Walk.{AreItsEntries, Key, names_frame};
+ghost use Rattle.av_base.specs.Keys.{Key};
+ghost use Rattle.av_rmap.specs.Walk.{AreItsEntries, names_frame};
 
 use crate::look::Look;
 use crate::target::Target;

@@ -8,7 +8,8 @@ ghost use Rattle.av_rmap.specs.Items.{AreCovered, looks_from_all};
 ghost use Rattle.av_rmap.specs.Changed.{changed_in, changed_over};
 ghost use Rattle.av_rmap.specs.Seen.{unseen, with_unseen};
 ghost use Rattle.av_rmap.specs.View.{AreApart, AreSpanned};
-ghost use Rattle.av_rmap.specs.Walk.{HasSoMany, Key, areas_from, holds, looks_from};
+ghost use Rattle.av_base.specs.Keys.{Key};
+ghost use Rattle.av_rmap.specs.Walk.{HasSoMany, areas_from, holds, looks_from};
 ghost use Rattle.av_rmap.specs.Walk.{looks_to_last, names_frame, names_seen, passes_in};
 
 use crate::look::{Look, LookMut};

@@ -1,12 +1,13 @@
 //! The entries of a frame or of a slot by process, then by page.
 
 ghost use Rattle.std.specs.Prelude.{◌≡◌, ◌+◌, ◌≤◌, List, length, IfOk, OnErr, OnOk};
+ghost use Rattle.av_base.specs.Keys.{Key};
 ghost use Rattle.av_base.specs.Words.{how_many};
 ghost use Rattle.av_interval.specs.Search.{overlaps};
 ghost use Rattle.av_rmap.specs.Covered.{IsCovered, IsCoveredFrom};
 ghost use Rattle.av_rmap.specs.Sorted.{AreRising};
 ghost use Rattle.av_rmap.specs.View.{AreApart, AreSpanned};
-ghost use Rattle.av_rmap.specs.Walk.{AreItsEntries, Key, looks_from, names, names_frame};
+ghost use Rattle.av_rmap.specs.Walk.{AreItsEntries, looks_from, names, names_frame};
 ghost use Rattle.av_rmap.specs.Walk.{names_slot};
 
 use crate::look::Look;

@@ -2,12 +2,13 @@
 
 ghost use Rattle.std.specs.Prelude.{◌≡◌, ℕ, ◌+◌, ◌≤◌, ◌++◌, Bool, true, List, length, vec_len};
 ghost use Rattle.std.specs.Prelude.{vec_capacity, IsSomeAnd, Some};
+ghost use Rattle.av_base.specs.Keys.{Key};
 ghost use Rattle.av_base.specs.Words.{how_many};
 ghost use Rattle.av_interval.specs.Search.{overlaps};
 ghost use Rattle.av_pagetable.specs.declared.pte.Pte.{Pte as Entry};
 ghost use Rattle.av_rmap.specs.View.{AreApart, AreSpanned, View};
 ghost use Rattle.av_rmap.specs.Covered.{IsCovered};
-ghost use Rattle.av_rmap.specs.Walk.{AreItsEntries, Key, found_from, found_in, holds, list_of};
+ghost use Rattle.av_rmap.specs.Walk.{AreItsEntries, found_from, found_in, holds, list_of};
 ghost use Rattle.av_rmap.specs.Walk.{looks_from, names};
 
 use crate::look::Look;

@@ -1,11 +1,12 @@
 -- What stays cached where entries go or move: a slot that an entry names keeps the frame that caches it. So bytes stay where pages keep them.
 use Rattle.std.proofs.Common.{◌≡◌, ◌⊎◌, inl, inr, ℕ, ◌+◌, ◌-◌, ◌<◌, ◌≤◌, min, Bool, true, false, cond, not, ◌&&◌, ◌==◌, List, [], ◌∷◌, Option, Some, None, refl, sym, ap, subst, ◌∙◌, arith}
 use Rattle.std.proofs.lemmas.Bool.Decides.{nat_tests}
+use Rattle.av_base.specs.Keys.{Key}
 use Rattle.av_base.specs.declared.slot.Slot.{Slot}
 use Rattle.av_trace.specs.declared.note.Note.TheVariants.{Dropped}
 use Rattle.av_plain.specs.Device.{Device}
 use Rattle.av_plain.specs.Event.{after_all, after_move, after_note, after_zap, note_events, off_cache, when}
-use Rattle.av_plain.specs.Ledger.{Key, Ledger, Setting, entry, frame_at, in_flight, is_orphan, is_stale, is_unmapped, same_slot, slot_entries}
+use Rattle.av_plain.specs.Ledger.{Ledger, Setting, entry, frame_at, in_flight, is_orphan, is_stale, is_unmapped, same_slot, slot_entries}
 use Rattle.av_plain.specs.Mremap.{remap_events}
 use Rattle.av_plain.specs.Sound.{IsSound}
 use Rattle.av_plain.specs.Stands.{BytesStand, IsClean, IsKept, View}

@@ -16,11 +16,12 @@ use Rattle.av_trace.specs.Reply.{IsCleared, answer_only}
 use Rattle.av_plain.specs.Device.{Device, IsSameDevice, setting_of, device_by, Wrote}
 use Rattle.av_plain.specs.Fork.{IsRmapNext}
 use Rattle.av_plain.specs.World.{Process, lives, pages, set_process}
-use Rattle.av_plain.specs.Ledger.{HasNumbers, Key, Ledger, SwapArea, entry}
+use Rattle.av_plain.specs.Ledger.{HasNumbers, Ledger, SwapArea, entry}
 use Rattle.av_plain.specs.Refusal.{tests, refusal, Refuses}
 use Rattle.av_plain.specs.Transcript.{State, IsStep, rmap_of}
 use Rattle.av_plain.specs.Sound.{AllSound}
 use Rattle.av_plain.specs.Choice.{Free, ListsAll}
+use Rattle.av_base.specs.Keys.{Key}
 use Rattle.av_base.specs.Words.{with_at}
 use Rattle.av_vma.specs.Pages.{Pages, home_of}
 use Rattle.av_plain.specs.Stands.{AnonsStand, AreasAre, AreasStand, BytesStand, HeadersStand, HomesAre, IsKept, ItemsAre, entry_of, free_of, kin_of}

@@ -1,6 +1,7 @@
 -- What stands also where the ledger stays: an area is prepared, a read of the device fails, a page without a frame is read.
 use Rattle.std.proofs.Common.{◌≡◌, ℕ, ◌<◌, Bool, true, false, cond, List, Option, Some, None, refl, sym, ap, subst, ◌∙◌, ◌==◌}
 use Rattle.std.specs.Prelude.{IfSome, IsSomeAnd, slice_index}
+use Rattle.av_base.specs.Keys.{Key}
 use Rattle.av_base.specs.Page.{page_size}
 use Rattle.av_base.specs.Words.{with_at}
 use Rattle.av_base.specs.declared.slot.Slot.{Slot}
@@ -9,7 +10,7 @@ use Rattle.av_vma.specs.declared.area.Area.{Area}
 use Rattle.av_plain.specs.Areas.{Anons, prepare_page}
 use Rattle.av_plain.specs.Device.{Device}
 use Rattle.av_plain.specs.Event.{Used, after, after_use_of}
-use Rattle.av_plain.specs.Ledger.{Entry, InFrame, InSlot, IsBlank, Key, Ledger, Setting, Zero, entry, frame_at, is_free, names_frame}
+use Rattle.av_plain.specs.Ledger.{Entry, InFrame, InSlot, IsBlank, Ledger, Setting, Zero, entry, frame_at, is_free, names_frame}
 use Rattle.av_plain.specs.Stands.{BytesStand, IsClean, IsKept, IsKeptAt, View, free_of}
 use Rattle.av_plain.specs.World.{Holds}
 use Rattle.av_plain.specs.World.{Page, World, pages}

@@ -3,14 +3,15 @@ use Rattle.std.proofs.Common.{◌≡◌, ℕ, ◌+◌, ◌-◌, ◌<◌, ◌≤�
 use Rattle.std.proofs.lemmas.Bool.Decides.{nat_tests}
 use Rattle.std.proofs.lemmas.Bool.{false≢true}
 use Rattle.std.specs.FinMap.Entries.{is_sorted}
+use Rattle.av_base.specs.Keys.{key_cmp}
 use Rattle.av_base.specs.Page.{page_of}
-use Rattle.av_base.specs.Words.{is_in, with_at}
+use Rattle.av_base.specs.Words.{is_in, with_at, without}
 use Rattle.av_base.specs.declared.slot.Slot.{Slot}
 use Rattle.av_trace.specs.declared.note.Note.TheVariants.{Copied}
 use Rattle.av_plain.specs.Choice.{Chooses}
-use Rattle.av_plain.specs.Event.{Noted, after_note, off_lists, set_entry, settle_entry, to_inactive_head, without}
+use Rattle.av_plain.specs.Event.{Noted, after_note, off_lists, set_entry, settle_entry, to_inactive_head}
 use Rattle.av_plain.specs.Fault.{asks_copy}
-use Rattle.av_plain.specs.Ledger.{InFrame, Ledger, Setting, entry, is_free, is_merged, key_cmp, map_count, names_frame, names_slot, slot_entries, slot_of}
+use Rattle.av_plain.specs.Ledger.{InFrame, Ledger, Setting, entry, is_free, is_merged, map_count, names_frame, names_slot, slot_entries, slot_of}
 use Rattle.av_plain.specs.Sound.{holders, slots}
 use Rattle.av_plain.specs.Stands.{LedgerStands, Pte, View, free_of}
 use Rattle.av_plain.proofs.Covered.Swap.{still-in}

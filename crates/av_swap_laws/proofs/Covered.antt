@@ -3,6 +3,7 @@ use Rattle.std.proofs.Common.{◌≡◌, ℕ, Bool, true, false, [], ◌∷◌, 
 use Rattle.std.proofs.lemmas.Bool.{false≢true}
 use Rattle.std.specs.Prelude.{IsSome, IsSomeAnd}
 use Rattle.std.specs.FinMap.Entries.{is_sorted}
+use Rattle.av_base.specs.Keys.{Key, key_cmp, same_key}
 use Rattle.av_base.specs.Page.{page_of}
 use Rattle.av_base.specs.declared.slot.Slot.{Slot}
 use Rattle.av_trace.specs.declared.note.Cause.{Cause}
@@ -13,13 +14,13 @@ use Rattle.av_plain.specs.Areas.{Rmap, at_home, home_for, rmap_after_note}
 use Rattle.av_plain.specs.Covered.{IsOfSlot}
 use Rattle.av_plain.specs.Event.{after_note, after_use, after_use_of, after_zap, change_entries, if_some, into_cache, off_cache, off_flight, set_entry, to_active, to_inactive_head, to_inactive_tail, with_stale, without_seen}
 use Rattle.av_plain.specs.Fault.{asks_copy}
-use Rattle.av_plain.specs.Ledger.{Entry, InFrame, InSlot, Key, Ledger, Zero, entry, frame_at, is_free, is_merged, key_cmp, keys_of_slot, names_frame, names_slot, slot_entries, slot_of}
+use Rattle.av_plain.specs.Ledger.{Entry, InFrame, InSlot, Ledger, Zero, entry, frame_at, is_free, is_merged, keys_of_slot, names_frame, names_slot, slot_entries, slot_of}
 use Rattle.av_plain.proofs.Covered.{Names, alone-by, covered-owns, merged-fewer, merged-homed, merged-set, sound-fewer, sound-put, sound-set}
 use Rattle.av_plain.proofs.Covered.Slots.{names-unmapped, names-unseen, set-fewer, slots-dropped, slots-homed, slots-lists, slots-loaded, slots-put, slots-set, slots-stale, slots-unmapped, slots-unseen, sound-loaded, sound-mapped, sound-unmapped, sound-unseen}
 use Rattle.av_plain.proofs.Covered.Page.{copied-cache, copied-entries, copied-merged}
 use Rattle.av_plain.proofs.Covered.Swap.{AreMergedFewer, free-uncached, free-unnamed, merged-same, merged-settled, unlike}
 use Rattle.av_plain.proofs.Covered.Zaps.{merged-zapped, slots-zapped, sound-zapped}
-use Rattle.av_plain.proofs.Ledger.{entry-set, how_many-found, same_key}
+use Rattle.av_plain.proofs.Ledger.{entry-set, how_many-found}
 use Rattle.av_plain.proofs.Sound.Counts.{same-itself}
 use Rattle.av_plain.proofs.Sound.Steps.{settle-entries}
 use Rattle.av_swap_laws.specs.Held.{AllCovered}

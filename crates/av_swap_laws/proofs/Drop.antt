@@ -2,11 +2,11 @@
 use Rattle.std.proofs.Common.{◌≡◌, inl, inr, ℕ, ◌<◌, Bool, true, false, cond, ◌&&◌, ◌||◌, List, ◌∷◌, Option, Some, None, is_none, refl, sym, ap, subst, ◌∙◌, arith, ◌==◌}
 use Rattle.std.specs.Prelude.{IfSome, slice_index}
 use Rattle.av_base.specs.Page.{page_size}
-use Rattle.av_base.specs.Words.{is_in}
+use Rattle.av_base.specs.Words.{is_in, without}
 use Rattle.av_base.specs.declared.slot.Slot.{Slot}
 use Rattle.av_trace.specs.declared.note.Note.TheVariants.{Dropped}
 use Rattle.av_plain.specs.Device.{Device}
-use Rattle.av_plain.specs.Event.{after_note, if_some, off_cache, off_lists, settle, without}
+use Rattle.av_plain.specs.Event.{after_note, if_some, off_cache, off_lists, settle}
 use Rattle.av_plain.specs.Fault.{asks_copy}
 use Rattle.av_plain.specs.Ledger.{Entry, InFrame, InSlot, Ledger, Setting, Zero, entry, frame_at, in_flight, is_free, is_stale, map_count, same_slot, slot_entries, slot_of}
 use Rattle.av_plain.specs.Stands.{BytesStand, HoldsTold, IsClean, IsKept, IsKeptAt, LedgerStands, View}

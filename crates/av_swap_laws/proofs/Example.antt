@@ -7,6 +7,8 @@ use Rattle.std.specs.Prelude.{IfSome, IsSome, IsSomeAnd, option_and_then}
 use Rattle.std.specs.Option.{option_map_or}
 use Rattle.std.specs.Ordering.{nat_cmp, eq_by_cmp}
 use Rattle.std.specs.FinMap.Entries.{find}
+use Rattle.av_base.specs.Keys.{Key, same_key}
+use Rattle.av_base.proofs.Keys.{same_key-is}
 use Rattle.av_base.specs.Page.{address_of, page_of}
 use Rattle.av_base.specs.Words.{how_many, is_in, with_at}
 use Rattle.av_base.specs.declared.slot.Slot.{Slot}
@@ -18,11 +20,10 @@ use Rattle.av_trace.specs.Row.{AreRising}
 use Rattle.av_plain.specs.Choice.{AreaSlots, no_slots}
 use Rattle.av_plain.specs.Event.{Noted, after_note}
 use Rattle.av_plain.specs.Covered.{IsKin, IsOfSlot, IsReached}
-use Rattle.av_plain.specs.Ledger.{Cached, Entry, HasNumbers, SwapArea, is_free, InFrame, Key, Ledger, entry, keys_of_slot, names_frame, names_slot, same_slot, map_count}
+use Rattle.av_plain.specs.Ledger.{Cached, Entry, HasNumbers, SwapArea, is_free, InFrame, Ledger, entry, keys_of_slot, names_frame, names_slot, same_slot, map_count}
 use Rattle.av_plain.specs.Stands.{BytesStand, IsKept, LedgerStands, Pte, entry_of}
 use Rattle.av_plain.specs.World.{Holds}
 use Rattle.av_plain.specs.World.{Page, Process, pages, zeros}
-use Rattle.av_plain.proofs.Ledger.{same_key, same_key-is}
 use Rattle.av_swap_laws.specs.Example.{GoesOutAndComesBack, at_start, first_slot, in_frame, read_only, read_write, small, the_area, the_page, the_rmap, the_view, the_world, untold}
 use Rattle.av_swap_laws.specs.Held.{AllCovered, Held, IsHeld, Steps}
 use Rattle.av_swap_laws.specs.May.{AreOnce}

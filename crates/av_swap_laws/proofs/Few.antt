@@ -2,8 +2,9 @@
 use Rattle.std.proofs.Common.{◌≡◌, ℕ, ◌+◌, ◌<◌, ◌≤◌, Bool, true, false, cond, ◌&&◌, ◌||◌, nat_lt, length, Some, refl, subst, arith, ◌==◌}
 use Rattle.std.proofs.lemmas.Bool.Decides.{nat_tests}
 use Rattle.std.proofs.lemmas.Bool.{false≢true}
+use Rattle.av_base.specs.Keys.{Key}
 use Rattle.av_base.specs.declared.slot.Slot.{Slot}
-use Rattle.av_plain.specs.Ledger.{Entry, InFrame, InSlot, Key, Ledger, Setting, Zero, map_count, names_frame, names_slot, same_slot, slot_entries, slot_of}
+use Rattle.av_plain.specs.Ledger.{Entry, InFrame, InSlot, Ledger, Setting, Zero, map_count, names_frame, names_slot, same_slot, slot_entries, slot_of}
 use Rattle.av_plain.specs.Sound.{AtPages, IsSoundBut, mergings, pairs}
 use Rattle.av_plain.specs.World.{World}
 use Rattle.av_plain.proofs.Event.{how_many-or}

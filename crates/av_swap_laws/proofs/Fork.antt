@@ -6,6 +6,7 @@ use Rattle.std.specs.FinMap.Entries.{is_sorted}
 use Rattle.std.specs.Option.{option_or}
 use Rattle.std.specs.Prelude.{option_and_then}
 use Rattle.std.specs.Ordering.{nat_cmp, eq_by_cmp}
+use Rattle.av_base.specs.Keys.{Key, key_cmp, same_key}
 use Rattle.av_base.specs.Words.{is_in, with_at}
 use Rattle.av_base.specs.declared.slot.Slot.{Slot}
 use Rattle.av_plain.specs.Choice.{Chooses}
@@ -13,13 +14,13 @@ use Rattle.av_plain.specs.Device.{Device}
 use Rattle.av_plain.specs.Event.{Forked, after, put_all, set_entry, without_seen}
 use Rattle.av_plain.specs.Fault.{asks_copy}
 use Rattle.av_plain.specs.Fork.{goes_over, inheritance}
-use Rattle.av_plain.specs.Ledger.{Entry, InFrame, InSlot, Key, Ledger, Setting, Zero, entry, frame_at, in_flight, is_free, is_stale, key_cmp, map_count, names_frame, names_slot, same_slot, slot_entries, slot_of}
+use Rattle.av_plain.specs.Ledger.{Entry, InFrame, InSlot, Ledger, Setting, Zero, entry, frame_at, in_flight, is_free, is_stale, map_count, names_frame, names_slot, same_slot, slot_entries, slot_of}
 use Rattle.av_plain.specs.Sound.{holders, slots}
 use Rattle.av_plain.specs.Stands.{BytesStand, IsKept, LedgerStands, Pte, View, entry_of, free_of}
 use Rattle.av_plain.specs.World.{Holds, Page, World, child_of, page_of_child, pages, set_process, wiped, without_lock}
 use Rattle.av_plain.proofs.Event.{put_all-only}
 use Rattle.av_plain.proofs.Fork.{child_ledger, copies, entry-forked, forked-is, frames-grow, going, handed, inherited-goes, not-inherited, slots-grow, unseen-names_frame}
-use Rattle.av_plain.proofs.Ledger.{entry-set, how_many-found, map_count-set, only_one, same_key}
+use Rattle.av_plain.proofs.Ledger.{entry-set, how_many-found, map_count-set, only_one}
 use Rattle.av_plain.proofs.Ledger.NoSwap.{key_is}
 use Rattle.av_plain.proofs.Ledger.Order.{weight}
 use Rattle.av_plain.proofs.Sound.Counts.{same-is, slot-is}

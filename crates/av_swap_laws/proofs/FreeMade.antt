@@ -3,13 +3,14 @@ use Rattle.av_swap_laws.specs.May.{KeepsUse}
 use Rattle.std.proofs.Common.{◌≡◌, ℕ, ◌+◌, ◌<◌, Bool, true, false, List, ◌∷◌, Option, Some, None, refl, sym, ap, subst, ◌∙◌, arith, ◌==◌, T}
 use Rattle.std.proofs.lemmas.Bool.Decides.{nat_tests}
 use Rattle.std.specs.FinMap.Entries.{is_sorted}
+use Rattle.av_base.specs.Keys.{key_cmp}
 use Rattle.av_base.specs.Page.{page_of}
 use Rattle.av_base.specs.Words.{is_in}
 use Rattle.av_base.specs.declared.slot.Slot.{Slot}
 use Rattle.av_trace.specs.declared.note.Note.TheVariants.{Copied, New, Zeroed}
 use Rattle.av_plain.specs.Choice.{Chooses}
 use Rattle.av_plain.specs.Event.{Noted, Used, after_use_of, if_some, set_entry, with_stale, to_inactive_head}
-use Rattle.av_plain.specs.Ledger.{IsBlank, InFrame, Ledger, Setting, entry, is_free, key_cmp, map_count, slot_of, is_merged}
+use Rattle.av_plain.specs.Ledger.{IsBlank, InFrame, Ledger, Setting, entry, is_free, map_count, slot_of, is_merged}
 use Rattle.av_plain.specs.Sound.{holders}
 use Rattle.av_plain.specs.Stands.{LedgerStands, View, free_of}
 use Rattle.av_plain.proofs.Sound.Changes.{free-is}

@@ -2,6 +2,7 @@
 use Rattle.std.proofs.Common.{◌≡◌, ℕ, ◌+◌, ◌<◌, Bool, true, false, cond, List, [], ◌∷◌, ◌++◌, Option, Some, refl, sym, ap, subst, ◌∙◌, arith, ◌==◌, T}
 use Rattle.std.proofs.lemmas.Bool.Decides.{nat_tests}
 use Rattle.std.specs.FinMap.Entries.{is_sorted}
+use Rattle.av_base.specs.Keys.{key_cmp}
 use Rattle.av_base.specs.Page.{page_of}
 use Rattle.av_base.specs.Words.{with_at}
 use Rattle.av_base.specs.declared.slot.Slot.{Slot}
@@ -10,7 +11,7 @@ use Rattle.av_trace.specs.declared.note.Cause.TheVariants.{Ksm, Locked, NoSlot, 
 use Rattle.av_trace.specs.declared.note.Note.TheVariants.{Aged, Dropped, Failed, Kept, Loaded, Mapped, Put, Started, Unmapped, Written}
 use Rattle.av_plain.specs.Choice.{AreaSlots, Chooses, IsGiven, new_free, with_given_back}
 use Rattle.av_plain.specs.Event.{Noted, after_note, change_entries, if_some, into_cache, off_cache, without_seen}
-use Rattle.av_plain.specs.Ledger.{InSlot, Ledger, Setting, entry, frame_at, key_cmp, map_count, same_slot, slot_entries, slot_of}
+use Rattle.av_plain.specs.Ledger.{InSlot, Ledger, Setting, entry, frame_at, map_count, same_slot, slot_entries, slot_of}
 use Rattle.av_plain.specs.Sound.{count, holders, is_there, pairs, slots, uses}
 use Rattle.av_plain.specs.Stands.{LedgerStands, View, free_of}
 use Rattle.av_plain.proofs.Event.{map_count-unseen, slot_entries-unseen}

@@ -3,12 +3,13 @@ use Rattle.std.proofs.Common.{◌≡◌, ℕ, ◌+◌, ◌-◌, ◌<◌, Bool, t
 use Rattle.std.proofs.lemmas.Bool.Decides.{nat_tests}
 use Rattle.std.proofs.lemmas.Bool.{false≢true}
 use Rattle.std.specs.FinMap.Entries.{is_sorted}
+use Rattle.av_base.specs.Keys.{key_cmp}
 use Rattle.av_base.specs.Words.{how_many, with_at}
 use Rattle.av_base.specs.declared.slot.Slot.{Slot}
 use Rattle.av_clusters.specs.Clusters.{give_slot}
 use Rattle.av_plain.specs.Choice.{Chooses, new_free, with_given_back}
 use Rattle.av_plain.specs.Event.{Zapped, after_zap}
-use Rattle.av_plain.specs.Ledger.{Cached, InFrame, InSlot, Ledger, Setting, Zero, entry, key_cmp, map_count, names_frame, names_slot, same_slot, slot_entries}
+use Rattle.av_plain.specs.Ledger.{Cached, InFrame, InSlot, Ledger, Setting, Zero, entry, map_count, names_frame, names_slot, same_slot, slot_entries}
 use Rattle.av_plain.specs.Sound.{count, holders, is_there, slots, uses}
 use Rattle.av_plain.specs.Stands.{LedgerStands, View, free_of}
 use Rattle.av_plain.proofs.Ledger.Order.{weight}

@@ -2,10 +2,9 @@
 use Rattle.std.proofs.Common.{filter, ◌≡◌, inl, inr, ℕ, ◌+◌, min, ◌<◌, ◌≤◌, Bool, true, false, cond, not, ◌&&◌, ◌||◌, List, [], ◌∷◌, ◌++◌, nat_lt, Option, Some, None, refl, ap, arith, ◌==◌}
 use Rattle.std.proofs.lemmas.Bool.Decides.{nat_tests}
 use Rattle.std.proofs.lemmas.Bool.{false≢true}
-use Rattle.av_base.specs.Words.{how_many, is_in}
+use Rattle.av_base.specs.Words.{how_many, is_in, without}
 use Rattle.av_base.specs.declared.slot.Slot.{Slot}
 use Rattle.av_plain.specs.Choice.{ListsFree}
-use Rattle.av_plain.specs.Event.{without}
 use Rattle.av_plain.specs.Fault.{is_unneeded}
 use Rattle.av_plain.specs.Ledger.{Ledger, Setting, frame_at, in_flight, is_free, is_full, is_orphan, is_stale, is_unmapped, may_give, same_slot, slot_entries, slot_of}
 use Rattle.av_plain.specs.Sound.{AreThere, IsSoundBut, flights, is_there, listings, uses, mergings}

@@ -5,14 +5,15 @@ use Rattle.std.proofs.lemmas.Bool.{false≢true}
 use Rattle.std.specs.Prelude.{IsSomeAnd}
 use Rattle.std.specs.List.{list_any}
 use Rattle.std.specs.FinMap.Entries.{is_sorted}
+use Rattle.av_base.specs.Keys.{Key, key_cmp, same_key}
+use Rattle.av_base.proofs.Keys.{same_key-is, same_key-itself}
 use Rattle.av_base.specs.declared.slot.Slot.{Slot}
 use Rattle.av_vma.specs.Index.{index_of}
 use Rattle.av_vma.specs.Pages.{home_of}
 use Rattle.av_plain.specs.Areas.{Rmap, at_root, home_for, root_of}
 use Rattle.av_plain.specs.Covered.{AreSlotsCovered, IsOfSlot}
-use Rattle.av_plain.specs.Ledger.{Key, Ledger, key_cmp, keys_of_slot, names_slot, slot_entries}
+use Rattle.av_plain.specs.Ledger.{Ledger, keys_of_slot, names_slot, slot_entries}
 use Rattle.av_plain.proofs.Covered.Slots.{Own, are-keys, at_area, home-is, keys-are, root-home, rooted-own}
-use Rattle.av_plain.proofs.Ledger.{same_key, same_key-is, same_key-itself}
 use Rattle.av_plain.proofs.Ledger.Walk.{length-keys}
 
 module _ (l : Ledger) (r : Rmap) (s : Slot) (k : Key) (sorted : T (is_sorted key_cmp l.entries)) (h : AreSlotsCovered l r)

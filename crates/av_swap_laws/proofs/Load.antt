@@ -5,13 +5,14 @@ use Rattle.std.proofs.lemmas.Bool.{false≢true}
 use Rattle.std.specs.Prelude.{IfSome, option_and_then, slice_index}
 use Rattle.std.specs.Ordering.{nat_cmp, eq_by_cmp}
 use Rattle.std.specs.FinMap.Entries.{find}
+use Rattle.av_base.specs.Keys.{Key}
 use Rattle.av_base.specs.Page.{page_size}
-use Rattle.av_base.specs.Words.{is_in}
+use Rattle.av_base.specs.Words.{is_in, without}
 use Rattle.av_base.specs.declared.slot.Slot.{Slot}
 use Rattle.av_trace.specs.declared.note.Note.TheVariants.{Loaded}
 use Rattle.av_plain.specs.Device.{Device, headers_of}
-use Rattle.av_plain.specs.Event.{Noted, after_note, into_cache, without}
-use Rattle.av_plain.specs.Ledger.{Entry, InFrame, InSlot, Key, Ledger, Setting, Zero, entry, frame_at, in_flight, is_free, is_stale, map_count, names_frame, same_slot, slot_entries, slot_of}
+use Rattle.av_plain.specs.Event.{Noted, after_note, into_cache}
+use Rattle.av_plain.specs.Ledger.{Entry, InFrame, InSlot, Ledger, Setting, Zero, entry, frame_at, in_flight, is_free, is_stale, map_count, names_frame, same_slot, slot_entries, slot_of}
 use Rattle.av_plain.specs.Load.{is_of_slot, with_loads, without_bytes, without_claims}
 use Rattle.av_plain.specs.Stands.{BytesStand, HoldsTold, IsClean, IsKept, IsKeptAt, IsOver, LedgerStands, Pte, View, entry_of}
 use Rattle.av_plain.specs.World.{Holds}

@@ -4,13 +4,14 @@ use Rattle.std.proofs.Common.{◌≡◌, ℕ, ◌+◌, ◌-◌, ◌<◌, ◌≤�
 use Rattle.std.proofs.lemmas.Bool.Decides.{nat_tests}
 use Rattle.std.proofs.lemmas.Bool.{false≢true}
 use Rattle.std.specs.FinMap.Entries.{is_sorted}
+use Rattle.av_base.specs.Keys.{key_cmp}
 use Rattle.av_base.specs.Page.{page_of}
-use Rattle.av_base.specs.Words.{is_in, with_at}
+use Rattle.av_base.specs.Words.{is_in, with_at, without}
 use Rattle.av_base.specs.declared.slot.Slot.{Slot}
 use Rattle.av_trace.specs.declared.note.Note.TheVariants.{Copied, New, Zeroed}
-use Rattle.av_plain.specs.Event.{after_note, set_entry, to_inactive_head, without, off_lists, settle_entry}
+use Rattle.av_plain.specs.Event.{after_note, set_entry, to_inactive_head, off_lists, settle_entry}
 use Rattle.av_plain.specs.Fault.{is_named, asks_copy}
-use Rattle.av_plain.specs.Ledger.{IsBlank, InFrame, Ledger, Setting, Zero, entry, is_free, key_cmp, map_count, names_frame, names_slot, slot_entries, slot_of, is_merged}
+use Rattle.av_plain.specs.Ledger.{IsBlank, InFrame, Ledger, Setting, Zero, entry, is_free, map_count, names_frame, names_slot, slot_entries, slot_of, is_merged}
 use Rattle.av_plain.specs.Stands.{LedgerStands, Pte, View}
 use Rattle.av_plain.proofs.Ledger.{how_many-found, map_count-set}
 use Rattle.av_plain.proofs.Ledger.Order.{weight}

@@ -2,17 +2,19 @@
 use Rattle.av_plain.proofs.Covered.Page.{copied-cache, copied-entries}
 use Rattle.std.proofs.Common.{◌≡◌, ℕ, ◌<◌, Bool, true, false, cond, List, Option, Some, None, refl, sym, ap, subst, ◌∙◌, arith, ◌==◌}
 use Rattle.std.specs.Prelude.{IfSome, slice_index}
+use Rattle.av_base.specs.Keys.{Key, same_key}
+use Rattle.av_base.proofs.Keys.{same_key-is}
 use Rattle.av_base.specs.Page.{page_of, page_size}
 use Rattle.av_base.specs.Words.{with_at}
 use Rattle.av_base.specs.declared.slot.Slot.{Slot}
 use Rattle.av_trace.specs.declared.note.Note.TheVariants.{Copied, New, Zeroed}
 use Rattle.av_plain.specs.Device.{Device}
 use Rattle.av_plain.specs.Event.{after_note, set_entry, change_frame, off_lists, settle_entry, to_inactive_head}
-use Rattle.av_plain.specs.Ledger.{IsBlank, Entry, InFrame, InSlot, Key, Ledger, Zero, entry, frame_at, in_flight, is_free, is_stale, map_count, names_frame}
+use Rattle.av_plain.specs.Ledger.{IsBlank, Entry, InFrame, InSlot, Ledger, Zero, entry, frame_at, in_flight, is_free, is_stale, map_count, names_frame}
 use Rattle.av_plain.specs.Stands.{BytesStand, IsClean, IsKept, IsKeptAt, View}
 use Rattle.av_plain.specs.World.{Holds}
 use Rattle.av_plain.specs.World.{Page, World, pages}
-use Rattle.av_plain.proofs.Ledger.{entry-set, how_many-found, same_key, same_key-is}
+use Rattle.av_plain.proofs.Ledger.{entry-set, how_many-found}
 use Rattle.av_plain.proofs.Sound.Counts.{same-is, same-itself}
 use Rattle.av_swap_laws.specs.May.{AreOnce}
 use Rattle.av_swap_laws.specs.Steps.{view_copy, view_new, view_zero, view_copy_last}

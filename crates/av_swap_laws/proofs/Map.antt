@@ -3,16 +3,18 @@ use Rattle.std.proofs.Common.{◌≡◌, ℕ, ◌+◌, ◌-◌, ◌<◌, Bool, t
 use Rattle.std.proofs.lemmas.Bool.Decides.{nat_tests}
 use Rattle.std.proofs.lemmas.Bool.{false≢true}
 use Rattle.std.specs.FinMap.Entries.{is_sorted}
+use Rattle.av_base.specs.Keys.{key_cmp, same_key}
+use Rattle.av_base.proofs.Keys.{same_key-is}
 use Rattle.av_base.specs.Words.{with_at}
 use Rattle.av_base.specs.declared.slot.Slot.{Slot}
 use Rattle.av_plain.specs.Device.{Device}
 use Rattle.av_plain.specs.Event.{set_entry}
 use Rattle.av_plain.specs.Fault.{is_named, asks_copy}
-use Rattle.av_plain.specs.Ledger.{Entry, InFrame, InSlot, Ledger, Setting, Zero, entry, frame_at, is_free, key_cmp, map_count, names_frame, names_slot, same_slot, slot_entries, slot_of, is_merged}
+use Rattle.av_plain.specs.Ledger.{Entry, InFrame, InSlot, Ledger, Setting, Zero, entry, frame_at, is_free, map_count, names_frame, names_slot, same_slot, slot_entries, slot_of, is_merged}
 use Rattle.av_plain.specs.Stands.{BytesStand, IsKept, IsKeptAt, LedgerStands, Pte, View}
 use Rattle.av_plain.specs.World.{Holds}
 use Rattle.av_plain.specs.World.{Page, World, pages}
-use Rattle.av_plain.proofs.Ledger.{entry-set, map_count-set, same_key, same_key-is}
+use Rattle.av_plain.proofs.Ledger.{entry-set, map_count-set}
 use Rattle.av_plain.proofs.Ledger.Order.{weight}
 use Rattle.av_plain.proofs.Sound.Counts.{same-is, slot-is}
 use Rattle.av_plain.proofs.Sound.Entries.{slot_entries-set}

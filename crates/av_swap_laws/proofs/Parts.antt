@@ -3,12 +3,13 @@ use Rattle.std.proofs.Common.{◌≡◌, ℕ, ◌<◌, ◌≤◌, Bool, true, fa
 use Rattle.std.proofs.lemmas.Bool.Decides.{nat_tests}
 use Rattle.std.proofs.lemmas.Bool.{false≢true}
 use Rattle.std.specs.Prelude.{IfSome, slice_index}
+use Rattle.av_base.specs.Keys.{Key}
 use Rattle.av_base.specs.Page.{page_size}
 use Rattle.av_base.specs.declared.slot.Slot.{Slot}
 use Rattle.av_plain.specs.Device.{Device}
 use Rattle.av_plain.specs.Event.{off_lists}
 use Rattle.av_plain.specs.Fault.{is_named, asks_copy}
-use Rattle.av_plain.specs.Ledger.{Entry, InFrame, InSlot, Key, Ledger, Zero, entry, frame_at, is_merged, map_count, names_slot, slot_entries, slot_of}
+use Rattle.av_plain.specs.Ledger.{Entry, InFrame, InSlot, Ledger, Zero, entry, frame_at, is_merged, map_count, names_slot, slot_entries, slot_of}
 use Rattle.av_plain.specs.Stands.{HoldsTold, IsClean, IsKept, IsKeptAt, View}
 use Rattle.av_plain.specs.World.{Holds}
 use Rattle.av_plain.specs.World.{Page}

@@ -2,9 +2,9 @@
 use Rattle.std.proofs.Common.{◌≡◌, ℕ, Bool, true, false, cond, Option, Some, None, option_map, refl, sym, ap, ◌∙◌, T}
 use Rattle.std.specs.List.{list_any}
 use Rattle.std.specs.FinMap.Entries.{is_sorted}
-use Rattle.av_plain.specs.Ledger.{Key, Ledger, Setting, key_cmp, names_frame, walk}
+use Rattle.av_base.specs.Keys.{Key, key_cmp, same_key}
+use Rattle.av_plain.specs.Ledger.{Ledger, Setting, names_frame, walk}
 use Rattle.av_plain.specs.Stands.{LedgerStands, Pte, View, entry_of}
-use Rattle.av_plain.proofs.Ledger.{same_key}
 use Rattle.av_plain.proofs.Ledger.Walk.{passes, walk-has}
 
 -- a change of entries that name the frame

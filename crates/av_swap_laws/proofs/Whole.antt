@@ -1,12 +1,12 @@
 -- Each step of swap, all parts together.
-use Rattle.av_plain.proofs.Sound.Counts.{count-without-list}
 use Rattle.av_plain.proofs.Sound.Changes.{any-counts}
 use Rattle.std.proofs.Common.{◌≡◌, ℕ, ◌<◌, Bool, true, false, cond, List, Option, Some, is_some, refl, sym, ap, subst, ◌∙◌, ◌==◌, nat_lt, [], None}
 use Rattle.std.specs.Prelude.{IfSome, IsSomeAnd, slice_index}
 use Rattle.std.specs.FinMap.Entries.{find}
 use Rattle.std.specs.Ordering.{nat_cmp}
+use Rattle.av_base.proofs.Without.{count-without}
 use Rattle.av_base.specs.Page.{page_size}
-use Rattle.av_base.specs.Words.{with_at, how_many, is_in}
+use Rattle.av_base.specs.Words.{how_many, is_in, with_at, without}
 use Rattle.av_base.specs.declared.slot.Slot.{Slot}
 use Rattle.av_clusters.specs.Clusters.{Slots}
 use Rattle.av_swapdev.specs.Device.{IsWritten}
@@ -16,7 +16,7 @@ use Rattle.av_trace.specs.declared.note.Note.TheVariants.{Aged, Dropped, Failed,
 use Rattle.av_plain.specs.Areas.{Homes, Rmap, Items}
 use Rattle.av_plain.specs.Choice.{AreFresh, AreaSlots, Chooses, IsGiven}
 use Rattle.av_plain.specs.Device.{Device}
-use Rattle.av_plain.specs.Event.{Event, Noted, TurnedOff, TurnedOn, after, after_note, change_entries, if_some, without_seen, off_cache, off_flight, off_lists, to_inactive_tail, without}
+use Rattle.av_plain.specs.Event.{Event, Noted, TurnedOff, TurnedOn, after, after_note, change_entries, if_some, without_seen, off_cache, off_flight, off_lists, to_inactive_tail}
 use Rattle.av_plain.specs.Ledger.{HasNumbers, InSlot, Ledger, Setting, SwapArea, frame_at, slot_of, map_count}
 use Rattle.av_plain.specs.Sound.{is_there}
 use Rattle.av_plain.specs.Stands.{AreasStand, BytesStand, HeadersStand, LedgerStands, View, free_of, prot_of, ranges_in, ItemsAre}
@@ -80,7 +80,7 @@ items-freed u v l l' f items cleared merged h = λ g. ap (λ (is : Items). is g)
 
     left : (g : ℕ) → is_in g (without f l.merged) ≡ cond (g == f) false (is_in g l.merged)
     left g = any-counts (λ x. g == x) (without f l.merged)
-        ∙ none (g == f) (how_many (λ x. g == x) (without f l.merged)) (how_many (λ x. g == x) l.merged) (count-without-list f g l.merged)
+        ∙ none (g == f) (how_many (λ x. g == x) (without f l.merged)) (how_many (λ x. g == x) l.merged) (count-without f g l.merged)
         ∙ ap (cond (g == f) false) (sym (any-counts (λ x. g == x) l.merged))
 
     by : (g : ℕ) (b : Bool) → (g == f) ≡ b → cond b [] (v.items g) ≡ cond (is_in g (without f l.merged)) (items g) []

@@ -5,6 +5,8 @@ use Rattle.av_swap_laws.proofs.Cache.{free-own}
 use Rattle.std.proofs.Common.{◌≡◌, ℕ, ◌-◌, ◌<◌, ◌&&◌, Bool, true, false, cond, List, [], ◌∷◌, Option, Some, None, is_none, option_map, refl, sym, ap, subst, ◌∙◌, ◌==◌, T}
 use Rattle.std.specs.Prelude.{IfSome, IsSome, IsSomeAnd, slice_index}
 use Rattle.std.specs.FinMap.Entries.{is_sorted}
+use Rattle.av_base.specs.Keys.{key_cmp, same_key}
+use Rattle.av_base.proofs.Keys.{same_key-is}
 use Rattle.av_base.specs.Page.{page_of, page_size}
 use Rattle.av_base.specs.Words.{is_in, with_at}
 use Rattle.av_base.specs.declared.slot.Slot.{Slot}
@@ -12,14 +14,14 @@ use Rattle.av_trace.specs.declared.note.Note.TheVariants.{Copied, Loaded, Mapped
 use Rattle.av_plain.specs.Areas.{at_home, home_for, rmap_after_note}
 use Rattle.av_plain.specs.Event.{Event, Noted, Used, Zapped, after, after_note, after_use, after_use_of, set_entry, if_some, off_lists, settle_entry, with_stale}
 use Rattle.av_plain.specs.Fault.{asks_copy}
-use Rattle.av_plain.specs.Ledger.{IsBlank, Entry, InFrame, InSlot, Ledger, Setting, Zero, entry, frame_at, is_free, key_cmp, keys_of_slot, names_frame, names_slot, slot_of}
+use Rattle.av_plain.specs.Ledger.{IsBlank, Entry, InFrame, InSlot, Ledger, Setting, Zero, entry, frame_at, is_free, keys_of_slot, names_frame, names_slot, slot_of}
 use Rattle.av_plain.specs.Load.{is_of_slot, with_loads, without_bytes, without_claims}
 use Rattle.av_plain.specs.Sound.{is_there}
 use Rattle.av_plain.specs.Stands.{AreasStand, BytesStand, IsKept, IsOver, View, ItemsAre}
 use Rattle.av_plain.specs.World.{Holds}
 use Rattle.av_vma.specs.Pages.{home_of}
 use Rattle.av_plain.specs.World.{Page, World, pages}
-use Rattle.av_plain.proofs.Ledger.{entry-set, same_key, same_key-is}
+use Rattle.av_plain.proofs.Ledger.{entry-set}
 use Rattle.av_plain.proofs.Ledger.NoSwap.{key_is}
 use Rattle.av_plain.proofs.Sound.{length-loads, lives-loads, loads-same}
 use Rattle.av_plain.proofs.Sound.Counts.{same-itself, slot-itself, slot_of-none}

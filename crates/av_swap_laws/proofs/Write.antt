@@ -5,12 +5,12 @@ use Rattle.std.proofs.lemmas.Bool.{false≢true}
 use Rattle.std.specs.List.{list_any}
 use Rattle.std.specs.Prelude.{IfSome, slice_index}
 use Rattle.av_base.specs.Page.{page_size}
-use Rattle.av_base.specs.Words.{how_many}
+use Rattle.av_base.specs.Words.{how_many, without}
 use Rattle.av_base.specs.declared.slot.Slot.{Slot}
 use Rattle.av_swapdev.specs.Device.{IsWritten, with_page}
 use Rattle.av_trace.specs.declared.note.Note.TheVariants.{Failed, Started, Written}
 use Rattle.av_plain.specs.Device.{Device}
-use Rattle.av_plain.specs.Event.{after_note, if_some, off_flight, to_inactive_tail, without}
+use Rattle.av_plain.specs.Event.{after_note, if_some, off_flight, to_inactive_tail}
 use Rattle.av_plain.specs.Ledger.{Ledger, Setting, entry, frame_at, in_flight, is_stale, same_slot}
 use Rattle.av_plain.specs.Stands.{BytesStand, HoldsTold, IsClean, LedgerStands, View}
 use Rattle.av_plain.specs.World.{Holds}

@@ -3,14 +3,14 @@ use Rattle.std.specs.FinMap.Entries.{put, where_key}
 use Rattle.std.specs.Ordering.{nat_cmp}
 use Rattle.std.specs.Prelude.{ℕ, ◌+◌, ◌-◌, Bool, true, false, not, ◌&&◌, ◌==◌, if◌then◌else◌, List}
 use Rattle.std.specs.Prelude.{[], ◌∷◌, ◌++◌, filter, Option, Some, None, is_none, option_map}
-use Rattle.av_base.specs.Words.{with_at}
+use Rattle.av_base.specs.Words.{with_at, without}
 use Rattle.av_base.specs.declared.slot.Slot.{Slot}
 use Rattle.av_clusters.specs.Clusters.{Slots, give_slot}
 use Rattle.av_trace.specs.declared.note.Cause.{Cause}
 use Rattle.av_trace.specs.declared.note.Cause.TheVariants.{Ksm, Locked, NoSlot, Referenced}
 use Rattle.av_trace.specs.declared.note.Cause.TheVariants.{WriteStarted, Writeback}
 use Rattle.av_plain.specs.Choice.{AreaSlots, no_slots}
-use Rattle.av_plain.specs.Event.{without, without_seen}
+use Rattle.av_plain.specs.Event.{without_seen}
 use Rattle.av_plain.specs.Ledger.{Entry, InFrame, InSlot, SwapArea, Zero, names_frame, same_slot}
 use Rattle.av_plain.specs.Stands.{Pte, View}
 

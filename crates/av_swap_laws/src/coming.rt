@@ -4,6 +4,7 @@
 ghost use Rattle.std.specs.Prelude.{◌≡◌, if◌then◌else◌, ◌==◌, ◌<◌, ℕ, false, true, List, [], ◌∷◌};
 ghost use Rattle.std.specs.Prelude.{Option, Some, IfSome, IsSomeAnd, T, slice_index};
 ghost use Rattle.std.specs.FinMap.Entries.{is_sorted};
+ghost use Rattle.av_base.specs.Keys.{Key, key_cmp};
 ghost use Rattle.av_base.specs.Page.{page_of, page_size};
 ghost use Rattle.av_base.specs.Words.{is_in, with_at};
 ghost use Rattle.av_base.specs.declared.slot.Slot.{Slot};
@@ -13,8 +14,8 @@ ghost use Rattle.av_plain.specs.Areas.{Rmap, home_for, rmap_after_note, root_of}
 ghost use Rattle.av_plain.specs.Covered.{AreSlotsCovered, IsOfSlot};
 ghost use Rattle.av_plain.specs.Device.{Device};
 ghost use Rattle.av_plain.specs.Event.{Noted, after_note};
-ghost use Rattle.av_plain.specs.Ledger.{InSlot, Key, Ledger, Setting, entry, frame_at, is_free};
-ghost use Rattle.av_plain.specs.Ledger.{key_cmp, keys_of_slot, slot_entries};
+ghost use Rattle.av_plain.specs.Ledger.{InSlot, Ledger, Setting, entry, frame_at, is_free};
+ghost use Rattle.av_plain.specs.Ledger.{keys_of_slot, slot_entries};
 ghost use Rattle.av_plain.specs.Load.{with_loads};
 ghost use Rattle.av_plain.specs.Stands.{IsOver};
 ghost use Rattle.av_swap_laws.specs.Held.{Held, IsHeld, Steps};

@@ -2,13 +2,14 @@
 
 ghost use Rattle.std.specs.Prelude.{◌≡◌, ◌⊎◌, ◌<◌, ℕ, true, Option, Some, None, T};
 ghost use Rattle.std.specs.FinMap.Entries.{is_sorted};
+ghost use Rattle.av_base.specs.Keys.{key_cmp};
 ghost use Rattle.av_base.specs.declared.slot.Slot.{Slot};
 ghost use Rattle.av_plain.specs.Choice.{Chooses};
 ghost use Rattle.av_plain.specs.Device.{Device};
 ghost use Rattle.av_plain.specs.Event.{Forked, EntriesMoved, Zapped, after, set_entry};
 ghost use Rattle.av_plain.specs.Event.{without_seen};
 ghost use Rattle.av_plain.specs.Fork.{inheritance};
-ghost use Rattle.av_plain.specs.Ledger.{Entry, Ledger, Setting, entry, key_cmp, names_frame};
+ghost use Rattle.av_plain.specs.Ledger.{Entry, Ledger, Setting, entry, names_frame};
 ghost use Rattle.av_plain.specs.Ledger.{names_slot};
 ghost use Rattle.av_plain.specs.Sound.{is_there};
 ghost use Rattle.av_plain.specs.Stands.{BytesStand, LedgerStands, Pte, View, entry_of};

@@ -4,6 +4,7 @@
 ghost use Rattle.std.specs.Prelude.{◌≡◌, ℕ, Bool, false, true, List, ◌∷◌, Option, Some, IsSome};
 ghost use Rattle.std.specs.Prelude.{◌<◌, IsSomeAnd, T};
 ghost use Rattle.std.specs.FinMap.Entries.{is_sorted};
+ghost use Rattle.av_base.specs.Keys.{key_cmp};
 ghost use Rattle.av_base.specs.Page.{page_of};
 ghost use Rattle.av_base.specs.Words.{is_in};
 ghost use Rattle.av_vma.specs.Pages.{AreLaid, home_of};
@@ -11,7 +12,7 @@ ghost use Rattle.av_vma.specs.declared.area.Area.{Area};
 ghost use Rattle.av_trace.specs.declared.note.Note.TheVariants.{Copied, New, Zeroed};
 ghost use Rattle.av_plain.specs.Areas.{Anons, at_home, prepare_page};
 ghost use Rattle.av_plain.specs.Event.{Noted, after_note};
-ghost use Rattle.av_plain.specs.Ledger.{InFrame, IsBlank, Setting, entry, is_free, key_cmp};
+ghost use Rattle.av_plain.specs.Ledger.{InFrame, IsBlank, Setting, entry, is_free};
 ghost use Rattle.av_swap_laws.specs.Held.{Held, IsHeld, Steps};
 ghost use Rattle.av_swap_laws.specs.May.{AreOnce, KeepsUse, LosesUse};
 ghost use Rattle.av_swap_laws.specs.Steps.{view_copy, view_copy_last, view_new, view_zero};

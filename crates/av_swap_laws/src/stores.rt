@@ -6,12 +6,12 @@ ghost use Rattle.std.specs.Prelude.{◌<◌, ℕ, false, true, List, [], ◌∷�
 ghost use Rattle.std.specs.FinMap.Entries.{is_sorted};
 ghost use Rattle.std.specs.List.{list_any};
 ghost use Rattle.std.specs.Ordering.{eq_by_cmp};
-ghost use Rattle.av_base.specs.Words.{how_many};
+ghost use Rattle.av_base.specs.Keys.{Key, key_cmp};
+ghost use Rattle.av_base.specs.Words.{how_many, without};
 ghost use Rattle.av_base.specs.declared.slot.Slot.{Slot};
 ghost use Rattle.av_swapdev.specs.Device.{IsWritten, after_write};
 ghost use Rattle.av_plain.specs.Device.{Device, IsSameDevice};
-ghost use Rattle.av_plain.specs.Event.{without};
-ghost use Rattle.av_plain.specs.Ledger.{Key, Ledger, Setting, key_cmp, names_frame, same_slot};
+ghost use Rattle.av_plain.specs.Ledger.{Ledger, Setting, names_frame, same_slot};
 ghost use Rattle.av_plain.specs.Ledger.{walk};
 ghost use Rattle.av_plain.specs.Stands.{IsOver, LedgerStands, Pte, View};
 ghost use Rattle.av_swap_laws.specs.Steps.{without_slot};

@@ -3,6 +3,7 @@ use Rattle.std.proofs.Common.{◌≡◌, ℕ, ◌+◌, ◌<◌, ◌≤◌, Bool,
 use Rattle.std.specs.Prelude.{Ok, Err, Result, slice_index}
 use Rattle.std.specs.Result.{result_ok}
 use Rattle.std.proofs.lemmas.Bool.{false≢true}
+use Rattle.av_base.specs.Keys.{Key}
 use Rattle.av_base.specs.Page.{address_of, page_of, page_size}
 use Rattle.av_base.specs.declared.slot.Slot.{Slot}
 use Rattle.av_io.specs.Count.{Rose}
@@ -15,7 +16,7 @@ use Rattle.av_plain.specs.Areas.{Rmap, rmap_after_note}
 use Rattle.av_plain.specs.Choice.{ListsFree}
 use Rattle.av_plain.specs.Device.{Device, IsSameDevice, as_told, Calls, Wrote, device_by}
 use Rattle.av_plain.specs.Event.{Noted, after_note}
-use Rattle.av_plain.specs.Ledger.{Key, Ledger, is_free, slot_count, slot_entries}
+use Rattle.av_plain.specs.Ledger.{Ledger, is_free, slot_count, slot_entries}
 use Rattle.av_plain.specs.Stands.{View}
 use Rattle.av_plain.specs.World.{World}
 use Rattle.av_swap_laws.specs.Held.{Steps}

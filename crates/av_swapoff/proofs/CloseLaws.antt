@@ -13,7 +13,8 @@ use Rattle.av_plain.specs.Areas.{Rmap}
 use Rattle.av_plain.specs.Choice.{ListsAll}
 use Rattle.av_plain.specs.Device.{Device, headers_of}
 use Rattle.av_plain.specs.Event.{TurnedOff, after}
-use Rattle.av_plain.specs.Ledger.{Ledger, is_on, key_cmp, slots_in_use}
+use Rattle.av_base.specs.Keys.{key_cmp}
+use Rattle.av_plain.specs.Ledger.{Ledger, is_on, slots_in_use}
 use Rattle.av_plain.specs.Stands.{AnonsStand, AreasAre, AreasStand, SwapStands, View, free_of}
 use Rattle.av_plain.specs.World.{World}
 use Rattle.av_plain.proofs.FreeLists.{lists-stay}

@@ -5,6 +5,7 @@ use Rattle.std.specs.List.{range_with_len}
 use Rattle.std.specs.Prelude.{IsSomeAnd, MatchOption, slice_get}
 use Rattle.std.proofs.lemmas.Bool.Decides.{nat_tests}
 use Rattle.std.proofs.lemmas.Option.{slice_get_past}
+use Rattle.av_base.specs.Keys.{Key, key_cmp}
 use Rattle.av_base.specs.Page.{address_of}
 use Rattle.av_base.specs.Words.{how_many}
 use Rattle.av_base.specs.declared.slot.Slot.{Slot}
@@ -13,7 +14,7 @@ use Rattle.av_trace.specs.declared.note.Note.TheVariants.{Aged, Copied, Dropped,
 use Rattle.av_plain.specs.Areas.{Rmap}
 use Rattle.av_plain.specs.Event.{after_note, after_notes, note_events, off_cache}
 use Rattle.av_plain.specs.Fault.{is_locked}
-use Rattle.av_plain.specs.Ledger.{InSlot, Key, Ledger, Setting, frame_at, has_free, has_free_slot, is_free_slot, is_on, is_open, key_cmp, keys_of_slot, may_give, names_slot, same_slot, size_of, slot_count, slot_entries, slots_in_use}
+use Rattle.av_plain.specs.Ledger.{InSlot, Ledger, Setting, frame_at, has_free, has_free_slot, is_free_slot, is_on, is_open, keys_of_slot, may_give, names_slot, same_slot, size_of, slot_count, slot_entries, slots_in_use}
 use Rattle.av_plain.specs.Pass.{Completes, Spared, TakesFor, fails, is_fail, out_of}
 use Rattle.av_plain.specs.Sound.{IsSound, count, is_there, slots}
 use Rattle.av_plain.specs.Swapoff as plain

@@ -2,12 +2,13 @@
 use Rattle.std.proofs.Common.{◌≡◌, false, List, Option, Some, None, option_map, refl, sym, ap, subst, ◌∙◌}
 use Rattle.std.specs.List.{list_any}
 use Rattle.std.specs.Option.{option_map_or}
+use Rattle.av_base.specs.Keys.{Key}
 use Rattle.av_base.specs.declared.flags.Flags.{Flags}
 use Rattle.av_trace.specs.declared.note.Note.{Note}
 use Rattle.av_plain.specs.Areas.{Rmap}
 use Rattle.av_plain.specs.Event.{Event, after_notes, note_events}
 use Rattle.av_plain.specs.Fault.{is_locked}
-use Rattle.av_plain.specs.Ledger.{Key, Ledger, Setting, walk}
+use Rattle.av_plain.specs.Ledger.{Ledger, Setting, walk}
 use Rattle.av_plain.specs.Load.{with_loads}
 use Rattle.av_plain.specs.World.{Page, World, is_locked_page, pages}
 use Rattle.av_plain.proofs.Sound.{flags-loads}

@@ -5,6 +5,8 @@ use Rattle.std.specs.List.{AllByRecursion, list_any}
 use Rattle.std.specs.Prelude.{IsSomeAnd, MatchOption}
 use Rattle.std.proofs.Math.Seq.{drop-cons}
 use Rattle.std.proofs.lemmas.Bool.Decides.{nat_tests}
+use Rattle.av_base.specs.Keys.{Key, key_cmp, same_key}
+use Rattle.av_base.proofs.Keys.{keys_total, same_key-is, same_key-itself}
 use Rattle.av_base.specs.Page.{address_of}
 use Rattle.av_base.specs.Words.{how_many}
 use Rattle.av_base.specs.declared.slot.Slot.{Slot}
@@ -12,14 +14,14 @@ use Rattle.av_io.specs.Count.{Rose, RoseBy}
 use Rattle.av_trace.specs.declared.note.Note.{Note}
 use Rattle.av_trace.specs.declared.note.Note.TheVariants.{Loaded, Mapped}
 use Rattle.av_plain.specs.Event.{after_note, after_notes, set_entry}
-use Rattle.av_plain.specs.Ledger.{Cached, Entry, InFrame, InSlot, Key, Ledger, Setting, Zero, cached_by, entry, frame_at, has_free, is_cached, is_free, key_cmp, keys_of_slot, names_slot, same_slot, slot_count, slot_entries}
+use Rattle.av_plain.specs.Ledger.{Cached, Entry, InFrame, InSlot, Ledger, Setting, Zero, cached_by, entry, frame_at, has_free, is_cached, is_free, keys_of_slot, names_slot, same_slot, slot_count, slot_entries}
 use Rattle.av_plain.specs.Pass.{Spared, TakesFor, fails, is_fail, is_spared}
 use Rattle.av_plain.specs.Sound.{IsSound, no_excuse, slots}
 use Rattle.av_plain.specs.Swapoff.{IsEmptied, IsFetched}
 use Rattle.av_plain.proofs.Access.{after_notes-append}
-use Rattle.av_plain.proofs.Ledger.{entry-set, how_many-append, how_many-found, same_key-is, same_key-itself}
+use Rattle.av_plain.proofs.Ledger.{entry-set, how_many-append, how_many-found}
 use Rattle.av_plain.proofs.Ledger.NoSwap.{key_at-address}
-use Rattle.av_plain.proofs.Ledger.Order.{both_first, both_second, find_below, keys_total, weight}
+use Rattle.av_plain.proofs.Ledger.Order.{both_first, both_second, find_below, weight}
 use Rattle.av_plain.proofs.Ledger.Walk.{keys-filter, passes}
 use Rattle.av_plain.proofs.Sound.Changes.{any-counts, free-is, loaded-kept}
 use Rattle.av_plain.proofs.Sound.Counts.{frame_at-none, frame_at-some, pair-slot, slot-is, slot-itself}
@@ -30,7 +32,7 @@ use Rattle.av_evict.specs.System.{Adds, Gives, Goes, IsAt, SystemView, spares}
 use Rattle.av_evict.proofs.PassLaws.{none-flies}
 use Rattle.av_evict.proofs.StepLaws.{pair-cached}
 use Rattle.av_evict.proofs.SystemLaws.{does-none, goes-then}
-use Rattle.av_swapoff.specs.Slot.{AreApart, Fetches, FetchesBy, IsIn, IsLoaded, IsSought, MapsBack, MayFetch, MayMapAll, fetched_of, mapped_notes, same_key, unread_of}
+use Rattle.av_swapoff.specs.Slot.{AreApart, Fetches, FetchesBy, IsIn, IsLoaded, IsSought, MapsBack, MayFetch, MayMapAll, fetched_of, mapped_notes, unread_of}
 use Rattle.av_swapoff.specs.System.{MayLoad, MayMap}
 use Rattle.av_swapoff.specs.declared.slot.FetchEnd.{FetchEnd}
 use Rattle.av_swapoff.specs.declared.slot.FetchEnd.TheVariants.{Unread}

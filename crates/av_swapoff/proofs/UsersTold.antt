@@ -4,13 +4,14 @@ use Rattle.std.proofs.lemmas.Bool.{cases_lt, false≢true}
 use Rattle.std.proofs.lemmas.Bool.Decides.{nat_tests}
 use Rattle.std.proofs.lemmas.Option.{slice_get-get_or}
 use Rattle.std.specs.Prelude.{IfOk, IsSomeAnd, Result, Ok, Err, slice_get}
+use Rattle.av_base.specs.Keys.{Key}
 use Rattle.av_base.specs.declared.slot.Slot.{Slot}
 use Rattle.av_pagetable.specs.Entries.{has}
 use Rattle.av_spaces.proofs.Trees.{some_mapped}
 use Rattle.av_plain.specs.Areas.{Rmap}
 use Rattle.av_plain.specs.Device.{Device}
 use Rattle.av_plain.specs.Event.{slot_behind as behind}
-use Rattle.av_plain.specs.Ledger.{Entry, InFrame, InSlot, Key, Ledger, Zero, entry, is_cached, is_on, names_frame, size_of, slot_count, slot_entries}
+use Rattle.av_plain.specs.Ledger.{Entry, InFrame, InSlot, Ledger, Zero, entry, is_cached, is_on, names_frame, size_of, slot_count, slot_entries}
 use Rattle.av_plain.specs.Report.{range_of}
 use Rattle.av_plain.specs.Sound.{IsSoundBut, count, is_there}
 use Rattle.av_plain.specs.Stands.{Pte as Plain, entry_of}

@@ -5,13 +5,13 @@ use Rattle.std.proofs.lemmas.Bool.Decides.{nat_tests}
 use Rattle.std.proofs.Math.Seq.{drop-length, take-length}
 use Rattle.std.proofs.lemmas.List.{append-nil, length-replicate, get_or-replicate, get_or-set_other, get_or-set_same, get_or_past}
 use Rattle.std.specs.Prelude.{replicate}
+use Rattle.av_base.specs.Keys.{Key}
 use Rattle.av_base.specs.declared.slot.Slot.{Slot}
 use Rattle.av_pagetable.specs.declared.pte.Pte.TheVariants.{Empty}
 use Rattle.av_pagetable.specs.declared.radix.RadixTable.{RadixTable}
 use Rattle.av_pagetable.specs.contracts.radix.RadixTableTable.TheImpl as page_table
 use Rattle.av_pagetable.specs.Entries.{IsFirstProcess, at_page, entry_at, has, table_at}
 use Rattle.av_pagetable.specs.Table.{IsFirst, page_bound}
-use Rattle.av_plain.specs.Ledger.{Key}
 use Rattle.av_plain.specs.Stands.{View}
 use Rattle.av_mem.specs.Entries.{slot_behind}
 use Rattle.av_mem.specs.Mem.{plain, view}

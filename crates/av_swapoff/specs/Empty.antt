@@ -1,12 +1,13 @@
 -- How a swap area that is closing is emptied, and why it isn't.
 use Rattle.std.specs.Prelude.{◌≡◌, ◌⊎◌, ℕ, ◌+◌, ◌<◌, ◌≤◌, List, [], ◌++◌, slice_get, Option, None}
 use Rattle.std.specs.Prelude.{Some, IsSomeAnd}
+use Rattle.av_base.specs.Keys.{Key}
 use Rattle.av_base.specs.declared.slot.Slot.{Slot}
 use Rattle.av_io.specs.Count.{RoseBy}
 use Rattle.av_trace.specs.declared.note.Note.{Note}
 use Rattle.av_plain.specs.Areas.{Rmap}
 use Rattle.av_plain.specs.Event.{after_notes}
-use Rattle.av_plain.specs.Ledger.{Key, Ledger, Setting, size_of, slot_count}
+use Rattle.av_plain.specs.Ledger.{Ledger, Setting, size_of, slot_count}
 use Rattle.av_plain.specs.Pass.{Completes, Spared, fails}
 use Rattle.av_plain.specs.Swapoff as plain
 use Rattle.av_plain.specs.Swapoff.{Close, Closed, NoRoom, Empties, IsEmptied}

@@ -3,14 +3,15 @@ use Rattle.std.specs.Prelude.{◌≡◌, ℕ, ◌<◌, ◌≤◌, ◌+◌, Bool,
 use Rattle.std.specs.Prelude.{Some, None}
 use Rattle.std.specs.List.{list_any}
 use Rattle.std.specs.Ordering.{eq_by_cmp}
+use Rattle.av_base.specs.Keys.{Key, key_cmp, same_key}
 use Rattle.av_base.specs.Page.{address_of}
 use Rattle.av_base.specs.declared.slot.Slot.{Slot}
 use Rattle.av_io.specs.Count.{RoseBy}
 use Rattle.av_trace.specs.declared.note.Note.{Note}
 use Rattle.av_trace.specs.declared.note.Note.TheVariants.{Loaded, Mapped}
 use Rattle.av_plain.specs.Event.{after_notes}
-use Rattle.av_plain.specs.Ledger.{InSlot, Key, Ledger, Setting, entry, frame_at, has_free, is_free}
-use Rattle.av_plain.specs.Ledger.{key_cmp, slot_count}
+use Rattle.av_plain.specs.Ledger.{InSlot, Ledger, Setting, entry, frame_at, has_free, is_free}
+use Rattle.av_plain.specs.Ledger.{slot_count}
 use Rattle.av_plain.specs.Pass.{Seeks, Spared, fails, out_of}
 use Rattle.av_plain.specs.Swapoff.{IsFetched, map_notes}
 use Rattle.av_evict.specs.System.{SystemView, spares}
@@ -73,10 +74,6 @@ pub record IsIn (s : Slot) (f : ℕ) (l : Ledger) : Type 0 where
 -- each entry that names the slot becomes the frame, and the slot is dropped
 abbrev pub MapsBack : Slot → ℕ → Ledger → List Note → Type 0
 MapsBack s f l notes = notes ≡ map_notes l s f
-
--- whether two keys are one
-abbrev pub same_key : Key → Key → Bool
-same_key q k = eq_by_cmp key_cmp q k
 
 -- the keys are apart
 abbrev pub AreApart : List Key → Type 0

@@ -1,11 +1,12 @@
 -- What brings the page of a slot back, beside the single steps of a memory system.
 use Rattle.std.specs.Prelude.{◌≡◌, ℕ, ◌<◌, true, List, [], ◌∷◌, slice_get, Option, Some, None}
 use Rattle.std.specs.Prelude.{IsSomeAnd}
+use Rattle.av_base.specs.Keys.{Key}
 use Rattle.av_base.specs.declared.slot.Slot.{Slot}
 use Rattle.av_trace.specs.declared.note.Note.{Note}
 use Rattle.av_trace.specs.declared.note.Note.TheVariants.{Loaded}
 use Rattle.av_plain.specs.Event.{slot_behind}
-use Rattle.av_plain.specs.Ledger.{InSlot, Key, Ledger, Setting, entry, frame_at, has_free, size_of}
+use Rattle.av_plain.specs.Ledger.{InSlot, Ledger, Setting, entry, frame_at, has_free, size_of}
 use Rattle.av_plain.specs.Ledger.{slot_count}
 
 -- the slot of an area with this page

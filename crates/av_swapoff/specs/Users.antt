@@ -1,8 +1,8 @@
 -- Whose the slots of a swap area are, by the page tables.
 use Rattle.std.specs.Prelude.{◌≡◌, ℕ, ◌<◌, ◌≤◌, ◌&&◌, ◌==◌, true, nat_lt, if◌then◌else◌, List}
 use Rattle.std.specs.Prelude.{length, slice_index_or, slice_set, Option, Some, None, is_some}
+use Rattle.av_base.specs.Keys.{Key}
 use Rattle.av_base.specs.declared.slot.Slot.{Slot}
-use Rattle.av_plain.specs.Ledger.{Key}
 use Rattle.av_plain.specs.Stands.{View}
 use Rattle.av_mem.specs.Entries.{slot_behind}
 use Rattle.av_swapoff.specs.System.{slot_at}

@@ -3,6 +3,8 @@ use Rattle.std.proofs.Common.{◌≡◌, ℕ, ◌+◌, ◌≤◌, ◌==◌, ◌|
 use Rattle.std.proofs.lemmas.Bool.{eqb-true, false≢true}
 use Rattle.std.proofs.lemmas.Bool.Decides.{nat_tests}
 use Rattle.std.specs.Prelude.{OnOk, option_and_then}
+use Rattle.av_base.specs.Keys.{Key}
+use Rattle.av_base.specs.Items.{is_item}
 use Rattle.av_base.specs.Words.{how_many, is_in, with_at}
 use Rattle.av_chain.specs.Links.{one_if}
 use Rattle.av_interval.specs.Search.{overlaps}
@@ -10,10 +12,10 @@ use Rattle.av_pagetable.specs.declared.pte.Pte.{Pte}
 use Rattle.av_pagetable.specs.declared.pte.Pte.TheVariants.{Away, Empty, Here, Zero}
 use Rattle.av_merge.proofs.PlacingLaws.{within_parts}
 use Rattle.av_rmap.specs.Covered.{IsCovered, IsReached}
-use Rattle.av_rmap.specs.Items.{AreCovered, AreOnce, AreRootsApart, is_item, looks_from_all}
+use Rattle.av_rmap.specs.Items.{AreCovered, AreOnce, AreRootsApart, looks_from_all}
 use Rattle.av_rmap.specs.Seen.{unseen, with_unseen}
 use Rattle.av_rmap.specs.View.{AreApart, View, view_with}
-use Rattle.av_rmap.specs.Walk.{AreItsEntries, HasSoMany, Key, is_held, names_frame}
+use Rattle.av_rmap.specs.Walk.{AreItsEntries, HasSoMany, is_held, names_frame}
 use Rattle.av_rmap.proofs.Counting.{keys-as-long}
 use Rattle.av_rmap.proofs.LinkedAreas.{spans-are-areas}
 use Rattle.av_vma.specs.Index.{index_of}

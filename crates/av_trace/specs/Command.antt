@@ -63,8 +63,6 @@ IsInRange commands.Stat = Unit {0}
 abbrev pub is_in_grammar : Command → Bool
 is_in_grammar (commands.Madvise p address len Mergeable) = false
 is_in_grammar (commands.Madvise p address len Unmergeable) = false
-is_in_grammar (commands.Mlock p address len) = false
-is_in_grammar (commands.Munlock p address len) = false
 is_in_grammar commands.Merge = false
 is_in_grammar commands.Compact = false
 is_in_grammar c = true

@@ -140,9 +140,7 @@ impl Command {
             Command::Madvise {
                 advice: Advice::Mergeable | Advice::Unmergeable,
                 ..
-            } | Command::Mlock { .. }
-                | Command::Munlock { .. }
-                | Command::Merge
+            } | Command::Merge
                 | Command::Compact
         )
     }

@@ -5,6 +5,7 @@ use Rattle.std.proofs.Common.{◌≡◌, ◌⊎◌, inl, inr, ◌++◌, ◌||◌
 use Rattle.std.proofs.lemmas.Bool.{false≢true}
 use Rattle.std.proofs.lemmas.Bool.Decides.{nat_tests}
 use Rattle.std.specs.Prelude.{max, min, unwrap_or}
+use Rattle.av_base.specs.Keys.{Key}
 use Rattle.av_base.specs.Page.{address_of, page_of, pages_of}
 use Rattle.av_base.specs.Words.{is_in, with_at, within}
 use Rattle.av_base.specs.Flags.{no_flags, unlocked}
@@ -31,7 +32,7 @@ use Rattle.av_plain.specs.Areas.{Anons, AnonVma, Areas, areas_to_hole, AreLeft, 
 use Rattle.av_plain.specs.Event.{Event, FlagSet, Noted, Used, after}
 use Rattle.av_plain.specs.Fork.{AreForked, GoOver, GoesBy}
 use Rattle.av_vma.specs.Mremap.{after_grow, after_move, after_resize, grown_to, joined_over, moved_area, moved_range, page_left, pages_left}
-use Rattle.av_plain.specs.Ledger.{Entry, InFrame, Key, Ledger, Setting, entry}
+use Rattle.av_plain.specs.Ledger.{Entry, InFrame, Ledger, Setting, entry}
 use Rattle.av_plain.specs.Mremap.{after_mremap, leaves_old, with_old_range}
 use Rattle.av_plain.specs.Refusal.{wraps}
 use Rattle.av_plain.specs.Report.{AreRowsOf, area_row}

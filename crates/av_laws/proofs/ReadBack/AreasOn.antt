@@ -7,6 +7,7 @@ use Rattle.std.specs.declared.cmp.Ordering.{Ordering}
 use Rattle.std.specs.declared.cmp.Ordering.TheVariants.{Less, Equal, Greater}
 use Rattle.std.proofs.Common.{◌≡◌, ◌⊎◌, inl, inr, ℕ, ◌+◌, ◌-◌, ◌<◌, ◌≤◌, min, Bool, true, false, cond, not, ◌&&◌, ◌==◌, List, [], ◌∷◌, ◌++◌, map, Option, Some, None, is_some, refl, sym, ap, subst, ◌∙◌, arith}
 use Rattle.std.proofs.lemmas.Bool.Decides.{nat_tests}
+use Rattle.av_base.specs.Keys.{Key}
 use Rattle.av_base.specs.Page.{page_of, pages_met, pages_of}
 use Rattle.av_base.specs.Words.{is_in, within}
 use Rattle.av_base.specs.declared.slot.Slot.{Slot}
@@ -34,7 +35,7 @@ use Rattle.av_plain.specs.Advice.{advice_events, flag_of_advice, pages_advised}
 use Rattle.av_plain.specs.Lock.{BringsIn, accesses_of, with_lock}
 use Rattle.av_plain.specs.Choice.{AreFresh, ChoosesAll, Free}
 use Rattle.av_plain.specs.Event.{Event, EntriesMoved, FlagSet, Forked, FreeSorted, Noted, TurnedOff, TurnedOn, Used, Zapped, after, after_all, after_note, after_use_of, change_entries, entries_where, if_some, key_at, note_events, off_cache, off_flight, put_all, set_entry, settle_entry, to_inactive_tail, when, with_stale, without_seen}
-use Rattle.av_plain.specs.Ledger.{Entry, HasNumbers, InFrame, InSlot, Key, Ledger, Setting, SwapArea, Zero, entry, frame_at, is_orphan, size_of, slot_of}
+use Rattle.av_plain.specs.Ledger.{Entry, HasNumbers, InFrame, InSlot, Ledger, Setting, SwapArea, Zero, entry, frame_at, is_orphan, size_of, slot_of}
 use Rattle.av_plain.specs.Map.{zaps_for_place}
 use Rattle.av_plain.specs.Mremap.{events_to, range_zaps}
 use Rattle.av_plain.specs.Refusal.{Refuses, refusal, tests}

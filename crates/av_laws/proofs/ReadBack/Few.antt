@@ -3,6 +3,7 @@ use Rattle.std.specs.List.{AllByRecursion, range_with_len}
 use Rattle.std.proofs.Common.{◌≡◌, ◌⊎◌, inl, inr, ℕ, zero, suc, ◌+◌, ◌-◌, ◌*◌, ◌≤◌, min, Bool, true, false, cond, List, [], ◌∷◌, ◌++◌, length, map, not, nat_lt, take, Option, Some, None, append-nil, refl, sym, ap, subst, ◌∙◌, arith, ◌==◌, if◌then◌else◌}
 use Rattle.std.proofs.lemmas.List.{length-append}
 use Rattle.std.specs.Prelude.{MatchBool, MatchOption, filter}
+use Rattle.av_base.specs.Keys.{Key}
 use Rattle.av_base.specs.Limits.{most_locked, top_page}
 use Rattle.av_base.specs.Page.{address_of, page_of, pages_met, pages_of, place_in_page}
 use Rattle.av_base.specs.Words.{how_many, with_at}
@@ -32,7 +33,7 @@ use Rattle.av_plain.specs.Areas.{Anons, Rmap, chain_length, none_on, prepare_pag
 use Rattle.av_plain.specs.Event.{Event, EntriesMoved, FreeSorted, Noted, TurnedOn, Used, Zapped, after, after_all, after_note, after_notes, note_events, notes_of, when}
 use Rattle.av_plain.specs.Fault.{ComesIn, CopyOnWrite, Denied, IsMade, Lost, MapCached, Need, NewPage, Ready, RunsOut, Serves, Sparing, Starved, Stop, SwapIn, Touches, ZeroPage, drop_at, drop_of_entry, drop_of_slot, is_unneeded, need, pinned_by, sparing, was_slot}
 use Rattle.av_plain.specs.Fork.{AreForked, GoOver, GoesBy}
-use Rattle.av_plain.specs.Ledger.{Entry, InFrame, InSlot, Key, Ledger, Setting, SwapArea, Zero, entry, frame_at, is_orphan, keys_of_slot, slot_of, slots_in_use}
+use Rattle.av_plain.specs.Ledger.{Entry, InFrame, InSlot, Ledger, Setting, SwapArea, Zero, entry, frame_at, is_orphan, keys_of_slot, slot_of, slots_in_use}
 use Rattle.av_plain.specs.Compact.{MovesDown}
 use Rattle.av_plain.specs.Merge.{FrameBytes, candidate, join_notes, merge_notes, merged_like, merges, other_like, with_candidate}
 use Rattle.av_plain.proofs.Sound.Frames.{move-is}

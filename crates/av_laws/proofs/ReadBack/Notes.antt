@@ -3,6 +3,7 @@
 use Rattle.std.specs.List.{AllByRecursion, find, range_with_len}
 use Rattle.std.specs.Prelude.{MatchBool, MatchOption, IsTrue}
 use Rattle.std.proofs.Common.{◌≡◌, ◌⊎◌, inl, inr, ℕ, zero, suc, ◌+◌, ◌-◌, ◌<◌, ◌≤◌, min, Bool, true, false, cond, not, ◌&&◌, ◌==◌, nat_lt, List, [], ◌∷◌, ◌++◌, map, filter, reverse, Option, Some, None, is_none, refl, sym, ap, subst, ◌∙◌, arith}
+use Rattle.av_base.specs.Keys.{Key}
 use Rattle.av_base.specs.Page.{address_of}
 use Rattle.av_base.specs.declared.slot.Slot.{Slot}
 use Rattle.av_text.specs.Number.{IsWide}
@@ -17,7 +18,7 @@ use Rattle.av_plain.specs.Access.{Accesses, End, page_events}
 use Rattle.av_plain.specs.Compact.{MovesDown, greatest_used, least_free, move_down}
 use Rattle.av_plain.specs.Event.{Event, EntriesMoved, Used, Zapped, after_all, after_note, after_notes, after_use, after_zap, note_events, notes_of, when}
 use Rattle.av_plain.specs.Fault.{ComesIn, CopyOnWrite, Denied, IsMade, Lost, MapCached, Need, NewPage, Ready, RunsOut, Serves, Sparing, Starved, Stop, SwapIn, Touches, ZeroPage, drop_at, drop_of_entry, drop_of_slot, is_allowed, is_locked, asks_copy, is_unneeded, need, need_of_slot, pinned_by, sparing, was_slot}
-use Rattle.av_plain.specs.Ledger.{Entry, InFrame, InSlot, Key, Ledger, Setting, Zero, entry, frame_at, has_free, has_free_slot, is_free, is_merged, is_on, is_open, is_orphan, is_usable, keys_of_slot, map_count, may_give, names_slot, size_of, slot_count, slot_of, slots_in_use}
+use Rattle.av_plain.specs.Ledger.{Entry, InFrame, InSlot, Ledger, Setting, Zero, entry, frame_at, has_free, has_free_slot, is_free, is_merged, is_on, is_open, is_orphan, is_usable, keys_of_slot, map_count, may_give, names_slot, size_of, slot_count, slot_of, slots_in_use}
 use Rattle.av_plain.specs.Merge.{FrameBytes, candidate, candidate_by, hold_same, join_notes, may_merge, merge_notes, merged_like, merges, other_like, with_candidate}
 use Rattle.av_plain.specs.Mremap.{range_zaps, remap_events}
 use Rattle.av_plain.specs.Pass.{Completes, IsPass, IsSlotFor, Seeks, Spared, TakesFor, Turns, end_note, end_notes, frames_in_turn, has_turn, is_dirty, is_stuck, stays_cached, turn_notes, unmap_notes}

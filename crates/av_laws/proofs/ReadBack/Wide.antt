@@ -6,8 +6,9 @@ use Rattle.std.specs.declared.cmp.Ordering.TheVariants.{Less, Equal, Greater}
 use Rattle.std.proofs.Common.{◌≡◌, ℕ, zero, suc, ◌+◌, ◌<◌, Bool, true, false, cond, not, ◌&&◌, ◌==◌, nat_lt, List, [], ◌∷◌, ◌++◌, map, filter, take, reverse, Option, Some, None, option_map, refl, ◌∙◌, arith}
 use Rattle.std.proofs.lemmas.Bool.Decides.{nat_tests}
 use mathlib.Core.List.{reverse_aux}
+use Rattle.av_base.specs.Keys.{Key, key_cmp, same_key}
 use Rattle.av_base.specs.Page.{address_of, page_of}
-use Rattle.av_base.specs.Words.{how_many, renamed}
+use Rattle.av_base.specs.Words.{how_many, renamed, without}
 use Rattle.av_base.specs.declared.slot.Slot.{Slot}
 use Rattle.av_text.specs.Number.{IsWide}
 use Rattle.av_trace.specs.Note.{IsNote, IsSlot}
@@ -15,11 +16,10 @@ use Rattle.av_trace.specs.Reply.{IfThere}
 use Rattle.av_trace.specs.declared.note.Cause.TheVariants.{Ksm, Locked, NoSlot, Referenced, WriteStarted, Writeback}
 use Rattle.av_trace.specs.declared.note.Note.{Note}
 use Rattle.av_trace.specs.declared.note.Note.TheVariants.{Aged, Copied, Dropped, Failed, Kept, Loaded, Mapped, New, Put, Started, Unmapped, Written, Zeroed, Joined, Moved, Shared}
-use Rattle.av_plain.specs.Event.{after_note, after_notes, after_use, after_use_of, after_zap, change_entries, change_frame, if_some, into_cache, off_cache, off_flight, off_lists, placed_entry, set_entry, settle, settle_entry, to_active, to_inactive_head, to_inactive_tail, with_stale, without, without_seen}
-use Rattle.av_plain.specs.Ledger.{Cached, Entry, InFrame, InSlot, Key, Ledger, Setting, Zero, cached_by, entry, frame_at, is_free, is_on, is_usable, key_cmp, names_frame, names_slot, same_slot, size_of, slot_of}
+use Rattle.av_plain.specs.Event.{after_note, after_notes, after_use, after_use_of, after_zap, change_entries, change_frame, if_some, into_cache, off_cache, off_flight, off_lists, placed_entry, set_entry, settle, settle_entry, to_active, to_inactive_head, to_inactive_tail, with_stale, without_seen}
+use Rattle.av_plain.specs.Ledger.{Cached, Entry, InFrame, InSlot, Ledger, Setting, Zero, cached_by, entry, frame_at, is_free, is_on, is_usable, names_frame, names_slot, same_slot, size_of, slot_of}
 use Rattle.av_plain.specs.Sound.{AllSound, count, slots, uses}
 use Rattle.av_plain.specs.World.{World}
-use Rattle.av_plain.proofs.Ledger.{same_key}
 use Rattle.av_plain.proofs.Ledger.Walk.{all-listed}
 use Rattle.av_plain.proofs.Sound.Counts.{same-itself, slot-itself}
 use Rattle.av_laws.specs.ReadBack.{IsSmall, IsSmallSetting}

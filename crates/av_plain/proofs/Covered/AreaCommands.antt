@@ -3,6 +3,7 @@ use Rattle.std.proofs.Common.{◌≡◌, ℕ, ◌+◌, ◌-◌, ◌<◌, Bool, t
 use Rattle.std.proofs.lemmas.Bool.{false≢true}
 use Rattle.std.proofs.lemmas.Bool.Decides.{nat_tests}
 use Rattle.std.specs.Ordering.{nat_cmp, eq_by_cmp}
+use Rattle.av_base.specs.Keys.{Key}
 use Rattle.av_base.specs.Words.{with_at, within}
 use Rattle.av_base.specs.declared.flags.Flag.{Flag}
 use Rattle.av_base.specs.declared.flags.Flags.{Flags}
@@ -13,7 +14,7 @@ use Rattle.av_vma.proofs.Homes.{homes_changed, homes_mapped, homes_unmapped}
 use Rattle.av_vma.proofs.Laid.{has_area}
 use Rattle.av_vma.proofs.Owns.{AddsNoOwn, adds_neither, owns_changed, owns_mapped, owns_unmapped}
 use Rattle.av_plain.specs.Areas.{AreLeft, Rmap, chain_length, none_on, rmap_after_flag}
-use Rattle.av_plain.specs.Ledger.{Key, Ledger, entry}
+use Rattle.av_plain.specs.Ledger.{Ledger, entry}
 use Rattle.av_plain.specs.Sound.{AtPages}
 use Rattle.av_plain.specs.World.{Process, World, end_process, no_pages, pages, set_process, with_pages}
 use Rattle.av_plain.proofs.Covered.{AnonsStay, Owns, stay-left}

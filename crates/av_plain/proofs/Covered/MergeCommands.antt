@@ -5,6 +5,8 @@ use Rattle.std.proofs.lemmas.Bool.Decides.{nat_tests}
 use Rattle.std.specs.FinMap.Entries.{is_sorted}
 use Rattle.std.specs.List.{list_any, range_with_len}
 use Rattle.std.specs.Prelude.{IsSomeAnd}
+use Rattle.av_base.specs.Keys.{Key, key_cmp, same_key}
+use Rattle.av_base.proofs.Keys.{same_key-itself}
 use Rattle.av_base.specs.Page.{address_of}
 use Rattle.av_base.specs.Words.{how_many}
 use Rattle.av_base.specs.declared.slot.Slot.{Slot}
@@ -15,7 +17,7 @@ use Rattle.av_trace.specs.declared.row.Row.{Row}
 use Rattle.av_plain.specs.Areas.{Rmap, rmap_after_all, rmap_after_note, with_item_of}
 use Rattle.av_plain.specs.Compact.{Compacts, MovesDown}
 use Rattle.av_plain.specs.Event.{Event, FreeSorted, after_all, after_note, after_notes, change_frame, note_events}
-use Rattle.av_plain.specs.Ledger.{Entry, Key, Ledger, Setting, entry, frame_at, is_merged, key_cmp, map_count, names_frame}
+use Rattle.av_plain.specs.Ledger.{Entry, Ledger, Setting, entry, frame_at, is_merged, map_count, names_frame}
 use Rattle.av_plain.specs.Merge.{FrameBytes, Merges, candidate, hold_same, join_notes, merge_notes, merged_like, merges, other_like, with_candidate}
 use Rattle.av_plain.specs.Sound.{AllSound, IsSound, holders, mergings}
 use Rattle.av_plain.specs.World.{World}
@@ -24,7 +26,7 @@ use Rattle.av_plain.proofs.AreasLeft.{rmap_after_all-append}
 use Rattle.av_plain.proofs.Covered.{Names}
 use Rattle.av_plain.proofs.Covered.Merging.{joined-reach, moved-reach, shared-reach}
 use Rattle.av_plain.proofs.Covered.Swap.{Reach, unmerged-by}
-use Rattle.av_plain.proofs.Ledger.{how_many-append, same_key, same_key-itself}
+use Rattle.av_plain.proofs.Ledger.{how_many-append}
 use Rattle.av_plain.proofs.Ledger.NoSwap.{key_at-address}
 use Rattle.av_plain.proofs.Ledger.Walk.{keys-filter, passes}
 use Rattle.av_plain.proofs.Sound.Changes.{any-counts}

@@ -6,14 +6,16 @@ use Rattle.std.specs.FinMap.Entries.{is_sorted}
 use Rattle.std.specs.List.{list_any}
 use Rattle.std.specs.Option.{option_map_or, option_or}
 use Rattle.std.specs.Prelude.{IfSome, IsSomeAnd}
+use Rattle.av_base.specs.Keys.{Key, key_cmp}
+use Rattle.av_base.specs.Items.{same_item}
 use Rattle.av_base.specs.Words.{how_many}
 use Rattle.av_vma.specs.declared.area.Area.{Area}
-use Rattle.av_plain.specs.Areas.{AnonVma, Anons, Items, Rmap, chain_by, root_of, same_item}
+use Rattle.av_plain.specs.Areas.{AnonVma, Anons, Items, Rmap, chain_by, root_of}
 use Rattle.av_plain.specs.Covered.{AreMergedCovered, AreSlotsCovered, IsAtRoot, IsReached, IsRmapSound}
 use Rattle.av_vma.specs.Fork.{areas_to_fork, own_to_fork}
 use Rattle.av_plain.specs.Event.{without_seen}
 use Rattle.av_plain.specs.Fork.{AreForked, GoOver, GoesBy, with_child}
-use Rattle.av_plain.specs.Ledger.{Entry, Key, Ledger, entry, is_merged, key_cmp, names_frame}
+use Rattle.av_plain.specs.Ledger.{Entry, Ledger, entry, is_merged, names_frame}
 use Rattle.av_plain.proofs.Covered.{Names}
 use Rattle.av_plain.proofs.Covered.Fork.{GoWhole, HasChains, fork-goes_over, fork-stays, merged-forked_ledger}
 use Rattle.av_plain.proofs.Covered.SlotsFork.{LeavesKin, fork-kin, goes-rooted}

@@ -4,20 +4,23 @@ use Rattle.std.proofs.lemmas.Bool.{false≢true}
 use Rattle.std.specs.FinMap.Entries.{is_sorted}
 use Rattle.std.specs.List.{list_any}
 use Rattle.std.specs.Prelude.{IfSome, IsSome, IsSomeAnd}
+use Rattle.av_base.specs.Keys.{Key, key_cmp, same_key}
+use Rattle.av_base.specs.Items.{same_item}
+use Rattle.av_base.proofs.Keys.{same_key-is}
 use Rattle.av_base.specs.Words.{how_many, renamed}
 use Rattle.av_base.specs.declared.slot.Slot.{Slot}
 use Rattle.av_vma.specs.Index.{index_of}
 use Rattle.av_trace.specs.declared.note.Note.TheVariants.{Shared}
-use Rattle.av_plain.specs.Areas.{AnonVma, Items, Rmap, at_root, item_of, root_of, same_item, with_home_moved, with_item, with_item_of, with_first_item}
+use Rattle.av_plain.specs.Areas.{AnonVma, Items, Rmap, at_root, item_of, root_of, with_home_moved, with_any_item, with_item_of, with_first_item}
 use Rattle.av_plain.specs.Covered.{AreSlotsCovered, HasItem, IsAtRoot, IsOfSlot, IsReached, IsRmapSound, IsRooted}
 use Rattle.av_plain.specs.Event.{after_note, change_frame, placed_entry, set_entry, with_places}
-use Rattle.av_plain.specs.Ledger.{Cached, Entry, InFrame, InSlot, Key, Ledger, Setting, Zero, cached_by, entry, frame_at, is_merged, key_cmp, names_frame, names_slot, same_slot}
+use Rattle.av_plain.specs.Ledger.{Cached, Entry, InFrame, InSlot, Ledger, Setting, Zero, cached_by, entry, frame_at, is_merged, names_frame, names_slot, same_slot}
 use Rattle.av_plain.specs.Sound.{IsSound, holders, mergings, no_excuse, uses}
 use Rattle.av_plain.proofs.Covered.{Names, sound-fewer}
 use Rattle.av_plain.proofs.Covered.Slots.{HasKin, Own, at_area, home-is, of_area, reached-own, root-is, rooted-own, slots-fewer, slots-lists, slots-set, to_rooted}
 use Rattle.av_plain.proofs.Covered.Swap.{AreMergedFewer, Reach, merged-settled_entry, settled_entry-cache, settled_entry-entries}
 use Rattle.av_plain.proofs.Event.{entry-renamed, is_sorted-map}
-use Rattle.av_plain.proofs.Ledger.{entry-set, is_sorted-set, same_key, same_key-is}
+use Rattle.av_plain.proofs.Ledger.{entry-set, is_sorted-set}
 use Rattle.av_plain.proofs.Sound.Changes.{any-counts}
 use Rattle.av_plain.proofs.Sound.Counts.{frame_at-some, pair-frame, same-is, same-itself}
 use Rattle.av_plain.proofs.Sound.Sharing.{back-again, before, differ, is-before, merged-went, none-from, not_to, slots-went}
@@ -82,7 +85,7 @@ none-counts p (x ∷ xs) h = by (none-counts p xs) (p x) h
 
 -- an item that is put in is there, the others stay, and none stands twice
 module _ (item : ℕ × ℕ) (items : List (ℕ × ℕ)) where
-  with-itself : list_any (same_item item) (with_item (Some item) items) ≡ true
+  with-itself : list_any (same_item item) (with_any_item (Some item) items) ≡ true
   with-itself = by (list_any (same_item item) items) refl
     where
       right : (b : Bool) {c : Bool} → c ≡ true → (b || c) ≡ true
@@ -93,14 +96,14 @@ module _ (item : ℕ × ℕ) (items : List (ℕ × ℕ)) where
       by true is = is
       by false is = any-last (same_item item) item items ∙ right (list_any (same_item item) items) (item-itself item)
 
-  with-old : (x : ℕ × ℕ) → list_any (same_item x) items ≡ true → list_any (same_item x) (with_item (Some item) items) ≡ true
+  with-old : (x : ℕ × ℕ) → list_any (same_item x) items ≡ true → list_any (same_item x) (with_any_item (Some item) items) ≡ true
   with-old x is = by (list_any (same_item item) items)
     where
       by : (b : Bool) → list_any (same_item x) (cond b items (items ++ item ∷ [])) ≡ true
       by true = is
       by false = any-last (same_item x) item items ∙ ap (λ b. b || same_item x item) is
 
-  with-only : (x : ℕ × ℕ) → list_any (same_item x) (with_item (Some item) items) ≡ true → (list_any (same_item x) items ≡ true) ⊎ (x ≡ item)
+  with-only : (x : ℕ × ℕ) → list_any (same_item x) (with_any_item (Some item) items) ≡ true → (list_any (same_item x) items ≡ true) ⊎ (x ≡ item)
   with-only x = by (list_any (same_item item) items)
     where
       either : (a b : Bool) → (a || b) ≡ true → (a ≡ true) ⊎ (b ≡ true)
@@ -115,7 +118,7 @@ module _ (item : ℕ × ℕ) (items : List (ℕ × ℕ)) where
       by true is = inl is
       by false is = last (either _ _ (sym (any-last (same_item x) item items) ∙ is))
 
-  with-once : (x : ℕ × ℕ) → how_many (same_item x) items ≤ 1 → how_many (same_item x) (with_item (Some item) items) ≤ 1
+  with-once : (x : ℕ × ℕ) → how_many (same_item x) items ≤ 1 → how_many (same_item x) (with_any_item (Some item) items) ≤ 1
   with-once x few = by (list_any (same_item item) items) refl
     where
       same : (b : Bool) → same_item x item ≡ b → list_any (same_item item) items ≡ false → how_many (same_item x) items + cond b 1 0 ≤ 1
@@ -167,8 +170,8 @@ module _ (l : Ledger) (r : Rmap) (f : ℕ) (k : Key) (h : Reach l r) (own : is_m
       none true = refl
       none false = refl
 
-  items-at : (g : ℕ) (b : Bool) → (g == f) ≡ b → (with_first_item f r).items g ≡ cond b (with_item (Some root) []) (r.items g)
-  items-at g b e = λ i. cond (e i) (with_item (at_root r.anons (home-at.is i)) []) (r.items g)
+  items-at : (g : ℕ) (b : Bool) → (g == f) ≡ b → (with_first_item f r).items g ≡ cond b (with_any_item (Some root) []) (r.items g)
+  items-at g b e = λ i. cond (e i) (with_any_item (at_root r.anons (home-at.is i)) []) (r.items g)
 
   homes-at : (g : ℕ) (b : Bool) → (g == f) ≡ b → (with_first_item f r).homes g ≡ cond b None (r.homes g)
   homes-at g b e = ap (λ b. cond b None (r.homes g)) e
@@ -292,8 +295,8 @@ module _ (l : Ledger) (r : Rmap) (k : Key) (f g : ℕ) (seen : Bool) (h : Reach 
   joined-taken : (q : Key) (j : ℕ) → Names joined q j → is_merged joined j ≡ is_merged l j
   joined-taken q j names = joined-merged.named q j names
 
-  items-joined : (j : ℕ) (b : Bool) → (j == f) ≡ b → (with_item_of f k r).items j ≡ cond b (with_item (Some item-at.item) (r.items f)) (r.items j)
-  items-joined j b e = λ i. cond (e i) (with_item (item-at.is i) (r.items f)) (r.items j)
+  items-joined : (j : ℕ) (b : Bool) → (j == f) ≡ b → (with_item_of f k r).items j ≡ cond b (with_any_item (Some item-at.item) (r.items f)) (r.items j)
+  items-joined j b e = λ i. cond (e i) (with_any_item (item-at.is i) (r.items f)) (r.items j)
 
   joined-sound : IsRmapSound joined (with_item_of f k r)
   joined-sound = with_first_item-sound joined r (with_item_of f k r).items

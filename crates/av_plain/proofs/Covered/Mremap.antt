@@ -3,6 +3,7 @@ use Rattle.std.proofs.Common.{◌≡◌, ◌⊎◌, inl, inr, ℕ, ◌+◌, ◌-
 use Rattle.std.proofs.lemmas.Bool.Decides.{nat_tests}
 use Rattle.std.specs.FinMap.Entries.{is_sorted}
 use Rattle.std.specs.Prelude.{IsSomeAnd, if◌then◌else◌}
+use Rattle.av_base.specs.Keys.{Key, key_cmp}
 use Rattle.av_base.specs.declared.slot.Slot.{Slot}
 use Rattle.av_trace.specs.declared.note.Note.TheVariants.{Dropped}
 use Rattle.av_base.specs.Words.{with_at, within}
@@ -11,7 +12,7 @@ use Rattle.av_vma.proofs.Mremap.{in_range as range_bounds}
 use Rattle.av_plain.specs.Areas.{AreLeft, Areas, Rmap, chain_length}
 use Rattle.av_plain.specs.Covered.{AreMergedCovered, AreSlotsCovered, IsRmapSound}
 use Rattle.av_plain.specs.Event.{Event, EntriesMoved, after_all, after_move, after_note, after_zap, entries_where, note_events, off_cache, when}
-use Rattle.av_plain.specs.Ledger.{Cached, Entry, Key, Ledger, cached_by, entry, frame_at, is_merged, is_orphan, key_cmp, names_frame, names_slot, same_slot}
+use Rattle.av_plain.specs.Ledger.{Cached, Entry, Ledger, cached_by, entry, frame_at, is_merged, is_orphan, names_frame, names_slot, same_slot}
 use Rattle.av_plain.specs.Mremap.{after_mremap, range_zaps, remap_events}
 use Rattle.av_plain.specs.Zap.{keys_in, orphan_drop, slot_behind_key, zap_of, zaps_of}
 use Rattle.av_plain.proofs.Access.{after_all-append}

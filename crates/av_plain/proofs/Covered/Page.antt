@@ -4,6 +4,8 @@ use Rattle.std.proofs.lemmas.Bool.{false≢true}
 use Rattle.std.proofs.lemmas.Bool.Decides.{nat_tests}
 use Rattle.std.specs.Prelude.{unwrap_or}
 use Rattle.std.specs.FinMap.Entries.{is_sorted}
+use Rattle.av_base.specs.Keys.{Key, key_cmp, same_key}
+use Rattle.av_base.proofs.Keys.{same_key-itself}
 use Rattle.av_base.specs.Page.{address_of}
 use Rattle.av_base.specs.declared.slot.Slot.{Slot}
 use Rattle.av_vma.specs.Pages.{AreLaid, Lengths, Pages, after_prepare, has_page, home_of, loan_beside, with_anon, with_area}
@@ -17,7 +19,7 @@ use Rattle.av_plain.specs.Areas.{Rmap, at_home, chain_length, prepare_page, rmap
 use Rattle.av_plain.specs.Covered.{IsOfSlot}
 use Rattle.av_plain.specs.Event.{Event, Used, after_all, after_note, after_notes, after_use, after_use_of, change_frame, if_some, note_events, off_cache, set_entry, to_inactive_head, when, with_stale}
 use Rattle.av_plain.specs.Fault.{ComesIn, CopyOnWrite, Denied, IsMade, Lost, Ready, RunsOut, Serves, Sparing, Starved, Stop, Takes, Touches, drop_at, drop_of_entry, drop_of_slot, is_named, asks_copy, is_unneeded, need, need_of_slot, permits, pinned_by, sparing, was_slot}
-use Rattle.av_plain.specs.Ledger.{Entry, InFrame, InSlot, Key, Ledger, Setting, Zero, entry, frame_at, is_free, is_merged, key_cmp, map_count, names_frame, names_slot, same_slot, slot_entries, slot_of}
+use Rattle.av_plain.specs.Ledger.{Entry, InFrame, InSlot, Ledger, Setting, Zero, entry, frame_at, is_free, is_merged, map_count, names_frame, names_slot, same_slot, slot_entries, slot_of}
 use Rattle.av_plain.specs.Pass.{Spared, TakesFor}
 use Rattle.av_plain.specs.Sound.{IsSound}
 use Rattle.av_plain.specs.World.{Page, World, pages}
@@ -26,7 +28,7 @@ use Rattle.av_plain.proofs.AreasLeft.{rmap_after_all-append}
 use Rattle.av_plain.proofs.Covered.{Names, alone-by, covered-owns, merged-fewer, merged-homed, merged-prepared, merged-set, owns-prepared, slots-prepared, sound-prepared, sound-put, sound-set}
 use Rattle.av_plain.proofs.Covered.Slots.{frame_at-off, set-fewer, slots-homed, slots-lists, slots-set}
 use Rattle.av_plain.proofs.Covered.Swap.{AllFit, AreMergedFewer, Fits, Reach, cached-unmerged, fit-append, fit-is, fit-seeks, free-uncached, free-unmerged, free-unnamed, merged-settled, merged-settled_entry, reach-alike, reach-notes, reach-stale, settled_entry-cache, settled_entry-entries, unlike}
-use Rattle.av_plain.proofs.Ledger.{entry-set, how_many-found, is_sorted-set, map_count-set, same_key, same_key-itself}
+use Rattle.av_plain.proofs.Ledger.{entry-set, how_many-found, is_sorted-set, map_count-set}
 use Rattle.av_plain.proofs.Ledger.NoSwap.{key_at-address}
 use Rattle.av_plain.proofs.Sound.Access.{comes-kept, load-kept, page_events-kept, touches-kept, unused}
 use Rattle.av_plain.proofs.Sound.Counts.{frame_at-none, frame_at-some, pair-frame, same-is, same-itself, slot-is, slot-itself, slot_of-none, slot_of-some, two_slots}

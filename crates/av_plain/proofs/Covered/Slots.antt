@@ -5,20 +5,23 @@ use Rattle.std.specs.FinMap.Entries.{is_sorted}
 use Rattle.std.specs.List.{list_any}
 use Rattle.std.specs.Option.{option_map_or}
 use Rattle.std.specs.Prelude.{IfSome, IsSomeAnd, if◌then◌else◌}
+use Rattle.av_base.specs.Keys.{Key, key_cmp, same_key}
+use Rattle.av_base.specs.Items.{same_item}
+use Rattle.av_base.proofs.Keys.{same_key-is, same_key-itself}
 use Rattle.av_base.specs.Words.{how_many, is_in, with_at}
 use Rattle.av_base.specs.declared.slot.Slot.{Slot}
 use Rattle.av_vma.specs.declared.area.Area.{Area}
 use Rattle.av_vma.specs.Index.{index_of}
 use Rattle.av_vma.specs.Pages.{home_of}
 use Rattle.av_trace.specs.declared.note.Note.TheVariants.{Dropped, Loaded}
-use Rattle.av_plain.specs.Areas.{AnonVma, Anons, Homes, Items, Rmap, at_home, at_root, chain_by, home_for, rmap_after_note, root_of, same_item}
+use Rattle.av_plain.specs.Areas.{AnonVma, Anons, Homes, Items, Rmap, at_home, at_root, chain_by, home_for, rmap_after_note, root_of}
 use Rattle.av_plain.specs.Covered.{AreMergedCovered, AreSlotsCovered, IsKin, IsOfSlot, IsReached, IsRmapSound, IsRooted}
 use Rattle.av_plain.specs.Event.{after_note, change_entries, if_some, into_cache, off_cache, set_entry, to_inactive_tail, with_stale, without_seen}
-use Rattle.av_plain.specs.Ledger.{Cached, Entry, InFrame, InSlot, Key, Ledger, Zero, cached_by, entry, frame_at, is_merged, key_cmp, keys_of_slot, names_frame, names_slot, same_slot, slot_entries}
+use Rattle.av_plain.specs.Ledger.{Cached, Entry, InFrame, InSlot, Ledger, Zero, cached_by, entry, frame_at, is_merged, keys_of_slot, names_frame, names_slot, same_slot, slot_entries}
 use Rattle.av_plain.specs.Sound.{slots}
 use Rattle.av_plain.proofs.Covered.{AnonsStay, Carries, Names, Owns, chain_there, home_parts, sound-fewer}
 use Rattle.av_plain.proofs.Event.{entry-unmap, entry-unseen, to_slot, to_unseen, unseen-by}
-use Rattle.av_plain.proofs.Ledger.{entry-set, how_many-found, same_key, same_key-is, same_key-itself}
+use Rattle.av_plain.proofs.Ledger.{entry-set, how_many-found}
 use Rattle.av_plain.proofs.Ledger.Walk.{keys-filter, passes}
 use Rattle.av_plain.proofs.Sound.Steps.{settle-cache, settle-entries}
 use Rattle.av_plain.proofs.Sound.Counts.{same-is, same-itself, slot-is, slot-itself}

@@ -5,6 +5,7 @@ use Rattle.std.proofs.lemmas.Bool.Decides.{nat_tests}
 use Rattle.std.specs.FinMap.Entries.{is_sorted}
 use Rattle.std.specs.Option.{option_map_or, option_or}
 use Rattle.std.specs.Prelude.{IfSome, IsSome, IsSomeAnd}
+use Rattle.av_base.specs.Keys.{Key, key_cmp}
 use Rattle.av_base.specs.Words.{is_in}
 use Rattle.av_base.specs.declared.slot.Slot.{Slot}
 use Rattle.av_vma.specs.declared.area.Area.{Area}
@@ -15,7 +16,7 @@ use Rattle.av_plain.specs.Covered.{AreSlotsCovered, IsKin, IsOfSlot, IsReached, 
 use Rattle.av_plain.specs.Event.{without_seen}
 use Rattle.av_vma.specs.Fork.{areas_to_fork, own_to_fork}
 use Rattle.av_plain.specs.Fork.{AreForked, GoOver, GoesBy, IsIdle, IsReused, own_of_child, with_child}
-use Rattle.av_plain.specs.Ledger.{Entry, Key, Ledger, entry, frame_at, key_cmp, names_slot}
+use Rattle.av_plain.specs.Ledger.{Entry, Ledger, entry, frame_at, names_slot}
 use Rattle.av_plain.specs.Report.{AreApart, range_of}
 use Rattle.av_plain.proofs.Covered.{Owns}
 use Rattle.av_plain.proofs.Covered.Fork.{GoWhole, HasChains, fork-goes_over, fork-stays, in_front, keeps}

@@ -4,7 +4,9 @@ use Rattle.std.specs.FinMap.Entries.{is_sorted}
 use Rattle.std.proofs.Common.{nat_lt}
 use Rattle.std.proofs.lemmas.Bool.{false≢true}
 use Rattle.std.specs.Prelude.{reverse, if◌then◌else◌, IsTrue, IsSomeAnd, MatchBool, MatchOption}
-use Rattle.av_base.specs.Words.{how_many, is_in}
+use Rattle.av_base.specs.Keys.{Key, key_cmp}
+use Rattle.av_base.proofs.Without.{count-without}
+use Rattle.av_base.specs.Words.{how_many, is_in, without}
 use Rattle.av_base.specs.declared.slot.Slot.{Slot}
 use Rattle.av_trace.specs.declared.note.Cause.{Cause}
 use Rattle.av_trace.specs.declared.note.Cause.TheVariants.{Ksm, Locked, NoSlot, Referenced, WriteStarted, Writeback}
@@ -12,8 +14,8 @@ use Rattle.av_trace.specs.declared.note.Note.{Note}
 use Rattle.av_trace.specs.declared.note.Note.TheVariants.{Aged, Copied, Dropped, Failed, Joined, Kept, Loaded, Mapped, Moved, New, Put, Shared, Started, Unmapped, Written, Zeroed}
 use Rattle.av_plain.specs.Areas.{Rmap, home_for, rmap_after_all, rmap_after_note}
 use Rattle.av_plain.specs.Covered.{AreMergedCovered, AreSlotsCovered, IsRmapSound}
-use Rattle.av_plain.specs.Event.{after_note, after_notes, change_entries, frame_of, if_some, into_cache, key_at, note_events, off_cache, off_flight, off_lists, set_entry, settle, settle_entry, to_active, to_inactive_head, to_inactive_tail, when, with_stale, without, without_seen}
-use Rattle.av_plain.specs.Ledger.{Cached, Entry, InFrame, InSlot, Key, Ledger, Setting, Zero, entry, frame_at, has_free, is_free, is_merged, is_orphan, key_cmp, keys_of_slot, map_count, may_give, names_frame, same_slot, slot_entries, slot_of}
+use Rattle.av_plain.specs.Event.{after_note, after_notes, change_entries, frame_of, if_some, into_cache, key_at, note_events, off_cache, off_flight, off_lists, set_entry, settle, settle_entry, to_active, to_inactive_head, to_inactive_tail, when, with_stale, without_seen}
+use Rattle.av_plain.specs.Ledger.{Cached, Entry, InFrame, InSlot, Ledger, Setting, Zero, entry, frame_at, has_free, is_free, is_merged, is_orphan, keys_of_slot, map_count, may_give, names_frame, same_slot, slot_entries, slot_of}
 use Rattle.av_plain.specs.Pass.{Completes, IsPass, IsSlotFor, Seeks, Spared, Turns, end_note, end_notes, frames_in_turn, is_dirty, is_stuck, stays_cached, turn_notes, unmap_notes}
 use Rattle.av_plain.specs.Reclaim.{Outcome, Outcomes, cause_of, leave_notes}
 use Rattle.av_plain.specs.Sound.{IsSound, mergings, pairs, slots}
@@ -22,7 +24,7 @@ use Rattle.av_plain.proofs.Covered.{Names, merged-fewer, merged-homed, merged-se
 use Rattle.av_plain.proofs.Covered.Slots.{names-unmapped, names-unseen, slots-lists, slots-loaded, slots-off_cache, slots-put, slots-set, slots-stale, slots-unmapped, slots-unseen, sound-loaded, sound-mapped, sound-unmapped, sound-unseen}
 use Rattle.av_plain.proofs.Sound.Access.{unused}
 use Rattle.av_plain.proofs.Sound.Changes.{any-counts}
-use Rattle.av_plain.proofs.Sound.Counts.{count-without-list, frame_at-none, frame_at-some, pair-frame, pair-slot, same-is, slot-is, slot_of-some, two_frames}
+use Rattle.av_plain.proofs.Sound.Counts.{frame_at-none, frame_at-some, pair-frame, pair-slot, same-is, slot-is, slot_of-some, two_frames}
 use Rattle.av_plain.proofs.Sound.Counts as counts
 use Rattle.av_plain.proofs.Sound.Pass.{AreUnmerged, all-unmerged, unmerged-first, unmerged-rest}
 use Rattle.av_plain.proofs.Sound.Reclaim.{unmerged_of}
@@ -186,7 +188,7 @@ settled_entry-cache (Some e) l = settle-cache (frame_of e) l
 -- a frame that is merged without another was so
 pub still-in : (f g : ℕ) (fs : List ℕ) → is_in f (without g fs) ≡ true → is_in f fs ≡ true
 still-in f g fs is = any-counts (λ x. f == x) fs
-    ∙ by (f == g) _ _ (count-without-list g f fs) (sym (any-counts (λ x. f == x) (without g fs)) ∙ is)
+    ∙ by (f == g) _ _ (count-without g f fs) (sym (any-counts (λ x. f == x) (without g fs)) ∙ is)
   where
     by : (b : Bool) (n k : ℕ) → n ≡ cond b 0 k → nat_lt 0 n ≡ true → nat_lt 0 k ≡ true
     by true n k e h = absurd (false≢true (sym (ap (nat_lt 0) e) ∙ h))

@@ -3,6 +3,8 @@ use Rattle.std.proofs.Common.{◌≡◌, ◌⊎◌, inl, inr, ℕ, ◌<◌, Bool
 use Rattle.std.specs.List.{list_any}
 use Rattle.std.specs.Prelude.{IsSomeAnd, MatchOption}
 use Rattle.av_vma.specs.Pages.{home_of}
+use Rattle.av_base.specs.Keys.{Key, same_key}
+use Rattle.av_base.proofs.Keys.{same_key-itself}
 use Rattle.av_base.specs.Page.{address_of}
 use Rattle.av_base.specs.declared.slot.Slot.{Slot}
 use Rattle.av_trace.specs.declared.command.Command.{Command}
@@ -19,7 +21,7 @@ use Rattle.av_plain.specs.Covered.{AreMergedCovered, AreSlotsCovered, IsRmapSoun
 use Rattle.av_plain.specs.Event.{Event, TurnedOff, TurnedOn, after_all, after_note, after_notes, key_at, note_events}
 use Rattle.av_plain.specs.Fault.{sparing}
 use Rattle.av_plain.specs.Fork.{IsRmapNext}
-use Rattle.av_plain.specs.Ledger.{Key, Ledger, Setting, SwapArea, entry, frame_at, is_merged, keys_of_slot, slot_entries, slots_in_use}
+use Rattle.av_plain.specs.Ledger.{Ledger, Setting, SwapArea, entry, frame_at, is_merged, keys_of_slot, slot_entries, slots_in_use}
 use Rattle.av_plain.specs.Pass.{Spared, TakesFor}
 use Rattle.av_plain.specs.Reclaim.{Ages, CompletesFirst, Reclaims, from_tail}
 use Rattle.av_plain.specs.Refusal.{Refuses, refusal, tests}
@@ -36,7 +38,6 @@ use Rattle.av_plain.proofs.Covered.MergeCommands.{compact-reach, merge-reach}
 use Rattle.av_plain.proofs.Covered.Page.{Lies, ReachAt, accesses-reach}
 use Rattle.av_plain.proofs.Covered.Swap.{AllFit, Reach, cached-unmerged, fit-ages, fit-append, fit-completes, fit-is, fit-outcomes, fit-seeks, free-unmerged, reach-lists, reach-notes}
 use Rattle.av_plain.proofs.Covered.Zaps.{next-reach}
-use Rattle.av_plain.proofs.Ledger.{same_key, same_key-itself}
 use Rattle.av_plain.proofs.Ledger.NoSwap.{key_at-address}
 use Rattle.av_plain.proofs.Sound.Counts.{frame_at-none}
 use Rattle.av_plain.proofs.Sound.Pass.{seeks-kept}

@@ -1,5 +1,6 @@
 -- What holds of frames and slots where entries go, and where areas become others.
 use Rattle.std.proofs.Common.{◌≡◌, ℕ, ◌≤◌, Bool, true, false, cond, not, ◌&&◌, ◌==◌, ◌∙◌, List, [], ◌∷◌, Option, Some, None, is_some, option_map, IsSomeAnd, refl, sym, ap, subst}
+use Rattle.av_base.specs.Keys.{Key, same_key}
 use Rattle.av_base.specs.Words.{how_many}
 use Rattle.av_base.specs.declared.slot.Slot.{Slot}
 use Rattle.av_vma.specs.Pages.{home_of}
@@ -7,14 +8,13 @@ use Rattle.av_trace.specs.declared.note.Note.TheVariants.{Dropped}
 use Rattle.av_plain.specs.Areas.{Rmap}
 use Rattle.av_plain.specs.Covered.{AreMergedCovered, AreSlotsCovered, IsRmapSound}
 use Rattle.av_plain.specs.Event.{after_all, after_note, after_zap, entries_where, note_events, off_cache, when}
-use Rattle.av_plain.specs.Ledger.{Cached, Entry, Key, Ledger, cached_by, entry, frame_at, is_merged, is_orphan, names_frame, names_slot, same_slot}
+use Rattle.av_plain.specs.Ledger.{Cached, Entry, Ledger, cached_by, entry, frame_at, is_merged, is_orphan, names_frame, names_slot, same_slot}
 use Rattle.av_plain.specs.Zap.{orphan_drop, slot_behind_key, zap_of, zaps_of}
 use Rattle.av_plain.proofs.Access.{after_all-append}
 use Rattle.av_plain.proofs.Covered.{AnonsStay, Names, Owns, merged-fewer, sound-fewer, sound-next}
 use Rattle.av_plain.proofs.Covered.Slots.{merged-carried, slots-carried, slots-same}
 use Rattle.av_plain.proofs.Covered.Swap.{AreMergedFewer, Reach, merged-settled, merged-settled_entry, reach-note}
 use Rattle.av_plain.proofs.Sound.Steps.{settle-entries}
-use Rattle.av_plain.proofs.Ledger.{same_key}
 use Rattle.av_plain.proofs.Zap.{entry-after_zap, in_order-after_zap, same_swap-after_zap}
 
 -- ---- entries go

@@ -3,12 +3,12 @@ use Rattle.std.proofs.Common.{◌≡◌, ◌≢◌, ℕ, zero, suc, ◌+◌, ◌
 use Rattle.std.proofs.lemmas.Bool.Decides.{nat_tests}
 use Rattle.std.proofs.lemmas.Bool.{false≢true}
 use Rattle.std.specs.List.{list_any, range_with_len}
+use Rattle.av_base.specs.Keys.{Key, same_key}
 use Rattle.av_base.specs.Words.{is_in}
 use Rattle.av_base.specs.Page.{address_of}
-use Rattle.av_plain.specs.Ledger.{Ledger, Setting, Key, Cached, map_count, is_free, has_free, slot_of, cached_by}
+use Rattle.av_plain.specs.Ledger.{Ledger, Setting, Cached, map_count, is_free, has_free, slot_of, cached_by}
 use Rattle.av_plain.specs.Event.{key_at}
 use Rattle.av_plain.specs.Fault.{asks_copy, is_named}
-use Rattle.av_plain.proofs.Ledger.{same_key}
 use Rattle.av_plain.specs.Ledger.{is_merged}
 
 pub itself : (f : ℕ) → (f == f) ≡ true

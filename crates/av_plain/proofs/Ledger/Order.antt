@@ -6,11 +6,9 @@ use Rattle.std.specs.Ordering.{is_lt, is_eq, eq_by_cmp, nat_cmp}
 use Rattle.std.specs.Cmp.{IsTotalOrder, nat_cmp_total}
 use Rattle.std.proofs.lemmas.Cmp.{on_total, then_total}
 use Rattle.std.specs.FinMap.Entries.{find, put, where_key, below_all, is_sorted, by_order}
+use Rattle.av_base.specs.Keys.{key_cmp}
+use Rattle.av_base.proofs.Keys.{keys_total}
 use Rattle.av_base.specs.Words.{how_many}
-use Rattle.av_plain.specs.Ledger.{key_cmp}
-
-pub keys_total : IsTotalOrder key_cmp
-keys_total = then_total (on_total (λ k. k.0) nat_cmp_total) (on_total (λ k. k.1) nat_cmp_total)
 
 -- what passes at a key, as a number
 abbrev pub weight : {X : Type 0} → (X → Bool) → Option X → ℕ

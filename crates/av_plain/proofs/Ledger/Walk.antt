@@ -2,10 +2,11 @@
 use Rattle.std.proofs.Common.{◌≡◌, ℕ, suc, ◌+◌, Bool, true, false, cond, ◌||◌, T, List, [], ◌∷◌, map, length, filter, Option, Some, None, is_some, refl, sym, ap, ◌∙◌, arith}
 use Rattle.std.specs.List.{AllByRecursion, list_any}
 use Rattle.std.specs.FinMap.Entries.{find, is_sorted}
+use Rattle.av_base.specs.Keys.{Key, key_cmp, same_key}
+use Rattle.av_base.proofs.Keys.{keys_total, same_key-is, same_key-itself}
 use Rattle.av_base.specs.Words.{how_many}
-use Rattle.av_plain.specs.Ledger.{Key, key_cmp, Entry, Ledger, entry, walk, map_count, names_frame}
-use Rattle.av_plain.proofs.Ledger.Order.{keys_total, both_first, both_second, find_below}
-use Rattle.av_plain.proofs.Ledger.{same_key, same_key-is, same_key-itself}
+use Rattle.av_plain.specs.Ledger.{Entry, Ledger, entry, walk, map_count, names_frame}
+use Rattle.av_plain.proofs.Ledger.Order.{both_first, both_second, find_below}
 
 -- what a key has passes
 abbrev pub passes : (Entry → Bool) → Option Entry → Bool

@@ -4,10 +4,11 @@ use Rattle.std.proofs.lemmas.Bool.{both_ways, eq-eqb, ltb-true, ltb-false}
 use Rattle.std.proofs.lemmas.Bool.Decides.{nat_tests}
 use Rattle.std.specs.FinMap.Entries.{is_sorted}
 use Rattle.std.specs.Option.{option_or}
+use Rattle.av_base.specs.Keys.{key_cmp}
 use Rattle.av_base.specs.Words.{within}
 use Rattle.av_vma.proofs.Mremap.{in_range as range_bounds, is_in_range, out_of_range}
 use Rattle.av_plain.specs.Event.{after_all}
-use Rattle.av_plain.specs.Ledger.{Entry, Ledger, entry, key_cmp}
+use Rattle.av_plain.specs.Ledger.{Entry, Ledger, entry}
 use Rattle.av_plain.specs.Mremap.{remap_events}
 use Rattle.av_plain.specs.Zap.{keys_in}
 use Rattle.av_plain.proofs.Mremap.{after-elsewhere, after-in_place, entry-moved, entry-then_tail, in_order-zaps, then_tail, then_target}

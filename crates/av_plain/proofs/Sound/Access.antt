@@ -1,6 +1,7 @@
 -- Soundness after a read or write.
 use Rattle.std.proofs.Common.{◌≡◌, ◌⊎◌, inl, inr, ℕ, ◌<◌, Bool, true, false, cond, not, ◌&&◌, ◌||◌, nat_lt, List, [], ◌∷◌, ◌++◌, Option, Some, None, refl, sym, ap, subst, ◌∙◌, arith, ◌==◌}
 use Rattle.std.proofs.lemmas.Bool.Decides.{nat_tests}
+use Rattle.av_base.specs.Keys.{Key}
 use Rattle.av_base.specs.Page.{address_of}
 use Rattle.av_base.specs.declared.slot.Slot.{Slot}
 use Rattle.av_trace.specs.declared.note.Note.{Note}
@@ -9,7 +10,7 @@ use Rattle.av_trace.specs.declared.reply.OutOf.{OutOf}
 use Rattle.av_plain.specs.Access.{Accesses, End, page_events}
 use Rattle.av_plain.specs.Event.{Event, Used, after_all, after_note, after_notes, after_use, note_events, set_entry, to_inactive_head, when}
 use Rattle.av_plain.specs.Fault.{ComesIn, CopyOnWrite, Denied, IsMade, Lost, Ready, RunsOut, Serves, Sparing, Starved, Stop, Takes, Touches, drop_at, drop_of_entry, drop_of_slot, is_named, asks_copy, need, need_of_slot, pinned_by, sparing, was_slot}
-use Rattle.av_plain.specs.Ledger.{IsBlank, Entry, InFrame, InSlot, Key, Ledger, Setting, Zero, entry, frame_at, in_flight, is_free, is_full, map_count, names_frame, names_slot, same_slot, slot_entries, slot_of}
+use Rattle.av_plain.specs.Ledger.{IsBlank, Entry, InFrame, InSlot, Ledger, Setting, Zero, entry, frame_at, in_flight, is_free, is_full, map_count, names_frame, names_slot, same_slot, slot_entries, slot_of}
 use Rattle.av_plain.specs.Sound.{IsSound, flights, no_excuse, uses}
 use Rattle.av_plain.specs.World.{World, pages}
 use Rattle.av_plain.proofs.Access.{accesses-keep, after_all-append, after_notes-append, note_events-all}

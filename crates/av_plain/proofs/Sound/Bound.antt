@@ -4,15 +4,16 @@ use Rattle.std.proofs.lemmas.Bool.Decides.{nat_tests}
 use Rattle.std.specs.Ordering.{nat_cmp, eq_by_cmp}
 use Rattle.std.specs.FinMap.Entries.{find, is_sorted}
 use Rattle.std.proofs.Common.{◌*◌}
+use Rattle.av_base.specs.Keys.{Key, key_cmp, same_key}
+use Rattle.av_base.proofs.Keys.{keys_total, same_key-is}
 use Rattle.av_base.specs.Limits.{most_processes, top_page}
 use Rattle.av_base.specs.Words.{how_many}
 use Rattle.av_base.specs.declared.slot.Slot.{Slot}
-use Rattle.av_plain.specs.Ledger.{Entry, InFrame, InSlot, Key, Ledger, Setting, Zero, entry, key_cmp, map_count, names_frame, names_slot, same_slot, slot_entries}
+use Rattle.av_plain.specs.Ledger.{Entry, InFrame, InSlot, Ledger, Setting, Zero, entry, map_count, names_frame, names_slot, same_slot, slot_entries}
 use Rattle.av_plain.specs.Sound.{AllSound, name_one, IsSoundBut, AtPages, no_excuse}
 use Rattle.av_plain.specs.World.{World, lives, pages}
 use Rattle.av_plain.proofs.Event.{how_many-none, how_many-or}
-use Rattle.av_plain.proofs.Ledger.{same_key, same_key-is}
-use Rattle.av_plain.proofs.Ledger.Order.{both_first, both_second, keys_total, find_below}
+use Rattle.av_plain.proofs.Ledger.Order.{both_first, both_second, find_below}
 use Rattle.av_plain.proofs.Sound.{no_entries}
 use Rattle.av_plain.proofs.Sound.Counts.{same-is, slot-is}
 use Rattle.av_plain.specs.Sound.{mergings}

@@ -1,10 +1,11 @@
 -- Soundness after the lists and the cache change: a frame moves in its lists, is put at a slot, and is unmapped.
 use Rattle.std.proofs.lemmas.Bool.Decides.{nat_tests}
 use Rattle.std.proofs.Common.{◌≡◌, ℕ, ◌+◌, ◌<◌, ◌≤◌, min, Bool, true, false, cond, ◌&&◌, nat_lt, T, Option, Some, None, option_map, refl, sym, ap, subst, ◌∙◌, arith, ◌==◌}
+use Rattle.av_base.specs.Keys.{Key, key_cmp}
 use Rattle.av_base.specs.Words.{how_many}
 use Rattle.av_base.specs.declared.slot.Slot.{Slot}
 use Rattle.av_plain.specs.Event.{change_entries, if_some, into_cache, to_active, to_inactive_head, to_inactive_tail}
-use Rattle.av_plain.specs.Ledger.{Entry, InFrame, InSlot, Key, Ledger, Setting, Zero, entry, key_cmp, map_count, names_frame, names_slot, same_slot, slot_entries}
+use Rattle.av_plain.specs.Ledger.{Entry, InFrame, InSlot, Ledger, Setting, Zero, entry, map_count, names_frame, names_slot, same_slot, slot_entries}
 use Rattle.av_plain.specs.Sound.{IsSoundBut, flights, holders, name_one, listings, pairs, slots, uses}
 use Rattle.av_plain.proofs.Event.{entry-unmap, how_many-map, how_many-or, how_many-same, map_count-unmap, to_slot, is_sorted-map}
 use Rattle.av_plain.proofs.Ledger.{how_many-found}

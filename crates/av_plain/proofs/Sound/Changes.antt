@@ -3,11 +3,13 @@ use Rattle.std.proofs.Common.{◌≡◌, ℕ, ◌+◌, ◌<◌, ◌≤◌, min, 
 use Rattle.std.proofs.lemmas.Bool.Decides.{nat_tests}
 use Rattle.std.specs.List.{list_any}
 use Rattle.std.specs.FinMap.Entries.{is_sorted}
+use Rattle.av_base.specs.Keys.{Key, key_cmp}
+use Rattle.av_base.proofs.Without.{count-without}
 use Rattle.av_base.specs.Words.{how_many}
 use Rattle.av_base.specs.declared.slot.Slot.{Slot}
 use Rattle.av_trace.specs.declared.note.Note.TheVariants.{Dropped}
 use Rattle.av_plain.specs.Event.{after_note, after_use, after_use_of, if_some, into_cache, off_cache, off_flight, off_lists, set_entry, settle, to_inactive_head, with_stale}
-use Rattle.av_plain.specs.Ledger.{Cached, Entry, InFrame, InSlot, Key, Ledger, Setting, Zero, entry, frame_at, is_free, key_cmp, map_count, names_frame, names_slot, same_slot, slot_entries, slot_of}
+use Rattle.av_plain.specs.Ledger.{Cached, Entry, InFrame, InSlot, Ledger, Setting, Zero, entry, frame_at, is_free, map_count, names_frame, names_slot, same_slot, slot_entries, slot_of}
 use Rattle.av_plain.specs.Sound.{IsSound, IsSoundBut, flights, holders, name_one, listings, no_excuse, pairs, slots, uses}
 use Rattle.av_plain.proofs.Event.{how_many-map, how_many-same}
 use Rattle.av_plain.proofs.Ledger.{how_many-found, is_sorted-set, map_count-set}
@@ -15,7 +17,6 @@ use Rattle.av_plain.proofs.Ledger.Order.{weight}
 use Rattle.av_plain.proofs.Sound.Counts.{frame_at-none, frame_at-some, holders-off_cache, listings-off_lists, listings-to_head, pair-frame, pair-slot, pairs-off_cache, same-is, same-itself, slot-is, slot_of-none, slot_of-some, slots-off_cache, two_frames}
 use Rattle.av_plain.proofs.Sound.Entries.{One, flag, listed_of, one-set, slot_entries-set}
 use Rattle.av_plain.specs.Sound.{mergings}
-use Rattle.av_plain.proofs.Sound.Counts.{count-without-list}
 
 pub any-counts : {X : Type 0} (p : X → Bool) (xs : List X) → list_any p xs ≡ nat_lt 0 (how_many p xs)
 any-counts p [] = grind (arith, nat_tests)
@@ -176,7 +177,7 @@ pub record Others (m : Setting) (x : Slot → ℕ) (l : Ledger) : Type 0 where
   pub one : One l
 
 pub mergings-off_lists : (f g : ℕ) (l : Ledger) → mergings (off_lists f l) g ≡ cond (g == f) 0 (mergings l g)
-mergings-off_lists f g l = count-without-list f g l.merged
+mergings-off_lists f g l = count-without f g l.merged
 
 -- two entries of one memory, once a frame that no entry names is merged no longer
 pub one-off_lists : (l : Ledger) (f : ℕ) → map_count l f ≡ 0 → One l → One (off_lists f l)

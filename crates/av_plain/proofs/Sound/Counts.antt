@@ -1,9 +1,10 @@
 -- Counts after each change of the lists, the cache and flight.
 use Rattle.std.proofs.Common.{◌≡◌, ℕ, ◌+◌, ◌<◌, ◌≤◌, Bool, true, false, cond, not, ◌&&◌, List, [], ◌∷◌, filter, Some, None, option_map, refl, ap, ◌∙◌, arith, ◌==◌}
 use Rattle.std.proofs.lemmas.Bool.Decides.{nat_tests}
-use Rattle.av_base.specs.Words.{how_many}
+use Rattle.av_base.proofs.Without.{count-without}
+use Rattle.av_base.specs.Words.{how_many, without}
 use Rattle.av_base.specs.declared.slot.Slot.{Slot}
-use Rattle.av_plain.specs.Event.{off_lists, to_active, to_inactive_head, to_inactive_tail, without}
+use Rattle.av_plain.specs.Event.{off_lists, to_active, to_inactive_head, to_inactive_tail}
 use Rattle.av_plain.specs.Ledger.{Cached, Ledger, cached_by, same_slot}
 use Rattle.av_plain.specs.Sound.{listings}
 use Rattle.av_plain.proofs.Ledger.{how_many-append}
@@ -31,54 +32,31 @@ slot-turned s t = grind (arith, nat_tests)
 
 -- ---- lists of frames
 
-pub count-without-list : (f g : ℕ) (fs : List ℕ) → how_many (λ x. g == x) (without f fs) ≡ cond (g == f) 0 (how_many (λ x. g == x) fs)
-count-without-list f g [] = elim (g == f) as (λ b. ◌≡◌ {A = ℕ} 0 (cond b 0 0)) [ true ↦ refl | false ↦ refl ]
-count-without-list f g (x ∷ fs) =
-    let rest = count-without-list f g fs in
-    elim (f == x) as (λ b. (f == x) ≡ b → how_many (λ x. g == x) (cond (not b) (x ∷ without f fs) (without f fs)) ≡ cond (g == f) 0
-    (cond (g == x) 1 0 + how_many (λ x. g == x) fs)) [
-      | true ↦ λ is. rest ∙ gone (g == f) (g == x) (how_many (λ x. g == x) fs) (ap (λ y. g == y) (same-is f x is))
-      | false ↦ λ is. ap (λ n. cond (g == x) 1 0 + n) rest ∙ other (g == f) (g == x) (how_many (λ x. g == x) fs) (λ a b. apart a b is)
-    ] refl
-  where
-    gone : (b c : Bool) (n : ℕ) → b ≡ c → cond b 0 n ≡ cond b 0 (cond c 1 0 + n)
-    gone true c n h = refl
-    gone false true n h = cc
-    gone false false n h = omega arith
-
-    other : (b c : Bool) (n : ℕ) → (b ≡ true → c ≡ true → ⊥) → cond c 1 0 + cond b 0 n ≡ cond b 0 (cond c 1 0 + n)
-    other true true n h = absurd (h refl refl)
-    other true false n h = refl
-    other false c n h = refl
-
-    apart : (g == f) ≡ true → (g == x) ≡ true → (f == x) ≡ false → ⊥
-    apart a b c = grind (arith, nat_tests)
-
 at_front : (b : Bool) (a i : ℕ) → cond b 0 a + (cond b 1 0 + cond b 0 i) ≡ cond b 1 (a + i)
 at_front true a i = refl
 at_front false a i = omega arith
 
 pub listings-to_head : (f g : ℕ) (l : Ledger) → listings (to_inactive_head f l) g ≡ cond (g == f) 1 (listings l g)
-listings-to_head f g l = (λ i. count-without-list f g l.active i + (cond (g == f) 1 0 + count-without-list f g l.inactive i)) ∙ at_front (g == f) _ _
+listings-to_head f g l = (λ i. count-without f g l.active i + (cond (g == f) 1 0 + count-without f g l.inactive i)) ∙ at_front (g == f) _ _
 
 pub listings-to_tail : (f g : ℕ) (l : Ledger) → listings (to_inactive_tail f l) g ≡ cond (g == f) 1 (listings l g)
 listings-to_tail f g l =
     ap (λ n. how_many (λ x. g == x) (without f l.active) + n) (how_many-append (λ x. g == x) (without f l.inactive) (f ∷ []))
-    ∙ (λ i. count-without-list f g l.active i + (count-without-list f g l.inactive i + (cond (g == f) 1 0 + 0))) ∙ last (g == f) _ _
+    ∙ (λ i. count-without f g l.active i + (count-without f g l.inactive i + (cond (g == f) 1 0 + 0))) ∙ last (g == f) _ _
   where
     last : (b : Bool) (a i : ℕ) → cond b 0 a + (cond b 0 i + (cond b 1 0 + 0)) ≡ cond b 1 (a + i)
     last true a i = refl
     last false a i = omega arith
 
 pub listings-to_active : (f g : ℕ) (l : Ledger) → listings (to_active f l) g ≡ cond (g == f) 1 (listings l g)
-listings-to_active f g l = (λ i. (cond (g == f) 1 0 + count-without-list f g l.active i) + count-without-list f g l.inactive i) ∙ first (g == f) _ _
+listings-to_active f g l = (λ i. (cond (g == f) 1 0 + count-without f g l.active i) + count-without f g l.inactive i) ∙ first (g == f) _ _
   where
     first : (b : Bool) (a i : ℕ) → (cond b 1 0 + cond b 0 a) + cond b 0 i ≡ cond b 1 (a + i)
     first true a i = refl
     first false a i = omega arith
 
 pub listings-off_lists : (f g : ℕ) (l : Ledger) → listings (off_lists f l) g ≡ cond (g == f) 0 (listings l g)
-listings-off_lists f g l = (λ i. count-without-list f g l.active i + count-without-list f g l.inactive i) ∙ none (g == f) _ _
+listings-off_lists f g l = (λ i. count-without f g l.active i + count-without f g l.inactive i) ∙ none (g == f) _ _
   where
     none : (b : Bool) (a i : ℕ) → cond b 0 a + cond b 0 i ≡ cond b 0 (a + i)
     none true a i = refl

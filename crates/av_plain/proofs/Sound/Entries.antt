@@ -2,12 +2,14 @@
 use Rattle.std.proofs.Common.{◌≡◌, ℕ, ◌+◌, ◌<◌, ◌≤◌, min, Bool, true, false, cond, T, Option, Some, None, refl, sym, ap, subst, ◌∙◌, arith, ◌==◌}
 use Rattle.std.proofs.lemmas.Bool.Decides.{nat_tests}
 use Rattle.std.specs.FinMap.Entries.{is_sorted}
+use Rattle.av_base.specs.Keys.{Key, key_cmp, same_key}
+use Rattle.av_base.proofs.Keys.{keys_total, same_key-is}
 use Rattle.av_base.specs.declared.slot.Slot.{Slot}
 use Rattle.av_plain.specs.Event.{set_entry, to_inactive_head}
-use Rattle.av_plain.specs.Ledger.{IsBlank, Entry, InFrame, InSlot, Key, Ledger, Setting, Zero, entry, key_cmp, map_count, names_frame, names_slot, same_slot, slot_entries}
+use Rattle.av_plain.specs.Ledger.{IsBlank, Entry, InFrame, InSlot, Ledger, Setting, Zero, entry, map_count, names_frame, names_slot, same_slot, slot_entries}
 use Rattle.av_plain.specs.Sound.{IsSoundBut, flights, holders, name_one, listings, pairs, uses}
-use Rattle.av_plain.proofs.Ledger.{entry-set, how_many-found, is_sorted-set, map_count-set, same_key, same_key-is}
-use Rattle.av_plain.proofs.Ledger.Order.{keys_total, weight, count-put}
+use Rattle.av_plain.proofs.Ledger.{entry-set, how_many-found, is_sorted-set, map_count-set}
+use Rattle.av_plain.proofs.Ledger.Order.{weight, count-put}
 use Rattle.av_plain.proofs.Sound.Counts.{listings-to_head, pair-frame, same-is, same-turned, slot-is, slot-turned, two_frames, two_slots}
 use Rattle.av_plain.specs.Sound.{mergings}
 use Rattle.std.proofs.Common.{◌&&◌}

@@ -2,6 +2,7 @@
 use Rattle.std.proofs.Common.{◌≡◌, ◌⊎◌, inl, inr, ℕ, zero, suc, ◌+◌, ◌<◌, ◌≤◌, Bool, true, false, cond, not, ◌&&◌, ◌||◌, nat_lt, List, [], ◌∷◌, ◌++◌, map, reverse, Option, Some, None, is_some, is_none, refl, sym, ap, subst, ◌∙◌, arith, ◌==◌}
 use Rattle.std.proofs.lemmas.Bool.Decides.{nat_tests}
 use Rattle.std.specs.List.{find, list_all, list_any, range_with_len}
+use Rattle.av_base.specs.Keys.{Key}
 use Rattle.av_base.specs.Page.{address_of, page_size}
 use Rattle.av_base.specs.declared.slot.Slot.{Slot}
 use Rattle.av_trace.specs.declared.note.Note.{Note}
@@ -11,7 +12,7 @@ use Rattle.av_trace.specs.declared.row.Row.{Row}
 use Rattle.av_plain.specs.Compact.{Compacts, MovesDown, greatest_used, least_free, move_down, next_move}
 use Rattle.av_plain.specs.Event.{Event, FreeSorted, after_all, after_note, after_notes, change_frame, note_events, set_entry}
 use Rattle.av_plain.specs.Fault.{is_locked}
-use Rattle.av_plain.specs.Ledger.{Entry, InFrame, InSlot, Key, Ledger, Setting, Zero, entry, is_free, is_merged, map_count, names_frame, slot_of}
+use Rattle.av_plain.specs.Ledger.{Entry, InFrame, InSlot, Ledger, Setting, Zero, entry, is_free, is_merged, map_count, names_frame, slot_of}
 use Rattle.av_plain.specs.Merge.{FrameBytes, Merges, candidate, candidate_by, hold_same, join_notes, may_merge, merge_notes, merged_like, merges, other_like, with_candidate}
 use Rattle.av_plain.specs.Sound.{AllSound, IsSound, holders, mergings, no_excuse, uses}
 use Rattle.av_plain.specs.World.{World, pages}

@@ -3,10 +3,11 @@ use Rattle.std.proofs.Common.{◌<◌, ◌≡◌, ◌⊎◌, inl, inr, ℕ, ◌+
 use Rattle.std.proofs.lemmas.Bool.{false≢true}
 use Rattle.std.proofs.lemmas.Bool.Decides.{nat_tests}
 use Rattle.std.specs.FinMap.Entries.{is_sorted, is_sorted-where_key}
+use Rattle.av_base.specs.Keys.{key_cmp}
 use Rattle.av_base.specs.Words.{within}
 use Rattle.av_base.specs.declared.slot.Slot.{Slot}
 use Rattle.av_plain.specs.Event.{after_all, after_move, put_all}
-use Rattle.av_plain.specs.Ledger.{Entry, Ledger, Setting, entry, key_cmp, map_count, names_frame, names_slot, slot_entries}
+use Rattle.av_plain.specs.Ledger.{Entry, Ledger, Setting, entry, map_count, names_frame, names_slot, slot_entries}
 use Rattle.av_plain.specs.Mremap.{left_behind, remap_events, process_after_mremap}
 use Rattle.av_plain.specs.Sound.{AtPages, IsSound}
 use Rattle.av_plain.specs.World.{Page, Process, World, pages, wiped}

@@ -1,4 +1,6 @@
 -- Each entry stays at a mapped page.
+use Rattle.av_base.specs.Keys.{Key, key_cmp, same_key}
+use Rattle.av_base.proofs.Keys.{same_key-is}
 use Rattle.av_base.specs.Words.{renamed}
 use Rattle.std.proofs.Common.{◌≡◌, ◌⊎◌, inl, inr, ℕ, Bool, true, false, cond, List, [], ◌∷◌, ◌++◌, Option, Some, None, is_some, option_map, refl, sym, ap, subst, ◌∙◌, ◌==◌, is_none, not}
 use Rattle.av_base.specs.Page.{address_of}
@@ -10,11 +12,11 @@ use Rattle.av_trace.specs.declared.reply.OutOf.{OutOf}
 use Rattle.av_plain.specs.Access.{Accesses, End, page_events}
 use Rattle.av_plain.specs.Event.{Event, Used, after_all, after_note, after_notes, after_use, after_use_of, change_entries, if_some, key_at, note_events, off_cache, off_flight, off_lists, set_entry, settle, to_inactive_tail, when, with_stale, without_seen}
 use Rattle.av_plain.specs.Fault.{ComesIn, CopyOnWrite, Denied, IsMade, Lost, MapCached, Need, NewPage, Ready, RunsOut, Serves, Sparing, Starved, Stop, SwapIn, Touches, ZeroPage, drop_at, drop_of_entry, drop_of_slot, is_allowed, need, permits, pinned_by, sparing, was_slot}
-use Rattle.av_plain.specs.Ledger.{Entry, InFrame, InSlot, Key, Ledger, Setting, Zero, entry, frame_at, has_free, is_free, is_orphan, key_cmp, map_count, slot_of}
+use Rattle.av_plain.specs.Ledger.{Entry, InFrame, InSlot, Ledger, Setting, Zero, entry, frame_at, has_free, is_free, is_orphan, map_count, slot_of}
 use Rattle.av_plain.specs.Pass.{Completes, IsPass, IsSlotFor, Seeks, Spared, TakesFor, Turns, end_note, end_notes, frames_in_turn, is_dirty, is_stuck, stays_cached, turn_notes, unmap_notes}
 use Rattle.av_plain.specs.World.{Page, World, pages}
 use Rattle.av_plain.proofs.Access.{accesses-keep, after_all-append, note_events-all}
-use Rattle.av_plain.proofs.Ledger.{entry-set, same_key, same_key-is}
+use Rattle.av_plain.proofs.Ledger.{entry-set}
 use Rattle.av_plain.proofs.Ledger.NoSwap.{key_at-address}
 use Rattle.av_plain.proofs.Event.{find-map}
 use Rattle.std.specs.Prelude.{MatchBool}

@@ -2,6 +2,7 @@
 use Rattle.std.proofs.Common.{◌≡◌, ℕ, zero, suc, ◌+◌, ◌<◌, ◌≤◌, Bool, true, false, cond, nat_lt, T, List, [], ◌∷◌, map, reverse, take, Option, Some, None, refl, sym, ap, subst, ◌∙◌, arith, ◌==◌}
 use Rattle.std.proofs.lemmas.Bool.Decides.{nat_tests}
 use Rattle.std.specs.Prelude.{IsTrue, MatchOption}
+use Rattle.av_base.specs.Keys.{key_cmp}
 use Rattle.av_base.specs.Words.{how_many}
 use Rattle.av_base.specs.declared.slot.Slot.{Slot}
 use Rattle.av_trace.specs.declared.note.Cause.{Cause}
@@ -9,7 +10,7 @@ use Rattle.av_trace.specs.declared.note.Cause.TheVariants.{Ksm, Locked, NoSlot, 
 use Rattle.av_trace.specs.declared.note.Note.{Note}
 use Rattle.av_trace.specs.declared.note.Note.TheVariants.{Aged, Dropped, Kept, Started}
 use Rattle.av_plain.specs.Event.{after_note, after_notes, change_entries, without_seen}
-use Rattle.av_plain.specs.Ledger.{Entry, InFrame, InSlot, Ledger, Setting, Zero, entry, in_flight, key_cmp, may_give, same_slot, slot_of}
+use Rattle.av_plain.specs.Ledger.{Entry, InFrame, InSlot, Ledger, Setting, Zero, entry, in_flight, may_give, same_slot, slot_of}
 use Rattle.av_plain.specs.Pass.{IsSlotFor, Spared, is_dirty, is_stuck, unmap_notes}
 use Rattle.av_plain.specs.Reclaim.{Outcome, Outcomes, cause_of, from_tail, is_referenced, is_in_writeback, leave_notes}
 use Rattle.av_plain.specs.Sound.{IsSound, IsSoundBut, flights, holders, name_one, no_excuse, slots, uses}

@@ -2,11 +2,12 @@
 -- over to another.
 use Rattle.std.proofs.Common.{◌≡◌, ℕ, ◌+◌, ◌<◌, ◌≤◌, min, Bool, true, false, cond, ◌&&◌, nat_lt, T, List, [], ◌∷◌, map, Some, refl, sym, ap, subst, ◌∙◌, arith, ◌==◌}
 use Rattle.std.proofs.lemmas.Bool.Decides.{nat_tests}
+use Rattle.av_base.specs.Keys.{Key, key_cmp}
 use Rattle.av_base.specs.Words.{how_many, renamed}
 use Rattle.av_base.specs.declared.slot.Slot.{Slot}
 use Rattle.av_trace.specs.declared.note.Note.TheVariants.{Shared}
 use Rattle.av_plain.specs.Event.{after_note, change_frame, off_lists, placed_entry, set_entry, settle, settle_entry, to_inactive_head, with_places}
-use Rattle.av_plain.specs.Ledger.{Cached, Entry, InFrame, InSlot, Key, Ledger, Setting, Zero, entry, is_free, key_cmp, map_count, names_frame, names_slot, same_slot, slot_entries}
+use Rattle.av_plain.specs.Ledger.{Cached, Entry, InFrame, InSlot, Ledger, Setting, Zero, entry, is_free, map_count, names_frame, names_slot, same_slot, slot_entries}
 use Rattle.av_plain.specs.Sound.{IsSoundBut, flights, holders, listings, mergings, name_one, pairs, slots, uses}
 use Rattle.av_plain.proofs.Event.{entry-renamed, how_many-map, how_many-none, is_sorted-map, slot_entries-renamed}
 use Rattle.av_plain.proofs.Ledger.{how_many-append, how_many-found, is_sorted-set, map_count-set}

@@ -3,12 +3,13 @@ use Rattle.std.proofs.lemmas.Bool.Decides.{nat_tests}
 use Rattle.std.specs.List.{list_any}
 use Rattle.std.specs.Prelude.{IsTrue, MatchOption}
 use Rattle.std.proofs.Common.{◌≡◌, ℕ, ◌+◌, ◌<◌, ◌≤◌, Bool, true, false, cond, not, ◌&&◌, ◌||◌, if◌then◌else◌, nat_lt, List, [], ◌∷◌, ◌++◌, Option, Some, None, is_none, option_map, refl, sym, ap, subst, ◌∙◌, arith, ◌==◌}
+use Rattle.av_base.specs.Keys.{Key}
 use Rattle.av_base.specs.Words.{how_many}
 use Rattle.av_base.specs.declared.slot.Slot.{Slot}
 use Rattle.av_trace.specs.declared.note.Note.{Note}
 use Rattle.av_trace.specs.declared.note.Note.TheVariants.{Dropped, Put, Started, Unmapped}
 use Rattle.av_plain.specs.Event.{after_note, after_notes, change_entries, if_some, into_cache, off_cache, off_flight, off_lists, settle, to_inactive_tail, when, with_stale}
-use Rattle.av_plain.specs.Ledger.{Cached, Entry, InFrame, InSlot, Key, Ledger, Setting, Zero, cached_by, entry, frame_at, has_free_slot, is_free, is_on, is_open, is_orphan, is_unmapped, is_usable, map_count, may_give, same_slot, size_of, slot_count, slot_entries, slot_of}
+use Rattle.av_plain.specs.Ledger.{Cached, Entry, InFrame, InSlot, Ledger, Setting, Zero, cached_by, entry, frame_at, has_free_slot, is_free, is_on, is_open, is_orphan, is_unmapped, is_usable, map_count, may_give, same_slot, size_of, slot_count, slot_entries, slot_of}
 use Rattle.av_plain.specs.Pass.{Completes, IsSlotFor, Spared, end_note, end_notes, unmap_notes}
 use Rattle.av_plain.specs.Sound.{IsSound, IsSoundBut, flights, holders, no_excuse, pairs, slots, uses}
 use Rattle.av_plain.proofs.Access.{after_notes-append, note_events-all}

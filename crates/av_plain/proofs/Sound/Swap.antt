@@ -3,6 +3,7 @@ pub mod Area
 pub mod Empty
 use Rattle.std.proofs.Common.{◌≡◌, ℕ, Bool, true, false, cond, not, List, [], ◌∷◌, ◌++◌, map, take, Option, Some, None, is_none, sym, subst, ◌==◌}
 use Rattle.std.specs.Prelude.{MatchOption}
+use Rattle.av_base.specs.Keys.{Key}
 use Rattle.av_base.specs.declared.slot.Slot.{Slot}
 use Rattle.av_trace.specs.declared.note.Cause.{Cause}
 use Rattle.av_trace.specs.declared.note.Note.{Note}
@@ -12,7 +13,7 @@ use Rattle.av_trace.specs.declared.reply.Answer.{Answer}
 use Rattle.av_trace.specs.declared.row.Row.{Row}
 use Rattle.av_plain.specs.Event.{Event, after_all, after_note, after_notes, note_events, when}
 use Rattle.av_plain.specs.Fault.{sparing}
-use Rattle.av_plain.specs.Ledger.{Key, Ledger, Setting, map_count, slot_of}
+use Rattle.av_plain.specs.Ledger.{Ledger, Setting, map_count, slot_of}
 use Rattle.av_plain.specs.Pass.{Completes, IsSlotFor, Spared, is_dirty, unmap_notes}
 use Rattle.av_plain.specs.Reclaim.{Ages, CompletesFirst, Outcome, Outcomes, Reclaims, cause_of, from_tail, leave_notes}
 use Rattle.av_plain.specs.Sound.{AllSound, AreThere, AreasFit, IsSound}

@@ -7,6 +7,7 @@ use Rattle.av_trace.specs.declared.note.Cause.TheVariants.{Locked, NoSlot, Refer
 use Rattle.av_trace.specs.declared.note.Note.{Note}
 use Rattle.av_trace.specs.declared.note.Note.TheVariants.{Aged, Copied, Dropped, Failed, Kept, Loaded, Mapped, New, Put, Started, Unmapped, Written, Zeroed}
 use Rattle.std.specs.Prelude.{MatchOption, MatchBool, IsTrue}
+use Rattle.av_base.specs.Keys.{Key, key_cmp}
 use Rattle.av_base.specs.Page.{address_of}
 use Rattle.std.specs.List.{range_with_len}
 use Rattle.av_base.specs.declared.slot.Slot.{Slot}
@@ -14,7 +15,7 @@ use Rattle.av_trace.specs.declared.reply.OutOf.{OutOf}
 use Rattle.av_plain.specs.Access.{Accesses, End, page_events}
 use Rattle.av_plain.specs.Event.{Event, Used, after_all, after_note, after_notes, after_use, after_use_of, change_entries, if_some, key_at, note_events, off_cache, off_flight, off_lists, set_entry, settle, to_inactive_tail, when, with_stale}
 use Rattle.av_plain.specs.Fault.{ComesIn, CopyOnWrite, Denied, IsMade, Lost, MapCached, Need, NewPage, Ready, RunsOut, Serves, Sparing, Starved, Stop, SwapIn, Takes, Touches, ZeroPage, drop_at, drop_of_entry, drop_of_slot, asks_copy, is_unneeded, need, need_of_slot, pinned_by, sparing, was_slot}
-use Rattle.av_plain.specs.Ledger.{is_free_slot, Cached, Entry, InFrame, InSlot, Key, Ledger, Setting, SwapArea, Zero, entry, frame_at, has_free, has_free_slot, is_cached, is_free, is_on, is_open, is_orphan, is_usable, key_cmp, map_count, may_give, names_slot, same_slot, size_of, slot_count, slot_entries, slot_of, slots_in_use}
+use Rattle.av_plain.specs.Ledger.{is_free_slot, Cached, Entry, InFrame, InSlot, Ledger, Setting, SwapArea, Zero, entry, frame_at, has_free, has_free_slot, is_cached, is_free, is_on, is_open, is_orphan, is_usable, map_count, may_give, names_slot, same_slot, size_of, slot_count, slot_entries, slot_of, slots_in_use}
 use Rattle.av_plain.specs.Pass.{Completes, IsPass, IsSlotFor, Seeks, Spared, TakesFor, Turns, end_note, end_notes, frames_in_turn, is_dirty, is_stuck, stays_cached, turn_notes, unmap_notes}
 use Rattle.av_plain.specs.Sound.{AreThere, AreasFit, IsSound, count, is_there, slots}
 use Rattle.av_plain.specs.World.{World}

@@ -6,15 +6,16 @@ use Rattle.std.specs.List.{list_any}
 use Rattle.std.specs.Ordering.{nat_cmp, is_eq, eq_by_cmp}
 use Rattle.std.specs.FinMap.Entries.{is_sorted, find-where_key, is_sorted-where_key}
 use Rattle.av_trace.specs.declared.note.Note.TheVariants.{Dropped}
+use Rattle.av_base.specs.Keys.{Key, key_cmp, same_key}
 use Rattle.av_base.specs.Words.{how_many}
 use Rattle.av_base.specs.declared.slot.Slot.{Slot}
 use Rattle.av_plain.specs.Event.{after_all, after_zap, note_events, settle_entry, when}
-use Rattle.av_plain.specs.Ledger.{Entry, InFrame, InSlot, Key, Ledger, Setting, Zero, entry, is_orphan, key_cmp, map_count, names_frame, names_slot, same_slot, slot_of}
+use Rattle.av_plain.specs.Ledger.{Entry, InFrame, InSlot, Ledger, Setting, Zero, entry, is_orphan, map_count, names_frame, names_slot, same_slot, slot_of}
 use Rattle.av_plain.specs.Sound.{AllSound, AreThere, AtPages, IsSound, IsSoundBut, IsTidy, flights, holders, pairs}
 use Rattle.av_plain.specs.World.{Process, World, end_process, pages, process}
 use Rattle.av_plain.specs.Zap.{keys_of_process, orphan_drop, slot_behind_key, zap_of, zaps_of}
 use Rattle.av_plain.proofs.Access.{after_all-append}
-use Rattle.av_plain.proofs.Ledger.{how_many-found, same_key}
+use Rattle.av_plain.proofs.Ledger.{how_many-found}
 use Rattle.av_plain.proofs.Ledger.Order.{weight}
 use Rattle.av_plain.proofs.Sound.Changes.{Others, settle-kept}
 use Rattle.av_plain.proofs.Sound.Counts.{pair-frame, same-is, same-itself, slot_of-none, slot_of-some, two_slots}

@@ -1,6 +1,6 @@
 use Rattle.std.proofs.Common.{◌≡◌, [], ◌∷◌, ◌++◌, false, true, cond, IsSome, Some, refl, sym, ap, ◌∙◌, subst, append_assoc, length, length-append, arith}
-use Rattle.av_base.specs.Words.{is_in, with_at}
-use Rattle.av_chain.specs.Links.{left_by, left_by_all, rest_in, without}
+use Rattle.av_base.specs.Words.{is_in, with_at, without}
+use Rattle.av_chain.specs.Links.{left_by, left_by_all, rest_in}
 use Rattle.av_chain.proofs.TwoMaps.{with_at_here, with_at_twice, left_one_more, first_some}
 use Rattle.av_arena.specs.Order.{entry_at, without_key}
 use Rattle.av_interval.specs.Span.{key, key_of}

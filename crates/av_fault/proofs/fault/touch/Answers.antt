@@ -1,6 +1,6 @@
 use Rattle.std.proofs.Common.{false, true, subst, sym}
 use Rattle.av_plain.specs.Device.{as_told, seen_by}
-use Rattle.av_plain.specs.Ledger.{Key}
+use Rattle.av_base.specs.Keys.{Key}
 use Rattle.av_fault.specs.Fault.{MakesReady}
 use Rattle.av_mem.proofs.HomeLaws.{first-laid}
 use Rattle.av_fault.proofs.TouchLaws.{is-ready}

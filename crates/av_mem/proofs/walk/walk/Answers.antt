@@ -1,12 +1,13 @@
 use Rattle.std.proofs.Common.{◌≡◌, ℕ, ◌+◌, ◌<◌, ◌≤◌, cond, List, Option, length, sym, ap, subst, ◌∙◌}
 use Rattle.std.specs.List.{AllByRecursion}
+use Rattle.av_base.specs.Keys.{Key}
 use Rattle.av_base.specs.Limits.{top_page}
 use Rattle.av_vma.specs.declared.area.Area.{Area}
 use Rattle.av_rmap.specs.Covered.{IsCoveredFrom}
 use Rattle.av_rmap.specs.Items.{AreCovered, AreRootsApart, looks_from_all}
 use Rattle.av_rmap.specs.Sorted.{AreRising}
 use Rattle.av_rmap.specs.View.{AreApart}
-use Rattle.av_rmap.specs.Walk.{AreItsEntries, Key, looks_from, names_frame}
+use Rattle.av_rmap.specs.Walk.{AreItsEntries, looks_from, names_frame}
 use Rattle.av_plain.specs.Ledger.{walk as walk_of}
 use Rattle.av_mem.specs.Mem.{view}
 use Rattle.av_mem.specs.Walk.{areas_at, areas_at_all}

@@ -4,6 +4,8 @@ use Rattle.std.proofs.lemmas.Bool.Decides.{nat_tests}
 use Rattle.std.specs.Prelude.{MatchOption}
 use Rattle.std.specs.List.{list_any, range_with_len}
 use Rattle.std.specs.FinMap.Entries.{is_sorted}
+use Rattle.av_base.specs.Keys.{Key, key_cmp, same_key}
+use Rattle.av_base.proofs.Keys.{same_key-itself}
 use Rattle.av_base.specs.Page.{address_of}
 use Rattle.av_base.specs.Words.{how_many}
 use Rattle.av_base.specs.declared.slot.Slot.{Slot}
@@ -12,13 +14,13 @@ use Rattle.av_trace.specs.declared.note.Note.TheVariants.{Dropped, Loaded, Mappe
 use Rattle.av_trace.specs.declared.reply.Answer.{Answer}
 use Rattle.av_trace.specs.declared.row.Row.{Row}
 use Rattle.av_plain.specs.Event.{Event, after_all, after_note, after_notes, note_events, off_cache, set_entry}
-use Rattle.av_plain.specs.Ledger.{Entry, InFrame, InSlot, Key, Ledger, Setting, Zero, entry, frame_at, has_free, key_cmp, keys_of_slot, names_slot, same_slot, size_of, slot_count, slot_entries, slots_in_use}
+use Rattle.av_plain.specs.Ledger.{Entry, InFrame, InSlot, Ledger, Setting, Zero, entry, frame_at, has_free, keys_of_slot, names_slot, same_slot, size_of, slot_count, slot_entries, slots_in_use}
 use Rattle.av_plain.specs.Pass.{Completes, Spared, TakesFor, out_of}
 use Rattle.av_plain.specs.Sound.{AllSound, IsSound, count, flights, no_excuse, pairs}
 use Rattle.av_plain.specs.Swapoff.{Close, Closed, Empties, EndsAt, IsEmptied, IsFetched, NoRoom, TurnsOff, Unread, map_notes, sparing_area, turn_off_events}
 use Rattle.av_plain.specs.World.{World}
 use Rattle.av_plain.proofs.Access.{after_all-append, after_notes-append, note_events-all}
-use Rattle.av_plain.proofs.Ledger.{entry-set, same_key, same_key-itself}
+use Rattle.av_plain.proofs.Ledger.{entry-set}
 use Rattle.av_plain.proofs.Ledger.NoSwap.{key_at-address}
 use Rattle.av_plain.proofs.Ledger.Walk.{keys-filter, passes}
 use Rattle.av_plain.proofs.Sound.Access.{LoadKept, load-kept}

@@ -1,6 +1,7 @@
 use Rattle.std.proofs.Common.{◌++◌, ap, ◌∙◌}
+use Rattle.av_base.specs.Keys.{same_key}
 use Rattle.av_base.specs.Words.{how_many}
-use Rattle.av_rmap.specs.Walk.{AreItsEntries, names_frame, same_key}
+use Rattle.av_rmap.specs.Walk.{AreItsEntries, names_frame}
 use Rattle.av_rmap.proofs.SortedLemmas.{many-in-any-order, sorted-rise, at-most-once}
 use Rattle.av_rmap.proofs.merged.walk_merged.Goals as goal
 

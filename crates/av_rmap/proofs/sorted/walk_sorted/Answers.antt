@@ -1,6 +1,7 @@
 use Rattle.std.proofs.Common.{◌++◌, ap, ◌∙◌}
+use Rattle.av_base.specs.Keys.{same_key}
 use Rattle.av_base.specs.Words.{how_many}
-use Rattle.av_rmap.specs.Walk.{AreItsEntries, names, same_key}
+use Rattle.av_rmap.specs.Walk.{AreItsEntries, names}
 use Rattle.av_rmap.proofs.SortedLemmas.{many-in-any-order, sorted-rise, at-most-once}
 use Rattle.av_rmap.proofs.sorted.walk_sorted.Goals as goal
 

@@ -1,5 +1,5 @@
 use Rattle.std.proofs.Common.{◌≡◌, ℕ, ◌+◌, ◌<◌, ◌++◌, List, Option, drop, length, refl, sym, take, ap, subst, ◌∙◌, arith}
-use Rattle.av_plain.specs.Ledger.{Key}
+use Rattle.av_base.specs.Keys.{Key}
 use Rattle.av_mem.specs.Mem.{view}
 use Rattle.av_swapoff.specs.Users.{HasUsers, Visits}
 use Rattle.av_swapoff.proofs.VisitLaws.{all-written, found-all, none-long, process-split, visits-none, visits-then}

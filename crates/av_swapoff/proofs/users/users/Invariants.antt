@@ -1,5 +1,5 @@
 use Rattle.std.proofs.Common.{◌≡◌, ◌-◌, ◌^◌, ◌<◌, length}
-use Rattle.av_plain.specs.Ledger.{Key}
+use Rattle.av_base.specs.Keys.{Key}
 use Rattle.av_mem.specs.Mem.{view}
 use Rattle.av_swapoff.specs.Users.{Visits}
 use Rattle.av_swapoff.proofs.users.users.Given as goal

@@ -1,7 +1,7 @@
 use Rattle.std.proofs.Common.{◌≡◌, ℕ, ◌+◌, ◌<◌, ◌≤◌, ◌⊎◌, inl, inr, List, Option, length, sym, ap, subst, ◌∙◌, arith}
 use Rattle.std.proofs.lemmas.Bool.{cases_lt}
 use Rattle.av_pagetable.specs.Table.{group_size}
-use Rattle.av_plain.specs.Ledger.{Key}
+use Rattle.av_base.specs.Keys.{Key}
 use Rattle.av_mem.specs.Entries.{IsWithin, slot_behind}
 use Rattle.av_mem.specs.Mem.{view}
 use Rattle.av_swapoff.specs.Users.{Visits, with_user}

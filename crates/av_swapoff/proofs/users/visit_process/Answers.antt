@@ -1,6 +1,6 @@
 use Rattle.std.proofs.Common.{◌≡◌, ◌+◌, ◌*◌, ◌/◌, refl, sym, ap, arith}
 use Rattle.av_pagetable.specs.Entries.{entry_at}
-use Rattle.av_plain.specs.Ledger.{Key}
+use Rattle.av_base.specs.Keys.{Key}
 use Rattle.av_mem.specs.Mem.{plain, view}
 use Rattle.av_mem.proofs.Groups.{group_from}
 use Rattle.av_swapoff.proofs.VisitLaws.{Before, InGroup, group-last, group-split, visits-all, visits-none, visits-then}

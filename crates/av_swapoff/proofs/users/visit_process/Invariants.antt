@@ -1,6 +1,6 @@
 use Rattle.std.proofs.Common.{◌≡◌, ◌-◌, ◌*◌, ◌<◌, ◌≤◌}
 use Rattle.av_pagetable.specs.Table.{page_bound}
-use Rattle.av_plain.specs.Ledger.{Key}
+use Rattle.av_base.specs.Keys.{Key}
 use Rattle.av_mem.specs.Mem.{view}
 use Rattle.av_swapoff.specs.Users.{Visits}
 use Rattle.av_swapoff.proofs.users.visit_process.Given as goal

@@ -1,7 +1,7 @@
 use Rattle.std.proofs.Common.{rules, ◌≡◌, true, ap, sym, subst, ◌∙◌, length, refl}
 use Rattle.std.proofs.lemmas.Fn.{filter_same}
-use Rattle.av_base.specs.Words.{is_in}
-use Rattle.av_frames.specs.Store.{Store, without}
+use Rattle.av_base.specs.Words.{is_in, without}
+use Rattle.av_frames.specs.Store.{Store}
 use Rattle.av_frames.proofs.Ordered.{whole_out}
 use Rattle.av_frames.proofs.frames.Frames.take_out.Goals as goal
 

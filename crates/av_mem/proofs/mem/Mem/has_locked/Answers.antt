@@ -1,7 +1,8 @@
 use Rattle.std.proofs.Common.{◌≡◌, ℕ, true, List, Option, MatchBool, subst}
 use Rattle.av_pagetable.specs.Entries.{entry_at}
 use Rattle.av_rmap.specs.Locked.{IsLocked}
-use Rattle.av_rmap.specs.Walk.{Key, names_frame}
+use Rattle.av_base.specs.Keys.{Key}
+use Rattle.av_rmap.specs.Walk.{names_frame}
 use Rattle.av_vma.specs.declared.area.Area.{Area}
 use Rattle.av_mem.proofs.LockedLaws.{locked-by}
 use Rattle.av_mem.proofs.WalkLaws.{reach_by}

@@ -1,5 +1,6 @@
 use Rattle.std.proofs.Common.{◌≡◌, ◌<◌, List, [], length, not, get_or, sym, ap, subst, ◌∙◌, arith, ℕ, Result}
-use Rattle.av_rmap.specs.Items.{AreOnce, Item, is_merged}
+use Rattle.av_base.specs.Items.{Item}
+use Rattle.av_rmap.specs.Items.{AreOnce, is_merged}
 use Rattle.av_rmap.specs.ItemLists.{AllOnce, lists_of}
 use Rattle.av_rmap.proofs.ItemLemmas.{Items, IsAdded, is-few, is-kept, length-lists, list-at, lists-set, not_empty, once_added, shown_added, was-some}
 use Rattle.av_rmap.proofs.items.Items.add.Goals as goal

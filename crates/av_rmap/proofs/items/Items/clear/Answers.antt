@@ -1,5 +1,6 @@
 use Rattle.std.proofs.Common.{◌≡◌, ◌<◌, ◌+◌, ◌≤◌, ◌^◌, ℕ, cond, false, List, length, sym, ap, subst, ◌∙◌, arith, refl}
-use Rattle.av_rmap.specs.Items.{AreOnce, Item, is_merged, shown, with_items}
+use Rattle.av_base.specs.Items.{Item}
+use Rattle.av_rmap.specs.Items.{AreOnce, is_merged, shown, with_items}
 use Rattle.av_rmap.specs.ItemLists.{lists_of}
 use Rattle.av_rmap.proofs.ItemLemmas.{Items, is-kept, lists-set, shown-set, was-few, was-some}
 use Rattle.av_rmap.proofs.items.Items.clear.Goals as goal

@@ -1,8 +1,9 @@
 use Rattle.std.proofs.Common.{◌≡◌, [], List, get_or, length, subst, ◌∙◌}
 use Rattle.std.specs.List.{range_with_len}
+use Rattle.av_base.specs.Items.{Item}
 use Rattle.av_base.specs.Words.{how_many}
 use Rattle.av_base.proofs.Counted.{count-places}
-use Rattle.av_rmap.specs.Items.{Item, is_merged}
+use Rattle.av_rmap.specs.Items.{is_merged}
 use Rattle.av_rmap.specs.ItemLists.{lists_of}
 use Rattle.av_rmap.proofs.items.Items.merged_len.Goals as goal
 

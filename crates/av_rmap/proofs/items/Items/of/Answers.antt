@@ -1,5 +1,6 @@
 use Rattle.std.proofs.Common.{◌<◌, List, length, sym, subst, ◌∙◌, arith}
-use Rattle.av_rmap.specs.Items.{AreOnce, Item}
+use Rattle.av_base.specs.Items.{Item}
+use Rattle.av_rmap.specs.Items.{AreOnce}
 use Rattle.av_rmap.proofs.ItemLemmas.{length-lists, list-at}
 use Rattle.av_rmap.proofs.items.Items.of.Goals as goal
 

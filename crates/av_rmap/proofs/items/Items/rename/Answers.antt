@@ -1,5 +1,6 @@
 use Rattle.std.proofs.Common.{◌≡◌, ◌<◌, [], List, length, get_or, set, sym, ap, subst, ◌∙◌, arith}
-use Rattle.av_rmap.specs.Items.{Item, shown}
+use Rattle.av_base.specs.Items.{Item}
+use Rattle.av_rmap.specs.Items.{shown}
 use Rattle.av_rmap.specs.ItemLists.{AreKept, lists_of}
 use Rattle.av_rmap.proofs.ItemLemmas.{length-lists, lists-swap, kept-moved, shown-moved}
 use Rattle.av_rmap.proofs.items.Items.rename.Goals as goal

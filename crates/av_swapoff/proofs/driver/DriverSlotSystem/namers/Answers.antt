@@ -1,8 +1,9 @@
 use Rattle.std.proofs.Common.{◌<◌, sym, subst}
 use Rattle.std.specs.List.{AllByRecursion}
+use Rattle.av_base.specs.Keys.{Key}
 use Rattle.av_base.specs.Limits.{top_page}
 use Rattle.av_rmap.specs.Sorted.{AreRising}
-use Rattle.av_rmap.specs.Walk.{AreItsEntries, Key, names_slot}
+use Rattle.av_rmap.specs.Walk.{AreItsEntries, names_slot}
 use Rattle.av_evict.specs.System.{any_slot}
 use Rattle.av_swap_laws.proofs.From.{cached-in_range}
 use Rattle.av_mem.specs.Chains.{reach}
