@@ -5,10 +5,10 @@ use Rattle.std.proofs.lemmas.Bool.{false≢true}
 use Rattle.std.specs.List.{list_any}
 use Rattle.std.specs.Prelude.{slice_index}
 use Rattle.av_base.specs.Page.{page_size}
-use Rattle.av_base.specs.Words.{is_in, renamed, with_at}
+use Rattle.av_base.specs.Words.{is_in, renamed, with_at, without}
 use Rattle.av_base.specs.declared.slot.Slot.{Slot}
 use Rattle.av_plain.specs.Device.{Device}
-use Rattle.av_plain.specs.Event.{placed_entry, with_places, without}
+use Rattle.av_plain.specs.Event.{placed_entry, with_places}
 use Rattle.av_plain.specs.Fault.{asks_copy}
 use Rattle.av_plain.specs.Ledger.{Entry, InFrame, InSlot, Ledger, Setting, Zero, entry, frame_at, in_flight, is_free, is_stale, names_frame, slot_of}
 use Rattle.av_plain.specs.Sound.{IsSound, no_excuse, uses}

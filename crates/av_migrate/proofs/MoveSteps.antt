@@ -2,13 +2,13 @@
 use Rattle.std.proofs.Common.{◌≡◌, ℕ, zero, suc, ◌+◌, ◌<◌, ◌≤◌, Bool, true, false, cond, List, [], ◌∷◌, ◌++◌, filter, Option, Some, None, refl, sym, ap, subst, ◌∙◌, arith, ◌==◌}
 use Rattle.std.proofs.lemmas.Bool.Decides.{nat_tests}
 use Rattle.std.specs.List.{range_with_len}
-use Rattle.av_base.specs.Words.{is_in, renamed, with_at}
+use Rattle.av_base.specs.Words.{is_in, renamed, with_at, without}
 use Rattle.av_base.specs.declared.slot.Slot.{Slot}
 use Rattle.av_trace.specs.declared.note.Note.TheVariants.{Moved}
 use Rattle.av_plain.specs.Areas.{Rmap, with_home_moved}
 use Rattle.av_plain.specs.Choice.{Chooses}
 use Rattle.av_plain.specs.Covered.{AreMergedCovered}
-use Rattle.av_plain.specs.Event.{FreeSorted, Noted, after_note, with_places, without}
+use Rattle.av_plain.specs.Event.{FreeSorted, Noted, after_note, with_places}
 use Rattle.av_plain.specs.Ledger.{Ledger, Setting, is_free, is_merged}
 use Rattle.av_plain.specs.Sound.{IsSound, count, no_excuse, uses}
 use Rattle.av_plain.specs.Stands.{BytesStand, HomesAre, ItemsAre, LedgerStands, View, free_of}

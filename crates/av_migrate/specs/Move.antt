@@ -2,8 +2,8 @@
 -- put in order.
 use Rattle.std.specs.List.{range_with_len}
 use Rattle.std.specs.Prelude.{◌≡◌, ◌<◌, ℕ, Bool, List, [], ◌∷◌, filter, map, Option, None, option_map}
-use Rattle.av_base.specs.Words.{is_in, renamed, with_at}
-use Rattle.av_plain.specs.Event.{placed_entry, without}
+use Rattle.av_base.specs.Words.{is_in, renamed, with_at, without}
+use Rattle.av_plain.specs.Event.{placed_entry}
 use Rattle.av_plain.specs.Ledger.{Ledger, Setting}
 use Rattle.av_plain.specs.Sound.{uses}
 use Rattle.av_plain.specs.Stands.{Pte, View}
