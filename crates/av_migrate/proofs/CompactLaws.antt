@@ -72,9 +72,16 @@ append-assoc : (xs ys zs : List Note) → (xs ++ ys) ++ zs ≡ xs ++ (ys ++ zs)
 append-assoc [] ys zs = refl
 append-assoc (x ∷ xs) ys zs = ap (λ r. x ∷ r) (append-assoc xs ys zs)
 
-pub going-start : (old : Mem) (notes : List Note) (taken : ℕ) → KeepsParts old old → Going old old 0 (frame_count old) notes notes taken taken
-going-start old notes taken parts = record {
-  parts = parts;
+pub going-start : (old : Mem) (notes : List Note) (taken : ℕ) → Going old old 0 (frame_count old) notes notes taken taken
+going-start old notes taken = record {
+  parts = record {
+    stay = refl;
+    processes = refl;
+    count = refl;
+    lists = refl;
+    items = refl;
+    swap = record { frames = refl; on = refl; bad = refl; closing = refl; priority = refl };
+  };
   within = omega arith;
   used = λ f below. absurd (omega (arith, below));
   free = λ f low high. absurd (omega (arith, low, high));
@@ -231,7 +238,8 @@ module _ (old now : Mem) (low past : ℕ) (before notes : List Note) (taken take
             ∙ g.items f (low_too f low) (high_too f high);
         added = g.added ++ Moved from to ∷ [];
         are = told ∙ ap (λ ns. ns ++ Moved from to ∷ []) g.are ∙ append-assoc before g.added (Moved from to ∷ []);
-        steps = let a = g.steps in let b = steps-more old g.added (Moved from to) in
+        steps = let a = g.steps in let b : steps_of_all old (g.added ++ Moved from to ∷ []) ≡ steps_of_all old g.added + areas_of_frame old from =
+                steps-more old g.added (Moved from to) in
             let c = walk-stays old now from g.parts (g.homes from from_low next.below) (g.items from from_low next.below) in omega (arith, steps, a, b, c);
         stands = so-far;
       }

@@ -39,7 +39,7 @@ module _ (m : Setting) (l : Ledger) (from to : ℕ) (s : IsSound m l) (may : May
   no_holder = let h = may.free in omega (arith, h)
 
   pub maps-went : (g : ℕ) → map_count went g ≡ cond (g == from) 0 (map_count l (before from to g))
-  maps-went g = by (g == from) _ _ (uses-went m no_excuse l from to s may.free may.used may.below g)
+  maps-went g = by (g == from) (map_count went g) (holders went g) (uses-went m no_excuse l from to s may.free may.used may.below g)
       (holders-went m no_excuse l from to s may.free may.used may.below g)
     where
       by : (b : Bool) (n k : ℕ) → n + k ≡ cond b 0 (uses l (before from to g)) → k ≡ cond b 0 (holders l (before from to g))

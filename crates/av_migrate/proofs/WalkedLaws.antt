@@ -31,11 +31,10 @@ moved-is : (from to : ℕ) (e : Entry) (write : Bool)
     ≡ pte_moved from to (record { entry = e; write = write })
 moved-is from to ZeroEntry write = refl
 moved-is from to (InSlot s) write = refl
-moved-is from to (InFrame g seen) write = ap (λ b. cond b (plain_pointed to here) here) (same-turned from g) ∙ by (g == from)
+moved-is from to (InFrame g seen) write =
+    ap (λ b. cond b (plain_pointed to (record { entry = InFrame g seen; write = write })) (record { entry = InFrame g seen; write = write }))
+    (same-turned from g) ∙ by (g == from)
   where
-    abbrev here : Plain
-    here = record { entry = InFrame g seen; write = write }
-
     by : (b : Bool) → cond b (plain_pointed to (record { entry = InFrame g seen; write = write })) (record { entry = InFrame g seen; write = write })
         ≡ record { entry = InFrame (cond b to g) seen; write = write }
     by true = refl
