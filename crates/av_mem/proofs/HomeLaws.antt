@@ -49,7 +49,7 @@ module _ (d : Device) (closing : Option ℕ) (k : Mem) (w : World) (r : Rmap) (l
   -- ---- the home of a frame that takes the slot's page
 
   -- roots are as the definitions have them
-  root-is : (v : ℕ) → root_in k v ≡ root_of r.anons v
+  pub root-is : (v : ℕ) → root_in k v ≡ root_of r.anons v
   root-is v = by (info_of k.anons v) (r.anons.anon v) (h.anons.kin v)
     where
       by : (x : Option Info) (y : Option AnonVma)
