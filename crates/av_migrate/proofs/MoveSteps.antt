@@ -1,5 +1,5 @@
 -- The step by which a frame goes over to another, and that which puts the free ones in order, all parts together.
-use Rattle.std.proofs.Common.{◌≡◌, ℕ, zero, suc, ◌+◌, ◌<◌, ◌≤◌, Bool, true, false, cond, List, [], ◌∷◌, ◌++◌, filter, Option, Some, None, refl, sym, ap, subst, ◌∙◌, arith, ◌==◌}
+use Rattle.std.proofs.Common.{◌≡◌, ℕ, zero, suc, ◌+◌, ◌<◌, ◌≤◌, Bool, true, false, cond, ◌||◌, List, [], ◌∷◌, ◌++◌, filter, Option, Some, None, refl, sym, ap, subst, ◌∙◌, arith, ◌==◌}
 use Rattle.std.proofs.lemmas.Bool.Decides.{nat_tests}
 use Rattle.std.specs.List.{range_with_len}
 use Rattle.av_base.specs.Words.{is_in, renamed, with_at, without}
@@ -118,10 +118,11 @@ module _ (m : Setting) (closing : Option ℕ) (old : Held) (h : IsHeld m old) wh
       same : (a n : ℕ) → ((f : ℕ) → a ≤ f → f < a + n → is_in f v.free ≡ is_free l f)
           → filter (λ f. is_in f v.free) (range_with_len a n) ≡ filter (is_free l) (range_with_len a n)
       same a zero is = refl
-      same a (suc n) is = λ i. cond (is a (omega arith) (omega arith) i) (a ∷ rest i) (rest i)
+      same a (suc n) is = step (same (a + 1) n (λ f low high. is f (omega (arith, low)) (omega (arith, high))))
         where
-          rest : filter (λ f. is_in f v.free) (range_with_len (a + 1) n) ≡ filter (is_free l) (range_with_len (a + 1) n)
-          rest = same (a + 1) n (λ f low high. is f (omega (arith, low)) (omega (arith, high)))
+          step : filter (λ f. is_in f v.free) (range_with_len (a + 1) n) ≡ filter (is_free l) (range_with_len (a + 1) n)
+              → filter (λ f. is_in f v.free) (range_with_len a (suc n)) ≡ filter (is_free l) (range_with_len a (suc n))
+          step rest = λ i. cond (is a (omega arith) (omega arith) i) (a ∷ rest i) (rest i)
 
   ordered-in : (f : ℕ) → f < m.frames → is_in f (view_ordered v).free ≡ is_free l f
   ordered-in f below = ap (is_in f) in-order ∙ among 0 m.frames (omega arith) (omega (arith, below))
@@ -135,7 +136,7 @@ module _ (m : Setting) (closing : Option ℕ) (old : Held) (h : IsHeld m old) wh
 
           by : (b : Bool) → is_in f (filter (is_free l) (range_with_len (a + 1) n)) ≡ false
               → is_in f (cond b (a ∷ filter (is_free l) (range_with_len (a + 1) n)) (filter (is_free l) (range_with_len (a + 1) n))) ≡ false
-          by true h = ap (λ b. cond b true (is_in f (filter (is_free l) (range_with_len (a + 1) n)))) other ∙ h
+          by true h = ap (λ b. b || is_in f (filter (is_free l) (range_with_len (a + 1) n))) other ∙ h
           by false h = h
 
       among : (a n : ℕ) → a ≤ f → f < a + n → is_in f (filter (is_free l) (range_with_len a n)) ≡ is_free l f
@@ -145,12 +146,13 @@ module _ (m : Setting) (closing : Option ℕ) (old : Held) (h : IsHeld m old) wh
         where
           first : (b : Bool) → is_free l a ≡ b → f ≡ a
               → is_in f (cond b (a ∷ filter (is_free l) (range_with_len (a + 1) n)) (filter (is_free l) (range_with_len (a + 1) n))) ≡ is_free l f
-          first true is e = ap (λ b. cond b true (is_in f (filter (is_free l) (range_with_len (a + 1) n)))) (grind (arith, nat_tests, e)) ∙ sym (ap (is_free l) e ∙ is)
+          first true is e = ap (λ b. b || is_in f (filter (is_free l) (range_with_len (a + 1) n))) (ap (λ x. x == a) e ∙ same-itself a)
+              ∙ sym (ap (is_free l) e ∙ is)
           first false is e = absent (a + 1) n (omega (arith, e)) ∙ sym (ap (is_free l) e ∙ is)
 
           later : (b : Bool) → (f == a) ≡ false → is_in f (filter (is_free l) (range_with_len (a + 1) n)) ≡ is_free l f
               → is_in f (cond b (a ∷ filter (is_free l) (range_with_len (a + 1) n)) (filter (is_free l) (range_with_len (a + 1) n))) ≡ is_free l f
-          later true other h = ap (λ b. cond b true (is_in f (filter (is_free l) (range_with_len (a + 1) n)))) other ∙ h
+          later true other h = ap (λ b. b || is_in f (filter (is_free l) (range_with_len (a + 1) n))) other ∙ h
           later false other h = h
 
           by : (b : Bool) → (f == a) ≡ b → ((f == a) ≡ false → is_in f (filter (is_free l) (range_with_len (a + 1) n)) ≡ is_free l f)
