@@ -113,7 +113,8 @@ module _ (m : Setting) (closing : Option ℕ) (old : Held) (h : IsHeld m old) wh
   -- ---- the free frames are put in order
 
   in-order : filter (λ f. is_in f v.free) (range_with_len 0 v.frames) ≡ filter (is_free l) (range_with_len 0 m.frames)
-  in-order = ap (λ n. filter (λ f. is_in f v.free) (range_with_len 0 n)) h.ledger.frames.frames ∙ same 0 m.frames (λ f low high. h.ledger.frames.free f high)
+  in-order = ap (λ n. filter (λ f. is_in f v.free) (range_with_len 0 n)) h.ledger.frames.frames ∙ same 0 m.frames
+      (λ f low high. h.ledger.frames.free f (omega (arith, high)))
     where
       same : (a n : ℕ) → ((f : ℕ) → a ≤ f → f < a + n → is_in f v.free ≡ is_free l f)
           → filter (λ f. is_in f v.free) (range_with_len a n) ≡ filter (is_free l) (range_with_len a n)
