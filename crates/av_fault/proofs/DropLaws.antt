@@ -192,6 +192,9 @@ module _ (d : Device) (old : Mem) (w : World) (r : Rmap) (l : Ledger) (h : Keeps
   pub drop-find : (view old).find s ≡ Some f
   drop-find = h.serves.held.ledger.swap.finds s ∙ there
 
+  pub drop-below : f < (setting_by d old).frames
+  drop-below = cached-in_range (setting_by d old) no_excuse l h.sound f s there
+
   -- a frame that an entry names isn't free
   pub in-use : 0 < (view old).maps f → is_in f (view old).free ≡ false
   in-use some = by (is_in f (view old).free) refl

@@ -23,7 +23,7 @@ returns g c = record {
 
 pub returns-in_err-age : goal.returns-in_err-age
 returns-in_err-age g c = record {
-  adds = tt;
+  adds = search rules;
   same = same-lent _ _ _ _ _ _ (c.in_err-age.ensures.stays true).stays _ (λ e. search rules);
   count = count-lent _ _ _ _ _ _ (c.in_err-age.ensures.stays true).stays _ (λ e. search rules);
 }

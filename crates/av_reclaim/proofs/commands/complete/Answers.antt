@@ -25,7 +25,7 @@ returns g c = record {
 
 pub returns-in_err-complete : goal.returns-in_err-complete
 returns-in_err-complete g c = record {
-  adds = tt;
+  adds = search rules;
   same = same-lent _ _ _ _ _ _ (c.in_err-complete.ensures.stays true).stays _ (λ e. search rules);
   count = count-lent _ _ _ _ _ _ (c.in_err-complete.ensures.stays true).stays _ (λ e. search rules);
 }

@@ -24,7 +24,7 @@ returns g c = record {
 
 pub returns-in_err-reclaim : goal.returns-in_err-reclaim
 returns-in_err-reclaim g c = record {
-  adds = tt;
+  adds = search rules;
   same = same-lent _ _ _ _ _ _ (c.in_err-reclaim.ensures.stays true).stays _ (λ e. search rules);
   count = count-lent _ _ _ _ _ _ (c.in_err-reclaim.ensures.stays true).stays _ (λ e. search rules);
 }
