@@ -5,7 +5,7 @@ use Rattle.std.proofs.lemmas.Bool.{false≢true}
 use Rattle.av_base.specs.Keys.{Key}
 use Rattle.av_base.specs.Words.{how_many, is_in}
 use Rattle.av_base.specs.declared.slot.Slot.{Slot}
-use Rattle.av_frames.specs.Store.{Shown as ShownFrames, relocated, shown as shown_frames}
+use Rattle.av_frames.specs.Store.{Shown as ShownFrames, free_in_order, relocated, shown as shown_frames}
 use Rattle.av_lru.specs.Lists.{Lists, with_renamed as lists_renamed}
 use Rattle.av_pagetable.specs.Entries.{entry_at, has}
 use Rattle.av_pagetable.specs.declared.pte.Pte.{Pte}
@@ -24,7 +24,7 @@ use Rattle.av_mem.specs.Mem.{IsSteady, Keeps, frame_count, plain, setting_by, vi
 use Rattle.av_mem.specs.Steps.{KeepsParts}
 use Rattle.av_mem.specs.declared.mem.Mem.{Mem}
 use Rattle.av_plain.specs.Sound.{no_excuse}
-use Rattle.av_migrate.specs.Move.{pte_moved, view_moved}
+use Rattle.av_migrate.specs.Move.{pte_moved, view_moved, view_ordered}
 use Rattle.av_migrate.specs.Pointed.{pointed_at}
 use Rattle.av_migrate.proofs.WalkedLaws.{walked-moved}
 
@@ -74,14 +74,15 @@ module _ (d : Device) (k : Mem) (s : State) (keeps : Keeps d k s) where
   cached-as from = by ((shown_frames k.frames).slot from) (sym (keeps.stands.parts.ledger.frames.slots from))
     where
       by : (o : Option Slot) → slot_of l from ≡ o → IsCachedAs (shown_swap k.swap) from o
-      by None is t at = none-some t (sym is ∙ frame-slot l (once-of m no_excuse l keeps.stands.sound.ledger) from t
+      by None is = λ t at. none-some t (sym is ∙ frame-slot l (once-of m no_excuse l keeps.stands.sound.ledger) from t
           (sym (keeps.stands.parts.ledger.swap.finds t) ∙ at))
       by (Some t) is = keeps.stands.parts.ledger.swap.finds t ∙ slot-frame l (once-of m no_excuse l keeps.stands.sound.ledger) from t is
 
   -- ---- what is seen then
 
   pub moved-tables : (from to : ℕ) (keys : List Key) → keys ≡ walk l from
-      → (λ p page. plain (pointed_at keys to (entry_at k.tables) p page)) ≡ (λ p page. option_map (pte_moved from to) ((view k).table p page))
+      → ◌≡◌ {A = ℕ → ℕ → Option Plain} (λ p page. plain (pointed_at keys to (entry_at k.tables) p page))
+      (λ p page. option_map (pte_moved from to) ((view k).table p page))
   moved-tables from to keys are =
       λ i p page. (walked-moved m k l from to keys keeps.stands.parts.ledger keeps.stands.sound.ledger.in_order are p page) i
 
@@ -99,7 +100,8 @@ pub gone-view : (old new : Mem) (from to : ℕ) (keys : List Key) → GoneOver o
     → ((d : Device) (s : State) → Keeps d old s → keys ≡ walk s.ledger from) → view new ≡ view_moved from to (view old)
 gone-view old new from to keys g steady are = λ i. view_of_parts (g.frames i) (g.lists i) (g.items i) (tables i) (spaces i) (anons i) (g.swap i)
   where
-    tables : (λ p page. plain (entry_at new.tables p page)) ≡ (λ p page. option_map (pte_moved from to) ((view old).table p page))
+    tables : ◌≡◌ {A = ℕ → ℕ → Option Plain} (λ p page. plain (entry_at new.tables p page))
+        (λ p page. option_map (pte_moved from to) ((view old).table p page))
     tables = ap (λ (t : ℕ → ℕ → Pte) (p page : ℕ). plain (t p page)) g.entries
         ∙ moved-tables steady.0 old steady.1 steady.2 from to keys (are steady.0 steady.1 steady.2)
 
@@ -109,18 +111,23 @@ gone-view old new from to keys g steady are = λ i. view_of_parts (g.frames i) (
     anons : new.anons ≡ old.anons
     anons = ap (λ (k : Mem). k.anons) g.rest
 
-pub gone-parts : (old new : Mem) (from to : ℕ) (keys : List Key) → GoneOver old new from to keys → KeepsParts old new
-gone-parts old new from to keys g = record {
-  stay = g.rest;
-  processes = g.processes;
-  count = ap (λ (f : ShownFrames). f.count) g.frames;
-  lists = ap (λ (ls : Lists). ls.frames) g.lists;
-  items = ap (λ (i : ShownItems). i.frames) g.items;
-  swap = record {
-    frames = ap (λ (h : ShownSwap). h.frames) g.swap;
-    on = ap (λ (h : ShownSwap). h.on) g.swap;
-    bad = ap (λ (h : ShownSwap). h.bad) g.swap;
-    closing = ap (λ (h : ShownSwap). h.closing) g.swap;
-    priority = ap (λ (h : ShownSwap). h.priority) g.swap;
-  };
-}
+-- ---- the free frames are put in order
+
+abbrev in_order : ShownFrames → ShownFrames
+in_order frames = record frames { free = free_in_order frames }
+
+module _ (old new : Mem) (rest : new ≡ record old { frames = new.frames }) (ordered : shown_frames new.frames ≡ in_order (shown_frames old.frames)) where
+  pub ordered-view : view new ≡ view_ordered (view old)
+  ordered-view = ap (λ (k : Mem). view k) rest
+      ∙ ap (λ (f : ShownFrames). view_of_parts f old.lists (shown_items old.items) (λ p page. plain (entry_at old.tables p page)) old.spaces old.anons
+      (shown_swap old.swap)) ordered
+
+  pub ordered-parts : KeepsParts old new
+  ordered-parts = subst (KeepsParts old) (sym rest) (record {
+    stay = refl;
+    processes = refl;
+    count = ap (λ (f : ShownFrames). f.count) ordered;
+    lists = refl;
+    items = refl;
+    swap = record { frames = refl; on = refl; bad = refl; closing = refl; priority = refl };
+  })

@@ -13,10 +13,10 @@
 //! Nothing runs it yet.
 #![tactic(auto)]
 
-mod compact;
+mod compacting;
 mod laws;
 mod moving;
 mod next;
 
-pub use compact::compact;
+pub use compacting::compact;
 pub use laws::{frames_go_over, free_frames_are_ordered};

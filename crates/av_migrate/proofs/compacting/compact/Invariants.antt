@@ -1,6 +1,6 @@
 use Rattle.std.proofs.Common.{ℕ}
 use Rattle.av_migrate.proofs.CompactLaws.{Going}
-use Rattle.av_migrate.proofs.compact.compact.Given as goal
+use Rattle.av_migrate.proofs.compacting.compact.Given as goal
 
 abbrev pub invariant-loop-from : goal.invariant-loop-from
 invariant-loop-from g l = Going l.fn.mem l.mem l.low l.past l.fn.notes l.notes l.fn.steps l.steps
