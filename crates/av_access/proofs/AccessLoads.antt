@@ -10,6 +10,7 @@ use Rattle.std.specs.declared.cmp.Ordering.TheVariants.{Less, Equal, Greater}
 use Rattle.std.specs.Prelude.{IfSome, MatchBool, if◌then◌else◌, option_and_then}
 use Rattle.av_base.specs.Page.{address_of, page_of, place_in_page}
 use Rattle.av_base.specs.Words.{within}
+use Rattle.av_base.specs.declared.flags.Flag.{Flag}
 use Rattle.av_base.specs.declared.slot.Slot.{Slot}
 use Rattle.av_trace.specs.declared.note.Note.{Note}
 use Rattle.av_trace.specs.declared.note.Note.TheVariants.{Aged, Copied, Dropped, Failed, Joined, Kept, Loaded, Mapped, Moved, New, Put, Shared, Started, Unmapped, Written, Zeroed}
@@ -21,7 +22,7 @@ use Rattle.av_plain.specs.Ledger.{Entry, InFrame, InSlot, Ledger, Setting, Zero,
 use Rattle.av_plain.specs.Load.{after_load, after_loads, is_of_slot, with_loads, without_bytes, without_claims}
 use Rattle.av_plain.specs.Pass.{Completes, IsPass, IsSlotFor, Seeks, Spared, TakesFor, Turns, end_note, end_notes, frames_in_turn, is_dirty, is_spared, is_stuck, stays_cached, turn_notes, unmap_notes}
 use Rattle.av_plain.specs.Sound.{IsSound}
-use Rattle.av_plain.specs.World.{Page, Process, World, pages, set_process, with_bytes, Shows}
+use Rattle.av_plain.specs.World.{Page, Process, World, pages, set_process, with_bytes, with_change_on, with_page_flag, Shows}
 use Rattle.av_plain.proofs.Access.{note_events-all, note_events-append}
 use Rattle.av_plain.proofs.Load.{loads_nothing}
 use Rattle.av_plain.proofs.Sound.Pass.{seeks-kept}
@@ -202,6 +203,38 @@ module _ (p page a : ℕ) (bytes : List ℕ) (apart : IsApart a (length bytes) p
       → with_loads m (after_write w p a bytes) l es ≡ after_write (with_loads m w l es) p a bytes
   loads-stored m w l es h = elim (is_some m.headers) as (λ b. cond b (after_write w p a bytes) (after_loads (after_write w p a bytes) l es)
       ≡ after_write (cond b w (after_loads w l es)) p a bytes) [ true ↦ refl | false ↦ loaded-stored w l es h ]
+
+-- ---- flags
+
+-- flags may as well be set after loads as before them
+module _ (p from n : ℕ) (flag : Flag) (set : Bool) where
+  abbrev pub flagged : World → World
+  flagged w = set_process w p (with_change_on (pages w p) from n (with_page_flag flag set))
+
+  one-flagged : (b c : Bool) (x : Option Page)
+      → cond b (option_map without_bytes (cond c (option_map (with_page_flag flag set) x) x)) (cond c (option_map (with_page_flag flag set) x) x)
+      ≡ cond c (option_map (with_page_flag flag set) (cond b (option_map without_bytes x) x)) (cond b (option_map without_bytes x) x)
+  one-flagged true true None = refl
+  one-flagged true true (Some x) = refl
+  one-flagged true false x = refl
+  one-flagged false c x = refl
+
+  unclaimed-flagged : (l : Ledger) (s : Slot) (w : World) → without_claims l s (flagged w) ≡ flagged (without_claims l s w)
+  unclaimed-flagged l s w = unclaimed-set l s w p (with_change_on (pages w p) from n (with_page_flag flag set))
+      ∙ ap (set_process (without_claims l s w) p) (λ i page. (one-flagged (is_of_slot s (entry l (p, page))) (within from n page) (pages w p page)
+      ∙ ap (λ x. cond (within from n page) (option_map (with_page_flag flag set) x) x) (sym (pages-unclaimed l s w p page))) i)
+
+  loaded-flagged : (w : World) (l : Ledger) (es : List Event) → after_loads (flagged w) l es ≡ flagged (after_loads w l es)
+  loaded-flagged w l [] = refl
+  loaded-flagged w l (e ∷ es) = ap (λ x. after_loads x (after l e) es) (by (load_or_none e)) ∙ loaded-flagged (after_load l e w) (after l e) es
+    where
+      by : IsPlain e ⊎ ((s : Slot) × (f : ℕ) × (e ≡ Noted (Loaded s f))) → after_load l e (flagged w) ≡ flagged (after_load l e w)
+      by (inl none) = none.1 l (flagged w) ∙ ap flagged (sym (none.1 l w))
+      by (inr load) = subst (λ e. after_load l e (flagged w) ≡ flagged (after_load l e w)) (sym load.2) (unclaimed-flagged l load.0 w)
+
+  pub loads-flagged : (m : Setting) (w : World) (l : Ledger) (es : List Event) → with_loads m (flagged w) l es ≡ flagged (with_loads m w l es)
+  loads-flagged m w l es = elim (is_some m.headers) as (λ b. cond b (flagged w) (after_loads (flagged w) l es)
+      ≡ flagged (cond b w (after_loads w l es))) [ true ↦ refl | false ↦ loaded-flagged w l es ]
 
 -- ---- a pass loads nothing
 

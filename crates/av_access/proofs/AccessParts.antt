@@ -34,27 +34,17 @@ use Rattle.av_plain.proofs.Sound.{lives-loads, loads-same}
 use Rattle.av_swap_laws.proofs.Load.{pages-unclaimed}
 use Rattle.av_step.specs.Step.{IsSteadyFor}
 use Rattle.av_access.specs.Page.{IsPageRead, IsPageStep, world_after}
-use Rattle.av_access.specs.Access.{IsAccess, IsPiece, IsRead, answer_at, causes_of_access, world_served}
+use Rattle.av_access.specs.Access.{HasServed, IsAccess, IsPiece, IsRead, world_served}
 use Rattle.av_fault.specs.Fault.{stop_of}
 use Rattle.av_fault.proofs.CameLaws.{locked-loads}
 use Rattle.av_access.specs.declared.access.Piece.{Piece}
+use Rattle.av_access.proofs.ServedLaws.{LeavesMarks, page-served, served-append, served-more}
 use Rattle.av_access.proofs.AccessPages.{touches, touched-one, touched-more}
 use Rattle.av_access.proofs.AccessLoads.{AreOwnLoads, IsApart, loads-shows, loads-stored, own-events, with_loads-append}
 use Rattle.av_access.proofs.AccessBytes.{reads-more, stored_twice, allowed-stored, lives-stored, locked-stored}
 use Rattle.av_plain.proofs.Wrote.{device-on, wrote-notes}
 
 -- ---- the memories after a part of an access
-
--- loads leave what is allowed
-allowed-loaded : (m : Setting) (w : World) (l : Ledger) (es : List Event) (wants : Bool) (p page : ℕ) →
-    is_allowed w wants (p, page) ≡ is_allowed (with_loads m w l es) wants (p, page)
-allowed-loaded m w l es wants p page = sym (loads-same (λ w. is_allowed w wants (p, page)) m w l es
-    (λ l s w. ap (permits wants) (pages-unclaimed l s w p page) ∙ by (is_of_slot s (entry l (p, page))) (pages w p page)))
-  where
-    by : (b : Bool) (o : Option Page) → permits wants (cond b (option_map without_bytes o) o) ≡ permits wants o
-    by true None = refl
-    by true (Some q) = refl
-    by false o = refl
 
 allowed-served : (w : World) (write wants : Bool) (p a : ℕ) (bytes : List ℕ) (page : ℕ) →
     is_allowed w wants (p, page) ≡ is_allowed (world_served write p a bytes w) wants (p, page)
@@ -71,6 +61,12 @@ served_twice : (w : World) (write : Bool) (p a page at : ℕ) (xs ys : List ℕ)
     → world_after write p page at ys None (world_served write p a xs w) ≡ world_served write p a (xs ++ ys) w
 served_twice w true p a page at xs ys is = ap (λ b. after_write (after_write w p a xs) p b ys) (is refl) ∙ stored_twice w p a xs ys
 served_twice w false p a page at xs ys is = refl
+
+leaves-served : (write : Bool) (p a : ℕ) (bytes : List ℕ) → LeavesMarks p (world_served write p a bytes)
+leaves-served write p a bytes = record {
+  allowed = λ w wants page. allowed-served w write wants p a bytes page;
+  locked = λ w q page. locked-served w write p a bytes q page;
+}
 
 -- a page that stopped stores nothing
 stop_answer-world : (write : Bool) (p page at : ℕ) (ys : List ℕ) (stop : Stop) (w : World) → world_after write p page at ys (Some stop) w ≡ w
@@ -118,37 +114,6 @@ page-steady sizes sizes' n n' s new write p page at ys before now end alive h = 
       ∙ alive),
 )
 
--- ---- what happens at one page
-
-pub notes-happening : (write : Bool) (k : ℕ × ℕ) (added : List Note) (end : Option served.Stop) → notes_of (page_events write k added end) ≡ added
-notes-happening write k added None = notes_of-append (note_events added) (Used write k ∷ []) ∙ append-nil _ ∙ notes_of-note_events added
-notes-happening write k added (Some stop) = notes_of-note_events added
-
--- a page that is served is an access of this page, whole
-one_served : (m : Setting) (w : World) (l : Ledger) (write : Bool) (p page : ℕ) (added : List Note) → Touches m w l write (p, page) added None
-    → Accesses m w l p ((write, page) ∷ []) (page_events write (p, page) added None) Whole
-one_served m w l write p page added h = inl (added, [], h, sym (append-nil _), (refl, refl))
-
--- a page that stops an access of it and more
-one_stopped : (m : Setting) (w : World) (l : Ledger) (write : Bool) (p page : ℕ) (rest : List (Bool × ℕ)) (added : List Note) (stop : served.Stop) →
-    Touches m w l write (p, page) added (Some stop)
-    → Accesses m w l p ((write, page) ∷ rest) (page_events write (p, page) added (Some stop)) (Stopped page stop)
-one_stopped m w l write p page rest added stop h = inr (added, stop, h, refl, refl)
-
--- ---- what only failures explain
-
-rose-both : (m n k a b c : ℕ) → RoseBy m a b → RoseBy n b c → k ≤ m + n → RoseBy k a c
-rose-both m n k a b c h g few = omega (arith, h, g, few)
-
-causes-append : (xs ys : List Note) (end : Option Stop) (a b c : ℕ) → RoseBy (causes_of_access xs None) a b → RoseBy (causes_of_access ys end) b c →
-    RoseBy (causes_of_access (xs ++ ys) end) a c
-causes-append xs ys end a b c h g = rose-both (causes_of_access xs None) (causes_of_access ys end) (causes_of_access (xs ++ ys) end) a b c h g
-    (let both = how_many-append is_fail xs ys in few (fails (xs ++ ys)) (fails xs) (fails ys)
-    (failed_frames (answer_at end Done 0 [])) (failure_answers (answer_at end Done 0 [])) both)
-  where
-    few : (f m n x y : ℕ) → f ≡ m + n → max f x + y ≤ (max m 0 + 0) + (max n x + y)
-    few f m n x y is = omega (arith, is)
-
 -- ---- the access goes on
 
 -- k bytes were served, and a piece begins behind them
@@ -160,43 +125,6 @@ record Behind (a k page at : ℕ) : Type 0 where
 module _ {d d' : Device} (s : State) (mid new : Mem) (write : Bool) (p a k page at : ℕ) (xs ys : List ℕ) (before now after : List Note)
     (same : frame_count new ≡ frame_count mid) (behind : Behind a k page at) (h : IsAccess d d' s mid write p a k xs before now None k)
     (long : write ≡ true → length xs ≡ k) where
-  notes-both : (end : Option served.Stop) (added : List Note) → after ≡ now ++ added →
-      after ≡ before ++ notes_of (h.events ++ page_events write (p, page) added end)
-  notes-both end added is = is ∙ ap (λ ns. ns ++ added) h.notes ∙ append_assoc before (notes_of h.events) added
-      ∙ ap (λ ns. before ++ ns) (ap (λ ns. notes_of h.events ++ ns) (sym (notes-happening write (p, page) added end))
-      ∙ sym (notes_of-append h.events (page_events write (p, page) added end)))
-
-  accesses-both : (later : List (Bool × ℕ)) (more : List Event) (end : End) → Accesses (setting_by d new) h.next.world h.next.ledger p later more end
-      → Accesses (setting_by d new) s.world s.ledger p (pages_of_access write a k ++ later) (h.events ++ more) end
-  accesses-both later more end g = accesses-append (setting_by d new) s.world h.next.world s.ledger p (pages_of_access write a k) later h.events
-      more end
-      (alike-by-allowed s.world h.next.world p (λ wants page. allowed-loaded (setting_by d mid) s.world s.ledger h.events wants p page
-      ∙ allowed-served (with_loads (setting_by d mid) s.world s.ledger h.events) write wants p a xs page
-      ∙ ap (λ w. is_allowed w wants (p, page)) (sym h.world))
-      (λ q page. sym (locked-loads (setting_by d mid) s.world s.ledger h.events q page)
-      ∙ locked-served (with_loads (setting_by d mid) s.world s.ledger h.events) write p a xs q page
-      ∙ ap (λ w. is_locked_page (pages w q page)) (sym h.world)))
-      (subst (λ n. Accesses (setting_of n d) s.world s.ledger p (pages_of_access write a k) h.events Whole) (sym same)
-      (subst (λ end. Accesses (setting_by d mid) s.world s.ledger p (pages_of_access write a k) h.events end) h.is_end.0 h.accesses))
-      (subst (λ l. Accesses (setting_by d new) h.next.world l p later more end) h.ledger g)
-
-  free-both : (more : List Event) (free : Free) → ChoosesAll (setting_by d new) None h.next.ledger more h.next.free free →
-      ChoosesAll (setting_by d new) None s.ledger (h.events ++ more) s.free free
-  free-both more free g = chooses-append (setting_by d new) None s.ledger h.events more s.free h.next.free free
-      (subst (λ n. ChoosesAll (setting_of n d) None s.ledger h.events s.free h.next.free) (sym same) h.free)
-      (subst (λ l. ChoosesAll (setting_by d new) None l more h.next.free free) h.ledger g)
-
-  ledger-both : (more : List Event) (l : Ledger) → l ≡ after_all h.next.ledger more → l ≡ after_all s.ledger (h.events ++ more)
-  ledger-both more l is = is ∙ ap (λ x. after_all x more) h.ledger ∙ sym (after_all-append s.ledger h.events more)
-
-  rmap-both : (more : List Event) (r : Rmap) → r ≡ rmap_after_all h.next.ledger more (rmap_of h.next) →
-      r ≡ rmap_after_all s.ledger (h.events ++ more) (rmap_of s)
-  rmap-both more r is = is ∙ (λ i. rmap_after_all (h.ledger i) more (h.rmap i)) ∙ sym (rmap_after_all-append s.ledger h.events more (rmap_of s))
-
-  -- the page's step is over the device as it is then, which is the same
-  setting-same : setting_by d' new ≡ setting_by d new
-  setting-same = setting_same (frame_count new) d d' h.same
-
   -- bytes that were stored before are on no byte of the page
   apart : (n : ℕ) → n ≡ k → IsApart a n page
   apart n is i = outside a n (4096 * page + i) (by k is behind.is behind.begins)
@@ -209,93 +137,48 @@ module _ {d d' : Device} (s : State) (mid new : Mem) (write : Bool) (p a k page 
       outside a n x (inl none) = grind (arith, nat_tests, none)
       outside a n x (inr past) = grind (arith, nat_tests, past)
 
-  module _ {d'' : Device} (end : Option Stop) (g : IsPageStep d' d'' h.next new write p page at ys now after end) where
-    abbrev here : List Event
-    here = page_events write (p, page) g.added (option_map stop_of end)
+  -- what was served before, and this page
+  with_page : {d'' : Device} (end : Option Stop) (turns : List (Bool × ℕ)) (both : World → World)
+      → pages_of_access write a k ++ (write, page) ∷ [] ≡ turns → IsPageStep d' d'' h.served.next new write p page at ys now after end
+      → ((w : World) → world_after write p page at ys end (world_served write p a xs w) ≡ both w)
+      → HasServed d d'' s new p turns both before after end page
+  unfolding page-served
+  with_page end turns both is g composed = served-append s mid new p (pages_of_access write a k) ((write, page) ∷ []) turns (world_served write p a xs)
+      (world_after write p page at ys end) both before now after end h.page page same h.served
+      (page-served h.served.next new write p page at ys now after end g) is (leaves-served write p a xs)
+      (loads-served (setting_by d new) (with_loads (setting_by d mid) s.world s.ledger h.served.events) h.served.next.ledger
+      (page_events write (p, page) g.added (option_map stop_of end)) write p a page xs (λ is. apart (length xs) (long is)) own) composed
+    where
+      own : AreOwnLoads p page h.served.next.ledger (page_events write (p, page) g.added (option_map stop_of end))
+      own = own-events (setting_by d' new) h.served.next.world h.served.next.ledger write p page g.added (option_map stop_of end)
+          (subst (λ n. IsSound (setting_of n d') h.served.next.ledger) (sym same) h.served.keeps.stands.sound.ledger) g.touches
 
-    own : AreOwnLoads p page h.next.ledger here
-    own = own-events (setting_by d' new) h.next.world h.next.ledger write p page g.added (option_map stop_of end)
-        (subst (λ n. IsSound (setting_of n d') h.next.ledger) (sym same) h.keeps.stands.sound.ledger) g.touches
-
-    -- the memories after the page's loads are those after all loads, with what was stored before
-    loaded-both : with_loads (setting_by d' new) h.next.world h.next.ledger here
-        ≡ world_served write p a xs (with_loads (setting_by d new) s.world s.ledger (h.events ++ here))
-    loaded-both = (λ i. with_loads (setting-same i) (h.world i) h.next.ledger here)
-        ∙ loads-served (setting_by d new) (with_loads (setting_by d mid) s.world s.ledger h.events) h.next.ledger here write p a page xs
-        (λ is. apart (length xs) (long is)) own
-        ∙ ap (world_served write p a xs) (ap (λ l. with_loads (setting_by d new) (with_loads (setting_by d mid) s.world s.ledger h.events) l here)
-        h.ledger
-        ∙ sym (with_loads-append (setting_by d new) s.world s.ledger h.events here))
-
-    touches-same : Touches (setting_by d new) h.next.world h.next.ledger write (p, page) g.added (option_map stop_of end)
-    touches-same = subst (λ m. Touches m h.next.world h.next.ledger write (p, page) g.added (option_map stop_of end)) setting-same g.touches
-
-    free-same : ChoosesAll (setting_by d new) None h.next.ledger
-        (page_events write (p, page) g.added (option_map stop_of end)) h.next.free g.next.free
-    free-same = subst (λ m. ChoosesAll m None h.next.ledger (page_events write (p, page) g.added (option_map stop_of end)) h.next.free g.next.free)
-        setting-same g.free
-
-    device-same : IsSameDevice d d''
-    device-same = device-on d d' d'' h.same g.same
-
-    wrote-both : Wrote (pages_written (notes_of (h.events ++ here))) d.history d''.history
-    wrote-both = subst (λ ns. Wrote (pages_written ns) d.history d''.history) (sym (notes_of-append h.events here))
-        (wrote-notes d.history d'.history d''.history (notes_of h.events) (notes_of here) h.wrote g.wrote)
-
-    failures-both : RoseBy (causes_of_access (notes_of (h.events ++ page_events write (p, page) g.added (option_map stop_of end))) end) d.failures
-        d''.failures
-    failures-both = subst (λ ns. RoseBy (causes_of_access ns end) d.failures d''.failures)
-        (sym (notes_of-append h.events (page_events write (p, page) g.added (option_map stop_of end))
-        ∙ ap (λ ns. notes_of h.events ++ ns) (notes-happening write (p, page) g.added (option_map stop_of end))))
-        (causes-append (notes_of h.events) g.added end d.failures d'.failures d''.failures h.failures g.failures)
-
-  -- by m bytes of the page
-  goes_on : {d'' : Device} (m : ℕ) → at + m ≤ 4096 → 1 ≤ m → IsPageStep d' d'' h.next new write p page at ys now after None
+  -- the access goes on by m bytes of the page
+  goes_on : {d'' : Device} (m : ℕ) → at + m ≤ 4096 → 1 ≤ m → IsPageStep d' d'' h.served.next new write p page at ys now after None
       → IsAccess d d'' s new write p a (k + m) (xs ++ ys) before after None (k + m)
-  goes_on m small some g = record {
-    events = h.events ++ page_events write (p, page) g.added None;
-    notes = notes-both None g.added g.notes;
-    end = Whole;
-    accesses = subst (λ pages. Accesses (setting_by d new) s.world s.ledger p pages (h.events ++ page_events write (p, page) g.added None) Whole)
-        (sym (touched-one write a k m page at behind.is small some behind.begins))
-        (accesses-both ((write, page) ∷ []) _ Whole (one_served _ h.next.world h.next.ledger write p page g.added (touches-same None g)));
-    is_end = (refl, refl);
-    next = g.next;
-    world = g.world ∙ ap (world_after write p page at ys None) (loaded-both None g) ∙ served_twice _ write p a page at xs ys
-        (λ is. behind.is ∙ ap (λ n. a + n) (sym (long is)));
-    ledger = ledger-both _ _ g.ledger;
-    free = free-both _ _ (free-same None g);
-    rmap = rmap-both _ _ g.rmap;
-    keeps = g.keeps;
-    same = device-same None g;
-    wrote = wrote-both None g;
-    failures = failures-both None g;
+  goes_on {d''} m small some g = record {
+    page = page;
+    served = with_page None (pages_of_access write a (k + m)) (world_served write p a (xs ++ ys))
+        (sym (touched-one write a k m page at behind.is small some behind.begins)) g (λ w. served_twice w write p a page at xs ys (λ is. behind.is ∙ ap (λ n. a + n) (sym (long is))));
+    is_end = refl;
   }
 
   -- or stops there
-  stops : {d'' : Device} (n : ℕ) (stop : Stop) → k < n → IsPageStep d' d'' h.next new write p page at ys now after (Some stop)
+  stops : {d'' : Device} (n : ℕ) (stop : Stop) → k < n → IsPageStep d' d'' h.served.next new write p page at ys now after (Some stop)
       → IsAccess d d'' s new write p a n xs before after (Some stop) k
-  stops n stop less g = record {
-    events = h.events ++ page_events write (p, page) g.added (Some (stop_of stop));
-    notes = notes-both (Some (stop_of stop)) g.added g.notes;
-    end = Stopped page (stop_of stop);
-    accesses = subst (λ pages. Accesses (setting_by d new) s.world s.ledger p pages
-        (h.events ++ page_events write (p, page) g.added (Some (stop_of stop)))
-        (Stopped page (stop_of stop))) (sym (touched-more write a k n page at behind.is behind.small less behind.begins))
-        (accesses-both ((write, page) ∷ map (λ page. (write, page)) (range_with_len (page + 1) (touches a n - (touches a k + 1)))) _ _
-        (one_stopped _ h.next.world h.next.ledger write p page _ g.added (stop_of stop) (touches-same (Some stop) g)));
-    is_end = (page, refl, served k behind.is behind.begins, less);
-    next = g.next;
-    world = g.world ∙ stop_answer-world write p page at ys stop _ ∙ loaded-both (Some stop) g;
-    ledger = ledger-both _ _ g.ledger;
-    free = free-both _ _ (free-same (Some stop) g);
-    rmap = rmap-both _ _ g.rmap;
-    keeps = g.keeps;
-    same = device-same (Some stop) g;
-    wrote = wrote-both (Some stop) g;
-    failures = failures-both (Some stop) g;
+  stops {d''} n stop less g = record {
+    page = page;
+    served = served-more s new p (pages_of_access write a k ++ (write, page) ∷ []) rest (pages_of_access write a n)
+        (append_assoc (pages_of_access write a k) ((write, page) ∷ []) rest
+        ∙ sym (touched-more write a k n page at behind.is behind.small less behind.begins)) (world_served write p a xs) before after stop page
+        (with_page (Some stop) (pages_of_access write a k ++ (write, page) ∷ []) (world_served write p a xs) refl g
+        (λ w. stop_answer-world write p page at ys stop (world_served write p a xs w)));
+    is_end = (served k behind.is behind.begins, less);
   }
     where
+      rest : List (Bool × ℕ)
+      rest = map (λ page. (write, page)) (range_with_len (page + 1) (touches a n - (touches a k + 1)))
+
       served : (k : ℕ) → 4096 * page + at ≡ a + k → (1 ≤ k → at ≡ 0) → k ≡ 4096 * page - a
       served zero is begins = omega (arith, is)
       served (suc k) is begins = let none : at ≡ 0 = begins (omega arith) in omega (arith, is, none)
@@ -334,18 +217,18 @@ module _ {d d' : Device} (s : State) (mid new : Mem) (write : Bool) (p a n k : �
   behind : Behind a k piece.page piece.at
   behind = behind-piece a n k piece is less begins
 
-  pub piece-served : {d'' : Device} → IsPageStep d' d'' h.next new write p piece.page piece.at ys now after end →
+  pub piece-served : {d'' : Device} → IsPageStep d' d'' h.served.next new write p piece.page piece.at ys now after end →
       ((stop : Stop) → end ≡ Some stop → ⊥) →
       (zs : List ℕ) → xs ++ ys ≡ zs → IsAccess d d'' s new write p a (k + piece.len) zs before after None (k + piece.len)
   piece-served {d''} g none zs whole = subst (λ zs. IsAccess d d'' s new write p a (k + piece.len) zs before after None (k + piece.len)) whole
       (goes_on s mid new write p a k piece.page piece.at xs ys before now after same behind h long piece.len (piece-in_page a n k piece is)
       (piece-some a n k piece is less)
-      (subst (λ end. IsPageStep d' d'' h.next new write p piece.page piece.at ys now after end) (none_left end none) g))
+      (subst (λ end. IsPageStep d' d'' h.served.next new write p piece.page piece.at ys now after end) (none_left end none) g))
 
-  pub piece-stopped : {d'' : Device} → IsPageStep d' d'' h.next new write p piece.page piece.at ys now after end → (stop : Stop) → end ≡ Some stop →
+  pub piece-stopped : {d'' : Device} → IsPageStep d' d'' h.served.next new write p piece.page piece.at ys now after end → (stop : Stop) → end ≡ Some stop →
       IsAccess d d'' s new write p a n xs before after (Some stop) k
   piece-stopped {d''} g stop some = stops s mid new write p a k piece.page piece.at xs ys before now after same behind h long n stop less
-      (subst (λ end. IsPageStep d' d'' h.next new write p piece.page piece.at ys now after end) some g)
+      (subst (λ end. IsPageStep d' d'' h.served.next new write p piece.page piece.at ys now after end) some g)
 
 -- what was shown is so after the next page's loads, and a piece that was served is shown too
 module _ {d d' : Device} (s : State) (mid new : Mem) (p a n k : ℕ) (piece : Piece) (before now after : List Note) (shown shown' : List ℕ)
@@ -354,9 +237,9 @@ module _ {d d' : Device} (s : State) (mid new : Mem) (p a n k : ℕ) (piece : Pi
   no_write : false ≡ true → length {A = ℕ} [] ≡ k
   no_write e = cc
 
-  pub read-served : {d'' : Device} → IsPageRead d' d'' h.access.next new p piece.page piece.at piece.len now after shown shown' None
+  pub read-served : {d'' : Device} → IsPageRead d' d'' h.access.served.next new p piece.page piece.at piece.len now after shown shown' None
       → IsRead d d'' s new p a (k + piece.len) before after None (k + piece.len) shown'
-  unfolding goes_on
+  unfolding goes_on with_page served-append page-served
   read-served g = record {
     access = goes_on s mid new false p a k piece.page piece.at [] [] before now after same (behind-piece a n k piece is less begins) h.access no_write
         piece.len (piece-in_page a n k piece is) (piece-some a n k piece is less) g.step;
@@ -365,23 +248,23 @@ module _ {d d' : Device} (s : State) (mid new : Mem) (p a n k : ℕ) (piece : Pi
         g.shows.4 (
           h.reads.0,
           subst (λ w. Shows (pages w p) a shown) (sym g.step.world)
-              (loads-shows (setting_by d' new) h.access.next.world h.access.next.ledger
+              (loads-shows (setting_by d' new) h.access.served.next.world h.access.served.next.ledger
               (page_events false (p, piece.page) g.step.added None) p a shown h.reads.1),
           h.reads.2,
         );
   }
 
-  pub read-stopped : {d'' : Device} (stop : Stop) → IsPageRead d' d'' h.access.next new p piece.page piece.at piece.len now after shown shown'
+  pub read-stopped : {d'' : Device} (stop : Stop) → IsPageRead d' d'' h.access.served.next new p piece.page piece.at piece.len now after shown shown'
       (Some stop)
       → IsRead d d'' s new p a n before after (Some stop) k shown'
-  unfolding stops
+  unfolding stops with_page served-more served-append page-served
   read-stopped stop g = record {
     access = stops s mid new false p a k piece.page piece.at [] [] before now after same
         (behind-piece a n k piece is less begins) h.access no_write n stop less
         g.step;
     reads = subst (Reads (pages g.step.next.world p) a k) (sym g.shows) (
       h.reads.0,
-      subst (λ w. Shows (pages w p) a shown) (sym g.step.world) (loads-shows (setting_by d' new) h.access.next.world h.access.next.ledger
+      subst (λ w. Shows (pages w p) a shown) (sym g.step.world) (loads-shows (setting_by d' new) h.access.served.next.world h.access.served.next.ledger
           (page_events false (p, piece.page) g.step.added (Some (stop_of stop))) p a shown h.reads.1),
       h.reads.2,
     );

@@ -44,7 +44,7 @@ not_refused false Follow Refuse is h = absurd (no is)
     no e = cc
 
 -- the answer of an access that stopped
-answers-stopped : (a k page : ℕ) (stop : Stop) (shown : List ℕ) → k ≡ bytes_before a page →
+pub answers-stopped : (a k page : ℕ) (stop : Stop) (shown : List ℕ) → k ≡ bytes_before a page →
     answer_of stop k shown ≡ stop_answer (stop_of stop) (bytes_before a page) shown
 answers-stopped a k page Denied shown is = ap (λ k. answers.Segv k shown) is
 answers-stopped a k page Lost shown is = ap (λ k. answers.Bus k shown) is
@@ -85,7 +85,7 @@ module _ {d : Device} (s : State) (old new : Mem) (p a : ℕ) (before notes : Li
       → answer ≡ answers.Data shown
       → RoseBy (causes (record { answer = answer; notes = notes; rows = rows })) d.failures d'.failures
       → MemSteps d d' old new s (Read p a n) (record { answer = answer; notes = notes; rows = rows })
-  read-done {d'} n shown answer read is rose = let h = read.access in record {
+  read-done {d'} n shown answer read is rose = let h = read.access.served in record {
     next = h.next;
     step = record {
       events = h.events;
@@ -93,10 +93,9 @@ module _ {d : Device} (s : State) (old new : Mem) (p a : ℕ) (before notes : Li
         answer = not_refused (lives s.world p) _ _ lived (
           Whole,
           shown,
-          subst (λ end. Accesses (setting_by d old) s.world s.ledger p (pages_of_access false a n) h.events end) h.is_end.0
-              (subst (λ m. Accesses (setting_of m d) s.world s.ledger p (pages_of_access false a n) h.events h.end) same h.accesses),
+          subst (λ m. Accesses (setting_of m d) s.world s.ledger p (pages_of_access false a n) h.events Whole) same h.accesses,
           subst (λ w. Reads (pages w p) a n shown) (h.world ∙ loads-same h.events)
-              (subst (λ k. Reads (pages h.next.world p) a k shown) h.is_end.1 read.reads),
+              (subst (λ k. Reads (pages h.next.world p) a k shown) read.access.is_end read.reads),
           is,
           none,
         );
@@ -118,19 +117,19 @@ module _ {d : Device} (s : State) (old new : Mem) (p a : ℕ) (before notes : Li
       answer ≡ answer_of stop k shown
       → RoseBy (causes (record { answer = answer; notes = notes; rows = rows })) d.failures d'.failures
       → MemSteps d d' old new s (Read p a n) (record { answer = answer; notes = notes; rows = rows })
-  read-stopped {d'} n shown answer stop read is rose = let h = read.access in record {
+  read-stopped {d'} n shown answer stop read is rose = let h = read.access.served in record {
     next = h.next;
     step = record {
       events = h.events;
       legal = record {
         answer = not_refused (lives s.world p) _ _ lived (
-          Stopped h.is_end.0 (stop_of stop),
+          Stopped read.access.page (stop_of stop),
           shown,
-          subst (λ end. Accesses (setting_by d old) s.world s.ledger p (pages_of_access false a n) h.events end) h.is_end.1
-              (subst (λ m. Accesses (setting_of m d) s.world s.ledger p (pages_of_access false a n) h.events h.end) same h.accesses),
-          subst (λ w. Reads (pages w p) a (bytes_before a h.is_end.0) shown) (h.world ∙ loads-same h.events)
-              (subst (λ k. Reads (pages h.next.world p) a k shown) h.is_end.2 read.reads),
-          is ∙ answers-stopped a k h.is_end.0 stop shown h.is_end.2,
+          subst (λ m. Accesses (setting_of m d) s.world s.ledger p (pages_of_access false a n) h.events (Stopped read.access.page (stop_of stop)))
+              same h.accesses,
+          subst (λ w. Reads (pages w p) a (bytes_before a read.access.page) shown) (h.world ∙ loads-same h.events)
+              (subst (λ k. Reads (pages h.next.world p) a k shown) read.access.is_end.0 read.reads),
+          is ∙ answers-stopped a k read.access.page stop shown read.access.is_end.0,
           none,
         );
         notes = alone h.events h.notes;
@@ -151,21 +150,20 @@ module _ {d : Device} (s : State) (old new : Mem) (p a : ℕ) (before notes : Li
       → answer ≡ answers.Done
       → RoseBy (causes (record { answer = answer; notes = notes; rows = rows })) d.failures d'.failures
       → MemSteps d d' old new s (Write p a bytes) (record { answer = answer; notes = notes; rows = rows })
-  write-done {d'} bytes answer h is rose = record {
+  write-done {d'} bytes answer access is rose = let h = access.served in record {
     next = h.next;
     step = record {
       events = h.events;
       legal = record {
         answer = not_refused (lives s.world p) _ _ lived (
           Whole,
-          subst (λ end. Accesses (setting_by d old) s.world s.ledger p (pages_of_access true a (length bytes)) h.events end) h.is_end.0
-              (subst (λ m. Accesses (setting_of m d) s.world s.ledger p (pages_of_access true a (length bytes)) h.events h.end) same h.accesses),
+          subst (λ m. Accesses (setting_of m d) s.world s.ledger p (pages_of_access true a (length bytes)) h.events Whole) same h.accesses,
           is,
           none,
         );
         notes = alone h.events h.notes;
       };
-      world = h.world ∙ (λ i. after_write (loads-same h.events i) p a ((ap (λ k. take k bytes) h.is_end.1 ∙ take-length bytes) i))
+      world = h.world ∙ (λ i. after_write (loads-same h.events i) p a ((ap (λ k. take k bytes) access.is_end ∙ take-length bytes) i))
           ∙ ap (next (with_loads (setting_by d old) s.world s.ledger h.events) (Write p a bytes)) (sym is);
       ledger = h.ledger;
       free = subst (λ m. ChoosesAll (setting_of m d) None s.ledger h.events s.free h.next.free) same h.free;
@@ -183,16 +181,16 @@ module _ {d : Device} (s : State) (old new : Mem) (p a : ℕ) (before notes : Li
       answer ≡ answer_of stop k []
       → RoseBy (causes (record { answer = answer; notes = notes; rows = rows })) d.failures d'.failures
       → MemSteps d d' old new s (Write p a bytes) (record { answer = answer; notes = notes; rows = rows })
-  write-stopped {d'} bytes answer stop h is rose = record {
+  write-stopped {d'} bytes answer stop access is rose = let h = access.served in record {
     next = h.next;
     step = record {
       events = h.events;
       legal = record {
         answer = not_refused (lives s.world p) _ _ lived (
-          Stopped h.is_end.0 (stop_of stop),
-          subst (λ end. Accesses (setting_by d old) s.world s.ledger p (pages_of_access true a (length bytes)) h.events end) h.is_end.1
-              (subst (λ m. Accesses (setting_of m d) s.world s.ledger p (pages_of_access true a (length bytes)) h.events h.end) same h.accesses),
-          is ∙ answers-stopped a k h.is_end.0 stop [] h.is_end.2,
+          Stopped access.page (stop_of stop),
+          subst (λ m. Accesses (setting_of m d) s.world s.ledger p (pages_of_access true a (length bytes)) h.events (Stopped access.page (stop_of stop)))
+              same h.accesses,
+          is ∙ answers-stopped a k access.page stop [] access.is_end.0,
           none,
         );
         notes = alone h.events h.notes;
@@ -236,7 +234,7 @@ module _ {d : Device} (s : State) (old new : Mem) (p a : ℕ) (before notes : Li
       answer ≡ answer_at stop (answers.Data shown) k shown → MemSteps d d' old new s (Read p a n)
       (record { answer = answer; notes = notes; rows = rows })
   read-ended {d'} n shown answer stop h is = by stop h is
-      (rose-ended d' stop (answers.Data shown) answer shown h.access.events refl refl is h.access.notes h.access.failures)
+      (rose-ended d' stop (answers.Data shown) answer shown h.access.served.events refl refl is h.access.served.notes h.access.served.failures)
     where
       by : (stop : Option Stop) → IsRead d d' s new p a n before notes stop k shown → answer ≡ answer_at stop (answers.Data shown) k shown →
           RoseBy (causes (record { answer = answer; notes = notes; rows = rows })) d.failures d'.failures
@@ -248,7 +246,7 @@ module _ {d : Device} (s : State) (old new : Mem) (p a : ℕ) (before notes : Li
       (take k bytes) before notes stop k →
       answer ≡ answer_at stop answers.Done k []
       → MemSteps d d' old new s (Write p a bytes) (record { answer = answer; notes = notes; rows = rows })
-  write-ended {d'} bytes answer stop h is = by stop h is (rose-ended d' stop answers.Done answer [] h.events refl refl is h.notes h.failures)
+  write-ended {d'} bytes answer stop h is = by stop h is (rose-ended d' stop answers.Done answer [] h.served.events refl refl is h.served.notes h.served.failures)
     where
       by : (stop : Option Stop) → IsAccess d d' s new true p a (length bytes) (take k bytes) before notes stop k
           → answer ≡ answer_at stop answers.Done k [] →

@@ -4,5 +4,7 @@ pub mod PageShown
 pub mod AccessPages
 pub mod AccessBytes
 pub mod AccessLoads
+pub mod ServedLaws
 pub mod AccessParts
 pub mod AccessSteps
+pub mod LockTurns

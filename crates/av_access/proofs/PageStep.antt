@@ -28,7 +28,7 @@ use Rattle.av_mem.specs.Mem.{setting_by, sizes_of, frame_count, view}
 use Rattle.av_mem.proofs.KeepsLaws.{serves-keeps, state_by}
 use Rattle.av_fault.specs.declared.fault.Stop.{Stop}
 use Rattle.av_fault.specs.declared.fault.Stop.TheVariants.{Denied, Lost, Starved}
-use Rattle.av_fault.specs.declared.fault.Touched.TheVariants.{Ready, Stopped}
+use Rattle.av_fault.specs.declared.fault.Touched.TheVariants.{Ready, Stopped, Zeros}
 use Rattle.av_fault.specs.Fault.{IsServed, IsTouched, failed_by, lost_by, stop_of}
 use Rattle.av_access.specs.Access.{causes_of_access}
 use Rattle.av_access.specs.Page.{IsPageRead, IsPageStep, ShowsPiece, world_after}
@@ -106,6 +106,20 @@ module _ {d d' : Device} (s : State) (p page at : ℕ) (piece : List ℕ) (befor
       still : (write : Bool) (w : World) → w ≡ world_after write p page at piece (Some stop) w
       still true w = refl
       still false w = refl
+
+-- it was served, and no byte of it is read or stored
+module _ {d d' : Device} (s : State) (p page : ℕ) (before now : List Note) (same : IsSameDevice d d') (new : Mem) (write : Bool) where
+  bare : (write : Bool) (w : World) → w ≡ world_after write p page 0 [] None w
+  bare true w = refl
+  bare false w = refl
+
+  pub ready_served : (f : ℕ) → IsTouched d d' s new write (p, page) before now (Ready f) → IsPageStep d d' s new write p page 0 [] before now None
+  ready_served f t = unwritten s p page 0 [] before now same new write t.added None t.noted.notes t.touches t.served (bare write)
+      (rose-served t.added d.failures d'.failures t.noted.failures)
+
+  pub zeros_served : IsTouched d d' s new write (p, page) before now Zeros → IsPageStep d d' s new write p page 0 [] before now None
+  zeros_served t = unwritten s p page 0 [] before now same new write t.added None t.noted.notes t.touches t.served (bare write)
+      (rose-served t.added d.failures d'.failures t.noted.failures)
 
 -- the memories after the loads of a page that was read
 abbrev pub loaded : Device → State → Mem → ℕ → ℕ → List Note → World

@@ -32,11 +32,11 @@ struct Piece {
 
 /// How an access ended.
 #[derive(Clone, Copy, Drop)]
-struct AccessEnd {
+pub(crate) struct AccessEnd {
     /// What stopped it before its last byte, if anything did.
-    stop: Option<Stop>,
+    pub(crate) stop: Option<Stop>,
     /// How many bytes were served.
-    served: usize,
+    pub(crate) served: usize,
 }
 
 /// Does a `read`: the bytes, or those before the page at which it stops. They take the memory of
@@ -191,7 +191,7 @@ fn read_answer(end: AccessEnd, shown: Bytes) -> Answer
 
 /// The answer of a write.
 #[inline(always)]
-fn write_answer(alloc: Global, end: AccessEnd) -> Answer
+pub(crate) fn write_answer(alloc: Global, end: AccessEnd) -> Answer
     ensures { result ≡ answer_at end.stop answers.Done end.served [] }
 {
     match end.stop {

@@ -9,6 +9,8 @@
 #![tactic(auto)]
 
 mod access;
+mod lock;
 mod page;
 
 pub use access::{read, write};
+pub use lock::bring_in;

@@ -1,7 +1,7 @@
 //! Reads and writes of a piece of one page.
 
 ghost use Rattle.std.specs.Prelude.{◌≡◌, ◌+◌, ◌^◌, ◌<◌, ◌≤◌, length, true, replicate, ◌++◌, IfOk};
-ghost use Rattle.std.specs.Prelude.{OnOk};
+ghost use Rattle.std.specs.Prelude.{OnOk, []};
 ghost use Rattle.std.specs.List.{AllByRecursion};
 ghost use Rattle.av_base.specs.Page.{page_size};
 ghost use Rattle.av_plain.specs.Device.{IsSameDevice, seen_by};
@@ -82,6 +82,31 @@ pub fn read_page<D: SwapDev>(
             append_zeros(shown, len)?;
             Ok(None)
         }
+        Touched::Stopped(stop) => Ok(Some(stop)),
+    }
+}
+
+/// Accesses a page, and leaves its bytes; adds the notes of what it took. None where it is served.
+pub fn serve_page<D: SwapDev>(
+    mem: &mut Mem,
+    dev: &mut D,
+    process: u16,
+    page: u64,
+    write: bool,
+    notes: &mut Notes,
+) -> Result<Option<Stop>, AllocError>
+    requires steady { IsSteadyFor (D.sizes dev.old) process mem.old }
+    ensures step { let d = seen_by D.sizes D.pages D.failures D.history in (s : State)
+        → Keeps (d dev.old) mem.old s → IfOk result
+        (IsPageStep (d dev.old) (d dev.new) s mem.new write process page 0 [] notes.old notes.new) }
+    ensures steady { IfOk result (λ stop. IsSteadyFor (D.sizes dev.old) process mem.new) }
+    ensures same { let d = seen_by D.sizes D.pages D.failures D.history in
+        IsSameDevice (d dev.old) (d dev.new) }
+    ensures count { frame_count mem.new ≡ frame_count mem.old }
+{
+    match touch(mem, dev, process, page, write, notes)? {
+        Touched::Ready(_frame) => Ok(None),
+        Touched::Zeros => Ok(None),
         Touched::Stopped(stop) => Ok(Some(stop)),
     }
 }

@@ -1,5 +1,5 @@
 -- A page comes in whose entry names a slot: the slot's page is in a frame, and the entry names that.
-use Rattle.std.proofs.Common.{◌≡◌, ℕ, ◌+◌, ◌-◌, ◌^◌, ◌<◌, Bool, true, false, cond, List, [], ◌∷◌, ◌++◌, Option, Some, None, IfSome, is_some, refl, sym, ap, subst, ◌∙◌, arith}
+use Rattle.std.proofs.Common.{◌≡◌, ℕ, ◌-◌, ◌^◌, ◌<◌, Bool, true, false, cond, List, [], ◌∷◌, ◌++◌, Option, Some, None, IfSome, is_some, refl, sym, ap, subst, ◌∙◌, arith}
 use Rattle.std.specs.Prelude.{IsSome, MatchOption, Err, Ok, Result, option_map, slice_index}
 use Rattle.av_base.specs.Keys.{Key}
 use Rattle.av_base.proofs.Keys.{same_key-itself}

@@ -284,11 +284,12 @@ module _ {d : Device} (old new : Mem) (s : State) (p a len locked hole : ℕ) (a
       let areas = areas_so old new s p (λ on. on) keeps
       (subst (λ (x : AllSpaces). GetsAreas old.spaces.processes x.processes p (areas_on old.spaces.processes p)) (sym same) (unplaced old.spaces.processes p)) in
       let spaces = subst (λ (x : AllSpaces). GetsMarks old.spaces.processes x.processes p marks) (sym same) (stays old s p keeps alive) in
-      changed old new s (Madvise p a len advice) (noted answer (notes_of zapped_events)) p given_up (s.areas p) (after_all s.ledger zapped_events)
+      changed old new s p given_up (s.areas p) (after_all s.ledger zapped_events)
       keeps stay rest.parts.count rest.parts.swap taken.stands rest.bytes rest.homes (taken.items s.items keeps.stands.items)
       (λ q page other. entries q page ∙ ap (λ b. cond (b && within from n page) None (entry s.ledger (q, page))) other)
       (zaps-cached (setting_by d old) s.ledger ks keeps.stands.sound.ledger) kept (zaps-reach s.ledger (rmap_of s) ks (reach_of old s keeps))
       (λ page h there is. is)
+      (Madvise p a len advice) (noted answer (notes_of zapped_events))
       (record {
         events = zapped_events;
         legal = record {

@@ -1,10 +1,14 @@
 -- Pages of a process get another protection, or a flag, or lose it; their entries stay.
 use Rattle.std.proofs.Common.{◌≡◌, ℕ, ◌-◌, Bool, true, false, cond, slice_index, List, Option, Some, None, is_some, option_map, refl, sym, ap, subst, ◌∙◌, arith, ◌==◌}
 use Rattle.std.proofs.lemmas.Bool.Decides.{nat_tests}
-use Rattle.std.specs.Prelude.{IfSome}
-use Rattle.av_base.specs.Words.{with_at, within}
+use Rattle.std.proofs.lemmas.Bool.{false≢true}
+use Rattle.std.proofs.lemmas.Option.{same_Some}
+use Rattle.std.specs.Prelude.{IfSome, IsSome, IsSomeAnd}
+use Rattle.av_base.specs.Words.{is_in, with_at, within}
 use Rattle.av_base.specs.declared.flags.Flag.{Flag}
 use Rattle.av_base.specs.declared.prot.Prot.{Prot}
+use Rattle.av_vma.specs.Index.{index_of}
+use Rattle.av_vma.specs.declared.area.Area.{Area}
 use Rattle.av_vma.specs.Pages.{Effect, home_of, pages_changed, to_flag, to_prot}
 use Rattle.av_vma.proofs.Homes.{KeepsHomes}
 use Rattle.av_anon.specs.declared.anons.Anons.{Anons as AnonSet}
@@ -16,7 +20,8 @@ use Rattle.av_spaces.specs.Spaces.{AllSpaces, AreThese, IsChanged, pages_of as a
 use Rattle.av_spaces.proofs.Kin.{stay_same}
 use Rattle.av_trace.specs.declared.command.Command.{Command}
 use Rattle.av_trace.specs.declared.reply.Reply.{Reply}
-use Rattle.av_plain.specs.Areas.{AreLeft, chain_length}
+use Rattle.av_plain.specs.Areas.{AnonVma, Anons, AreLeft, Areas, IsLinked, chain_by, chain_length}
+use Rattle.av_plain.specs.Choice.{ListsAll}
 use Rattle.av_plain.specs.Device.{Device}
 use Rattle.av_plain.specs.Ledger.{Entry, InFrame, InSlot, Zero, entry, frame_at}
 use Rattle.av_plain.specs.Mremap.{marks_at}
@@ -25,10 +30,12 @@ use Rattle.av_plain.specs.Transcript.{IsStep, State}
 use Rattle.av_plain.specs.World.{Holds, Page, Process, pages, with_change_on, with_page_flag, with_prot}
 use Rattle.av_mem.specs.declared.mem.Mem.{Mem}
 use Rattle.av_mem.specs.Mem.{ranges_of, setting_by, view, Keeps}
+use Rattle.av_plain.proofs.Sound.{change-sound}
+use Rattle.av_mem.proofs.MemLaws.{alive_is, lives_is}
 use Rattle.av_mem.proofs.AnonLaws.{are_left, left_of, lengths_alike}
 use Rattle.av_step.specs.Step.{StepsBeside}
 use Rattle.av_step.proofs.CacheLeft.{cached-itself}
-use Rattle.av_step.proofs.StepLaws.{changed, moved_on, orderly, reach_of, state_after, stays_orderly, swap_alike, swap_itself}
+use Rattle.av_step.proofs.StepLaws.{changed, changed-keeps, is_number, left_alone, moved_on, orderly, reach_of, state_after, stays_orderly, swap_alike, swap_itself}
 use Rattle.av_kernel.specs.Map.{changed_on, marks_on, marks_with, GetsAreas, GetsMarks}
 use Rattle.av_kernel.proofs.MapMarks.{changed-homes, changed-marks, gets_areas, marks_kept, page_marks}
 use Rattle.av_kernel.proofs.MapSteps.{areas_changed, areas_so, re_areas, tables_kept}
@@ -71,6 +78,46 @@ prot_effect prot = record { marks = λ x. refl; bytes = λ x. refl }
 
 pub flag_effect : (flag : Flag) (set : Bool) → IsEffect (to_flag flag set) (with_page_flag flag set)
 flag_effect flag set = record { marks = λ x. refl; bytes = λ x. refl }
+
+-- ---- anon_vmas
+
+-- where the areas of all pages go on to have their anon_vmas, each anon_vma that was linked stays
+pub none_goes : (anons left : Anons) (on now : Areas) → ((v : ℕ) → IsSome (anons.anon v) → IsLinked anons on v)
+    → ((p page : ℕ) (home : ℕ × ℕ) → home_of page (on p page) ≡ Some home → home_of page (now p page) ≡ Some home)
+    → AreLeft anons now left → left ≡ anons
+none_goes anons left on now there homes h = λ i. record { next = h.next i; anon = λ v. same v (anons.anon v) refl i }
+  where
+    -- the area of a page that has its anon_vma still is linked as before
+    still : (v page own : ℕ) (index : ℕ) (o : Option Area) → home_of page o ≡ Some (own, index) → is_in v (chain_by anons (Some own)) ≡ true
+        → IsSomeAnd o (λ area. is_in v (chain_by anons area.anon) ≡ true)
+    still v page own index None home is = absurd (false≢true (ap is_some home))
+    still v page own index (Some area) home is = by area.anon home
+      where
+        by : (a : Option ℕ) → option_map {U = ℕ × ℕ} (λ (own : ℕ). (own, index_of area page)) a ≡ Some (own, index) → is_in v (chain_by anons a) ≡ true
+        by None e = absurd (false≢true (ap is_some e))
+        by (Some b) e = ap (λ b. is_in v (chain_by anons (Some b))) (ap (λ (x : ℕ × ℕ). x.0) (same_Some (b, index_of area page) (own, index) e)) ∙ is
+
+    linked : (v : ℕ) → IsLinked anons on v → IsLinked anons now v
+    linked v x = (x.0, x.1, by (on x.0 x.1) refl x.2)
+      where
+        by : (o : Option Area) → on x.0 x.1 ≡ o → IsSomeAnd o (λ area. is_in v (chain_by anons area.anon) ≡ true)
+            → IsSomeAnd (now x.0 x.1) (λ area. is_in v (chain_by anons area.anon) ≡ true)
+        by None e is = absurd is
+        by (Some area) e is = own area.anon refl is
+          where
+            own : (a : Option ℕ) → area.anon ≡ a → is_in v (chain_by anons a) ≡ true
+                → IsSomeAnd (now x.0 x.1) (λ area. is_in v (chain_by anons area.anon) ≡ true)
+            own None f is = absurd (false≢true is)
+            own (Some a) f is = still v x.1 a (index_of area x.1) (now x.0 x.1)
+                (homes x.0 x.1 (a, index_of area x.1) (ap (home_of x.1) e ∙ ap (option_map {U = ℕ × ℕ} (λ (own : ℕ). (own, index_of area x.1))) f)) is
+
+    same : (v : ℕ) (o : Option AnonVma) → anons.anon v ≡ o → left.anon v ≡ anons.anon v
+    same v (Some x) e = h.linked v (linked v (there v (ap is_some e)))
+    same v None e = none (left.anon v) refl ∙ sym e
+      where
+        none : (o : Option AnonVma) → left.anon v ≡ o → left.anon v ≡ None
+        none None f = f
+        none (Some y) f = absurd (false≢true (sym (ap is_some (h.linked v (h.there v (ap is_some f)) ∙ e)) ∙ ap is_some f))
 
 -- ---- the step
 
@@ -140,15 +187,48 @@ module _ {d : Device} (old : Mem) (spaces : AllSpaces) (anons : AnonSet) (s : St
       itself : (p : ℕ) → (p == p) ≡ true
       itself p = grind (arith, nat_tests)
 
+  -- what there is then
+  abbrev pub state_changed : State
+  state_changed = state_after s p (with_change_on (pages s.world p) from n change)
+      (pages_changed (chain_length s.anons) effect from n (s.areas p)) s.ledger (free_of (view old)) anons
+
   pub change-steps : (command : Command) (reply : Reply)
-      → IsStep (setting_by d old) s command reply (state_after s p (with_change_on (pages s.world p) from n change)
-      (pages_changed (chain_length s.anons) effect from n (s.areas p)) s.ledger (free_of (view old)) anons)
+      → IsStep (setting_by d old) s command reply state_changed
       → StepsBeside d old (moved_on old old.tables spaces anons) s command reply
   change-steps command reply step =
       let now : Process = with_change_on (pages s.world p) from n change in
       let new = moved_on old old.tables spaces anons in
       let marks = changed_on from n effect (marks_on (areas_on old.spaces.processes p)) in
-      changed old new s command reply p now (pages_changed (chain_length s.anons) effect from n (s.areas p)) s.ledger keeps are.stays refl
+      changed old new s p now (pages_changed (chain_length s.anons) effect from n (s.areas p)) s.ledger keeps are.stays refl
       (swap_alike old old old new refl refl (swap_itself old)) (stays_orderly d old old.tables spaces anons s.ledger refl (orderly old s keeps)) refl refl
       keeps.stands.items (λ q page other. refl) (cached-itself s.ledger) kept (reach_of old s keeps) (λ page h there is. home page h is)
-      step now_on (areas_changed old new s p now marks keeps alive are.marks covered) (tables_kept old new s p now marks keeps alive are.marks covered refl)
+      command reply step now_on (areas_changed old new s p now marks keeps alive are.marks covered)
+      (tables_kept old new s p now marks keeps alive are.marks covered refl)
+
+  -- the kernel stands for it, where the change is a part of a command
+  pub change-keeps : Keeps d (moved_on old old.tables spaces anons) state_changed
+  change-keeps =
+      let now : Process = with_change_on (pages s.world p) from n change in
+      let new = moved_on old old.tables spaces anons in
+      let marks = changed_on from n effect (marks_on (areas_on old.spaces.processes p)) in
+      changed-keeps old new s p now (pages_changed (chain_length s.anons) effect from n (s.areas p)) s.ledger keeps are.stays refl
+      (swap_alike old old old new refl refl (swap_itself old)) (stays_orderly d old old.tables spaces anons s.ledger refl (orderly old s keeps)) refl refl
+      keeps.stands.items (λ q page other. refl) (cached-itself s.ledger) kept (reach_of old s keeps) (λ page h there is. home page h is)
+      (change-sound (setting_by d old) s.world s.ledger p from n change keeps.stands.sound
+      (sym (lives_is d old s keeps p) ∙ sym (alive_is old.spaces.processes p) ∙ alive))
+      (subst (ListsAll (setting_by d old) s.ledger) (sym keeps.stands.free) keeps.stands.lists)
+      now_on (areas_changed old new s p now marks keeps alive are.marks covered) (tables_kept old new s p now marks keeps alive are.marks covered refl)
+
+  -- each area goes on to have its anon_vma, alone or as a part of one that is joined: so no anon_vma goes
+  pub none_left_out : left_of anons s.anons ≡ s.anons
+  none_left_out = none_goes s.anons (left_of anons s.anons) s.areas (with_at p (pages_changed (chain_length s.anons) effect from n (s.areas p)) s.areas)
+      (left_alone old s keeps).there homes_on anons_left
+    where
+      homes_on : (q page : ℕ) (h : ℕ × ℕ) → home_of page (s.areas q page) ≡ Some h
+          → home_of page (with_at p (pages_changed (chain_length s.anons) effect from n (s.areas p)) s.areas q page) ≡ Some h
+      homes_on q page h there = by (q == p) refl
+        where
+          by : (b : Bool) → (q == p) ≡ b
+              → home_of page ((cond b (pages_changed (chain_length s.anons) effect from n (s.areas p)) (s.areas q)) page) ≡ Some h
+          by true e = home page h (ap (λ q. home_of page (s.areas q page)) (sym (is_number q p e)) ∙ there)
+          by false e = there

@@ -8,4 +8,5 @@ pub mod MremapRefusals
 pub mod MremapLaws
 pub mod MremapGoes
 pub mod AdviceLaws
+pub mod LockLaws
 pub mod TallyCounts

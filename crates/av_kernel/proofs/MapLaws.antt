@@ -301,8 +301,9 @@ module _ {d : Device} (old new : Mem) (s : State) (command : Command) (reply : R
       → ShowsAreas s.areas s.anons command reply.answer reply.rows → StepsBeside d old new s command reply
   replaced-steps plain open_all legal loads world areas_next shows =
       let now : Process = with_pages (pages s.world p) page n (λ _. o) in
-      changed old new s command reply p now on (after_all s.ledger events) keeps stay same_count swap taken.stands bytes homes
+      changed old new s p now on (after_all s.ledger events) keeps stay same_count swap taken.stands bytes homes
       (taken.items s.items keeps.stands.items) (λ q at other. entries q at ∙ ap (λ b. cond (b && within page n at) None (entry s.ledger (q, at))) other) cached kept reach home
+      command reply
       (record {
         events = events;
         legal = legal;

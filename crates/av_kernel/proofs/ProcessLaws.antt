@@ -185,12 +185,12 @@ module _ {d : Device} (old : Mem) (tables : ProcessTables) (spaces : AllSpaces) 
   no_entry page there = false≢true (sym (ap is_some (no_entries s.world s.ledger p keeps.stands.sound.at_pages dead_before page)) ∙ there)
 
   pub spawned-steps : StepsBeside d old (moved_on old tables spaces old.anons) s (Spawn p) (answer_only Done)
-  spawned-steps = changed old (moved_on old tables spaces old.anons) s (Spawn p) (answer_only Done) p no_pages none_on s.ledger keeps stay refl
+  spawned-steps = changed old (moved_on old tables spaces old.anons) s p no_pages none_on s.ledger keeps stay refl
       (swap_alike old old old (moved_on old tables spaces old.anons) refl refl (swap_itself old))
       (stays_orderly d old tables spaces old.anons s.ledger entries (orderly old s keeps))
       refl refl keeps.stands.items
       (λ q page other. refl) (cached-itself s.ledger) (λ page. kept-nothing d (view old) s.ledger (entry s.ledger (p, page))) (reach_of old s keeps)
-      (λ page home there is. absurd (no_entry page there)) spawn-step spawn-on spawn-areas spawn-tables
+      (λ page home there is. absurd (no_entry page there)) (Spawn p) (answer_only Done) spawn-step spawn-on spawn-areas spawn-tables
 
 -- ---- exit: the memories
 

@@ -16,6 +16,7 @@
 
 mod advice;
 mod kernel;
+mod lock;
 mod map;
 mod mremap;
 mod process;

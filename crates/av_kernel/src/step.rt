@@ -11,6 +11,7 @@ ghost use Rattle.av_step.specs.Step.{Does, DoesBeside, MemSteps, reply_in, sizes
 ghost use Rattle.av_kernel.specs.Step.{has_device, is_of_pages};
 
 use crate::advice::madvise;
+use crate::lock::{mlock, munlock};
 use crate::map::{mmap, mprotect, munmap};
 use crate::mremap::mremap;
 use crate::process::{exit, fork, spawn};
@@ -101,6 +102,11 @@ fn dispatch<D: SwapDev>(
             address,
             bytes,
         } => write(mem, dev, alloc, *process, *address, bytes.as_slice(), reply),
+        Command::Mlock {
+            process,
+            address,
+            len,
+        } => mlock(mem, dev, alloc, *process, *address, *len, reply),
         Command::Reclaim { frames } => reclaim(mem, dev, *frames, reply),
         Command::Age { frames } => age(mem, dev, *frames, reply),
         Command::Complete { slots } => complete(mem, dev, *slots, reply),
@@ -181,6 +187,11 @@ fn map_or_change(mem: &mut Mem, command: &Command, reply: &mut Reply) -> Result<
             len,
             advice,
         } => madvise(mem, *process, *address, *len, *advice, reply),
+        Command::Munlock {
+            process,
+            address,
+            len,
+        } => munlock(mem, *process, *address, *len, reply),
         _ => unreachable!(),
     }
 }

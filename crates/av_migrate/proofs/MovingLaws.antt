@@ -102,7 +102,7 @@ gone-view old new from to keys g steady are = λ i. view_of_parts (g.frames i) (
   where
     tables : ◌≡◌ {A = ℕ → ℕ → Option Plain} (λ p page. plain (entry_at new.tables p page))
         (λ p page. option_map (pte_moved from to) ((view old).table p page))
-    tables = ap (λ (t : ℕ → ℕ → Pte) (p page : ℕ). plain (t p page)) g.entries
+    tables = ap {B = ℕ → ℕ → Option Plain} (λ (t : ℕ → ℕ → Pte) (p page : ℕ). plain (t p page)) g.entries
         ∙ moved-tables steady.0 old steady.1 steady.2 from to keys (are steady.0 steady.1 steady.2)
 
     spaces : new.spaces ≡ old.spaces

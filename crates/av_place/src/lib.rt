@@ -9,9 +9,11 @@
 #![tactic(auto)]
 
 mod advice;
+mod lock;
 mod mremap;
 mod place;
 
 pub use advice::{first_hole, first_locked, is_bad_range};
+pub use lock::{ends_too_high, locks_too_many, pages_met};
 pub use mremap::{check_indices, check_remap, find_target, leaves_old};
 pub use place::{check_protect, find_gap, find_place, is_no_range, is_too_long};

@@ -22,7 +22,7 @@ fn is_stopped(alloc: Global, mem: &mut Mem) -> Result<bool, AllocError>
     let mut notes = Notes::new(alloc);
     let mut dev = MemDev::new(Vec::new(alloc), Vec::new(alloc));
     let touched = touch(mem, &mut dev, 1, 16, true, &mut notes)?;
-    Ok(touched == Touched::Stopped(Stop::Segv) && mem.frames.free() == 2)
+    Ok(touched == Touched::Stopped(Stop::Denied) && mem.frames.free() == 2)
 }
 
 /// The same in one.

@@ -282,6 +282,53 @@ reach_of {d} k s keeps = record {
   merged = keeps.stands.merged;
 }
 
+-- the kernel stands for a state that is sound, and in which what is free is listed
+pub keeps-next : {d : Device} (old new : Mem) (s next : State) → Keeps d old s → AllSound (setting_by d old) next.world next.ledger
+    → ListsAll (setting_by d old) next.ledger next.free →
+    frame_count new ≡ frame_count old → KeepsSwap old new → HasLedger d new next.ledger → free_of (view new) ≡ next.free
+    → AreasAre (view new) next.areas → AnonsStand (view new) next.areas next.anons → HomesAre (view new) next.homes
+    → ItemsAre (view new) next.ledger next.items → AllCovered next.ledger (rmap_of next) →
+    AnonsFit new.spaces new.anons → AreasStand (view new) next.world → HasTables new → BytesStand (view new) d next.world next.ledger
+    → Keeps d new next
+keeps-next {d} old new s next keeps sound lists same_count swap stands free areas_now anons_now homes_now items_now covered fit areas tables bytes = record {
+  stands = record {
+    over = record { sizes = refl; headers = refl };
+    sound = subst (λ n. AllSound (setting_of n d) next.world next.ledger) (sym same_count) sound;
+    parts = record { ledger = stands.parts; areas = areas; bytes = bytes; headers = headers };
+    free = free;
+    lists = subst (λ n. ListsAll (setting_of n d) next.ledger next.free) (sym same_count) lists;
+    areas = areas_now;
+    anons = anons_now;
+    homes = homes_now;
+    items = items_now;
+    reach = covered.frames;
+    slots = covered.slots;
+    merged = covered.merged;
+  };
+  lists = stands.lists;
+  items = stands.items;
+  tables = tables;
+  anons = fit;
+  swap = fits-kept d None old new swap same_count keeps.swap;
+}
+  where
+    same_on : next.ledger.on ≡ s.ledger.on
+    same_on = sym stands.parts.swap.on ∙ areas-kept old new swap ∙ keeps.stands.parts.ledger.swap.on
+
+    headers : HeadersStand (setting_by d new) next.ledger
+    headers k = subst (λ (on : List (ℕ × SwapArea)). IfSome (find nat_cmp k on)
+        (λ area. IfSome (setting_by d new).headers (λ headers. IsSomeAnd (headers k) (HasNumbers area)))) (sym same_on) (keeps.stands.parts.headers k)
+
+-- so it does for what a step leaves
+after-sound : {d : Device} (old : Mem) (s next : State) (command : Command) (reply : Reply) → Keeps d old s
+    → IsStep (setting_by d old) s command reply next → AllSound (setting_by d old) next.world next.ledger
+after-sound {d} old s next command reply keeps step = step-sound (setting_by d old) s command reply next keeps.stands.sound step
+
+after-lists : {d : Device} (old : Mem) (s next : State) (command : Command) (reply : Reply) → Keeps d old s
+    → IsStep (setting_by d old) s command reply next → ListsAll (setting_by d old) next.ledger next.free
+after-lists {d} old s next command reply keeps step =
+    step-lists (setting_by d old) s command reply next (setting-layouts (frame_count old) d) keeps.stands.sound keeps.stands.lists step
+
 pub stepped : {d : Device} (old new : Mem) (s next : State) (command : Command) (reply : Reply) → Keeps d old s
     → IsStep (setting_by d old) s command reply next →
     frame_count new ≡ frame_count old → KeepsSwap old new → HasLedger d new next.ledger → free_of (view new) ≡ next.free
@@ -293,37 +340,9 @@ stepped {d} old new s next command reply keeps step same_count swap stands free 
     tables bytes = record {
       next = next;
       step = step;
-      keeps = record {
-        stands = record {
-          over = record { sizes = refl; headers = refl };
-          sound = subst (λ n. AllSound (setting_of n d) next.world next.ledger) (sym same_count)
-              (step-sound (setting_by d old) s command reply next keeps.stands.sound step);
-          parts = record { ledger = stands.parts; areas = areas; bytes = bytes; headers = headers };
-          free = free;
-          lists = subst (λ n. ListsAll (setting_of n d) next.ledger next.free) (sym same_count)
-              (step-lists (setting_by d old) s command reply next (setting-layouts (frame_count old) d) keeps.stands.sound keeps.stands.lists step);
-          areas = areas_now;
-          anons = anons_now;
-          homes = homes_now;
-          items = items_now;
-          reach = covered.frames;
-          slots = covered.slots;
-          merged = covered.merged;
-        };
-        lists = stands.lists;
-        items = stands.items;
-        tables = tables;
-        anons = fit;
-        swap = fits-kept d None old new swap same_count keeps.swap;
-      };
+      keeps = keeps-next old new s next keeps (after-sound old s next command reply keeps step) (after-lists old s next command reply keeps step)
+          same_count swap stands free areas_now anons_now homes_now items_now covered fit areas tables bytes;
     }
-  where
-    same_on : next.ledger.on ≡ s.ledger.on
-    same_on = sym stands.parts.swap.on ∙ areas-kept old new swap ∙ keeps.stands.parts.ledger.swap.on
-
-    headers : HeadersStand (setting_by d new) next.ledger
-    headers k = subst (λ (on : List (ℕ × SwapArea)). IfSome (find nat_cmp k on)
-        (λ area. IfSome (setting_by d new).headers (λ headers. IsSomeAnd (headers k) (HasNumbers area)))) (sym same_on) (keeps.stands.parts.headers k)
 
 -- ---- what reverse mapping goes by, after areas changed
 
@@ -357,7 +376,7 @@ state_after s p now on l free anons = record {
   items = s.items;
 }
 
-module _ {d : Device} (old new : Mem) (s : State) (command : Command) (reply : Reply) (p : ℕ) (now : Process) (on : Pages) (l : Ledger)
+module _ {d : Device} (old new : Mem) (s : State) (p : ℕ) (now : Process) (on : Pages) (l : Ledger)
     (keeps : Keeps d old s) (stay : AnonsStay old.spaces old.anons new.spaces new.anons) (same_count : frame_count new ≡ frame_count old)
     (swap : KeepsSwap old new) (stands : HasLedger d new l)
     (bytes : (view new).bytes ≡ (view old).bytes) (homes : (view new).homes ≡ (view old).homes)
@@ -383,15 +402,26 @@ module _ {d : Device} (old new : Mem) (s : State) (command : Command) (reply : R
           (ap (λ q. home_of k.1 (s.areas q k.1)) (sym (is_number k.0 p e)) ∙ is)
       by false e = is
 
-  pub changed : IsStep (setting_by d old) s command reply (state_after s p now on l (free_of (view new)) new.anons) →
+  pub changed-keeps : AllSound (setting_by d old) (set_process s.world p now) l → ListsAll (setting_by d old) l (free_of (view new)) →
       AreasAre (view new) (with_at p on s.areas) → AreasStand (view new) (set_process s.world p now) → HasTables new
-      → StepsBeside d old new s command reply
-  changed step areas_now areas tables = stepped old new s (state_after s p now on l (free_of (view new)) new.anons) command reply keeps
-      step same_count swap stands refl areas_now
+      → Keeps d new (state_after s p now on l (free_of (view new)) new.anons)
+  changed-keeps sound lists areas_now areas tables = keeps-next old new s (state_after s p now on l (free_of (view new)) new.anons) keeps sound lists
+      same_count swap stands refl areas_now
       (anons_stand d old s keeps new.spaces new.anons stay (with_at p on s.areas) areas_now new refl refl)
       (λ f. ap (λ h. h f) homes ∙ keeps.stands.homes f) items
       (reach_after old s keeps new.spaces new.anons stay l (with_at p on s.areas) areas_now home-all reach) stay.fit areas tables
       (bytes-left d (view old) (view new) s.world (set_process s.world p now) s.ledger l bytes cached keeps.stands.parts.bytes kept-all)
+
+  pub changed : (command : Command) (reply : Reply)
+      → IsStep (setting_by d old) s command reply (state_after s p now on l (free_of (view new)) new.anons) →
+      AreasAre (view new) (with_at p on s.areas) → AreasStand (view new) (set_process s.world p now) → HasTables new
+      → StepsBeside d old new s command reply
+  changed command reply step areas_now areas tables =
+      let next = state_after s p now on l (free_of (view new)) new.anons in record {
+        next = next;
+        step = step;
+        keeps = changed-keeps (after-sound old s next command reply keeps step) (after-lists old s next command reply keeps step) areas_now areas tables;
+      }
 
 -- ---- the frames and the entries stay
 

@@ -14,7 +14,7 @@ use Rattle.av_io.specs.Count.{Rose, RoseBy}
 use Rattle.av_trace.specs.declared.note.Note.{Note}
 use Rattle.av_trace.specs.declared.note.Note.TheVariants.{Loaded, Mapped}
 use Rattle.av_plain.specs.Event.{after_note, after_notes, set_entry}
-use Rattle.av_plain.specs.Ledger.{Cached, Entry, InFrame, InSlot, Ledger, Setting, Zero, cached_by, entry, frame_at, has_free, is_cached, is_free, keys_of_slot, names_slot, same_slot, slot_count, slot_entries}
+use Rattle.av_plain.specs.Ledger.{Cached, Entry, InFrame, InSlot, Ledger, Setting, Zero, cached_by, entry, frame_at, has_free, is_cached, is_free, keys_of_slot, names_slot, same_slot, slot_count, slot_entries, slot_of}
 use Rattle.av_plain.specs.Pass.{Spared, TakesFor, fails, is_fail, is_spared}
 use Rattle.av_plain.specs.Sound.{IsSound, no_excuse, slots}
 use Rattle.av_plain.specs.Swapoff.{IsEmptied, IsFetched}

@@ -1,5 +1,5 @@
 -- A swap area goes off, or not.
-use Rattle.std.specs.Prelude.{◌≡◌, ℕ, ◌+◌, Bool, List, [], ◌++◌, None, Some}
+use Rattle.std.specs.Prelude.{◌≡◌, ℕ, Bool, List, [], ◌++◌, None, Some}
 use Rattle.av_trace.specs.declared.note.Note.{Note}
 use Rattle.av_plain.specs.Areas.{Rmap, rmap_after_all}
 use Rattle.av_plain.specs.Choice.{ChoosesAll}
@@ -16,6 +16,7 @@ use Rattle.av_swapcache.specs.Swap.{Shown as ShownSwap, after_off, with_closing}
 use Rattle.av_mem.specs.Between.{HasDoneWhile}
 use Rattle.av_mem.specs.Mem.{Serves, frame_count, setting_by, view}
 use Rattle.av_mem.specs.declared.mem.Mem.{Mem}
+use Rattle.av_reclaim.specs.Commands.{HasNoted}
 use Rattle.av_swapoff.specs.declared.empty.EmptyEnd.{EmptyEnd}
 use Rattle.av_swapoff.specs.declared.empty.EmptyEnd.TheVariants.{Empty, NoFrame, NoPage}
 use Rattle.av_swapoff.specs.Empty.{EmptiesAll, close_of, failed_by, lost_by}

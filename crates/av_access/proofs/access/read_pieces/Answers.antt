@@ -19,7 +19,7 @@ returns-in-Some-clause-access g c = λ s keeps.
     read-stopped s c.loop-done.mem c.read_page.new.mem c.args.process c.args.address c.args.len k piece c.args.notes.now c.loop-done.notes
     c.read_page.new.notes c.loop-done.shown c.read_page.new.shown
     c.read_page.ensures.count c.next_piece-piece.ensures c.loop-done-test.true c.loop-done.invariant.begins h c.in-Some.stop
-    (rw c.in-Some.is at (c.in_ok-stop.ensures.step h.access.next h.access.keeps))
+    (rw c.in-Some.is at (c.in_ok-stop.ensures.step h.access.served.next h.access.served.keeps))
 
 pub loop-done-preserved : goal.loop-done-preserved
 loop-done-preserved g c =
@@ -33,7 +33,7 @@ loop-done-preserved g c =
           read-served s c.loop-done.mem c.read_page.new.mem c.args.process c.args.address c.args.len k piece c.args.notes.now c.loop-done.notes
           c.read_page.new.notes c.loop-done.shown c.read_page.new.shown
           c.read_page.ensures.count c.next_piece-piece.ensures c.loop-done-test.true c.loop-done.invariant.begins h
-          (rw (none_left c.in_ok-stop.field-0 c.in_default.not-Some) at (c.in_ok-stop.ensures.step h.access.next h.access.keeps));
+          (rw (none_left c.in_ok-stop.field-0 c.in_default.not-Some) at (c.in_ok-stop.ensures.step h.access.served.next h.access.served.keeps));
       steady = subst (λ sizes. IsSteadyFor sizes c.args.process c.read_page.new.mem) c.loop-done.invariant.same.sizes c.in_ok-stop.ensures.steady;
       same = device-on _ _ _ c.loop-done.invariant.same c.read_page.ensures.same;
       count = c.read_page.ensures.count ∙ c.loop-done.invariant.count;

@@ -28,7 +28,7 @@ returns-in-Some-clause-access g c = λ s keeps.
     (part k piece.len bytes)
     c.args.notes.now c.loop-done.notes _ c.in_ok-stop.field-0
     c.write_page.ensures.count c.next_piece-piece.ensures c.loop-done-test.true c.loop-done.invariant.begins h
-    (λ _. length-take-le k bytes c.loop-done.invariant.within) (c.in_ok-stop.ensures.step h.next h.keeps) c.in-Some.stop c.in-Some.is
+    (λ _. length-take-le k bytes c.loop-done.invariant.within) (c.in_ok-stop.ensures.step h.served.next h.served.keeps) c.in-Some.stop c.in-Some.is
 
 pub loop-done-preserved : goal.loop-done-preserved
 loop-done-preserved g c =
@@ -44,7 +44,7 @@ loop-done-preserved g c =
           (part k piece.len bytes)
           c.args.notes.now c.loop-done.notes _ c.in_ok-stop.field-0
           c.write_page.ensures.count c.next_piece-piece.ensures c.loop-done-test.true c.loop-done.invariant.begins h
-          (λ _. length-take-le k bytes c.loop-done.invariant.within) (c.in_ok-stop.ensures.step h.next h.keeps) c.in_default.not-Some
+          (λ _. length-take-le k bytes c.loop-done.invariant.within) (c.in_ok-stop.ensures.step h.served.next h.served.keeps) c.in_default.not-Some
           (take (k + piece.len) bytes) (parts k piece.len bytes);
       steady = subst (λ sizes. IsSteadyFor sizes c.args.process c.write_page.new.mem) c.loop-done.invariant.same.sizes c.in_ok-stop.ensures.steady;
       same = device-on _ _ _ c.loop-done.invariant.same c.write_page.ensures.same;

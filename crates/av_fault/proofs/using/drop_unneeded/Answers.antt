@@ -1,4 +1,4 @@
-use Rattle.std.proofs.Common.{◌<◌, ◌==◌, not, ◌&&◌, false, sym, ap, subst, ◌∙◌, arith}
+use Rattle.std.proofs.Common.{◌<◌, ◌==◌, not, ◌&&◌, sym, ap, subst, ◌∙◌, arith}
 use Rattle.av_swapcache.specs.Swap.{is_flying, shown}
 use Rattle.av_mem.specs.Mem.{view}
 use Rattle.av_fault.proofs.DropLaws.{drop-below, drop-find, dropped-entries, has-dropped, in-use, needed-dropped, not-both, uncached-dropped}

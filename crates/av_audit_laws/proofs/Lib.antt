@@ -1,0 +1,5 @@
+pub mod ToldPass
+pub mod ToldPage
+pub mod ToldSwap
+pub mod ToldReply
+pub mod UnitLaws
