@@ -2,8 +2,7 @@
 use Rattle.std.proofs.Common.{◌≡◌, ℕ, ◌+◌, ◌<◌, ◌≤◌, Bool, true, false, cond, ◌||◌, nat_lt, List, [], ◌∷◌, ◌++◌, Option, Some, None, refl, sym, ap, subst, ◌∙◌, arith, ◌==◌}
 use Rattle.std.proofs.lemmas.Bool.{false≢true}
 use Rattle.std.proofs.lemmas.Bool.Decides.{nat_tests}
-use Rattle.std.specs.List.{list_all}
-use Rattle.av_base.specs.Words.{how_many, is_in, without}
+use Rattle.av_base.specs.Words.{how_many, is_in}
 use Rattle.av_vma.specs.Areas.{area_of}
 use Rattle.av_anon.specs.Anons.{family}
 use Rattle.av_rmap.specs.Items.{is_merged}
@@ -19,16 +18,16 @@ use Rattle.av_plain.specs.Event.{Event, FreeSorted, Noted, after_all, after_note
 use Rattle.av_plain.specs.Ledger.{Ledger, Setting, is_free}
 use Rattle.av_plain.specs.Load.{with_loads}
 use Rattle.av_plain.specs.Pass.{pages_written}
-use Rattle.av_plain.specs.Sound.{AllSound, uses}
+use Rattle.av_plain.specs.Sound.{uses}
 use Rattle.av_plain.specs.Stands.{View, free_of}
 use Rattle.av_plain.specs.World.{World}
 use Rattle.av_plain.proofs.Access.{after_all-append, after_notes-append, chooses-append, note_events-all, note_events-append, notes_of-append}
 use Rattle.av_plain.proofs.AreasLeft.{rmap_after_all-append}
 use Rattle.av_plain.proofs.Compacted.{compact-lowest, compact-world}
 use Rattle.av_plain.proofs.Sound.Changes.{free-is}
-use Rattle.av_plain.proofs.Sound.Frames.{IsMove, move-is}
+use Rattle.av_plain.proofs.Sound.Frames.{move-is}
 use Rattle.av_plain.proofs.Wrote.{device-itself, wrote-none}
-use Rattle.av_mem.specs.Between.{HasBetween, HasDone, KeepsBetween}
+use Rattle.av_mem.specs.Between.{HasBetween, KeepsBetween}
 use Rattle.av_mem.specs.Mem.{IsSteady, frame_count, setting_by, view}
 use Rattle.av_mem.specs.Steps.{KeepsParts}
 use Rattle.av_mem.specs.Walk.{areas_at, areas_at_all, areas_of_frame}
@@ -98,9 +97,11 @@ pub going-steady : (old now : Mem) (low past : ℕ) (before notes : List Note) (
     → HasBetween old → IsSteady now
 going-steady old now low past before notes taken taken' g has =
     let s = g.stands has.0 has.1 has.2 has.3 has.4 in
-    let b = s.between in
-    (has.0, state_by now has.1 (rmap_after_all has.3 (note_events g.added) has.2) (after_notes has.3 g.added),
-    serves-keeps has.0 now has.1 (rmap_after_all has.3 (note_events g.added) has.2) (after_notes has.3 g.added) b.sound b.serves)
+    let b = s.between in (
+      has.0,
+      state_by now has.1 (rmap_after_all has.3 (note_events g.added) has.2) (after_notes has.3 g.added),
+      serves-keeps has.0 now has.1 (rmap_after_all has.3 (note_events g.added) has.2) (after_notes has.3 g.added) b.sound b.serves,
+    )
 
 -- a walk takes the steps that it would have taken before
 walk-stays : (old now : Mem) (f : ℕ) → KeepsParts old now → (view now).homes f ≡ (view old).homes f → (view now).items f ≡ (view old).items f
@@ -216,10 +217,12 @@ module _ (old now : Mem) (low past : ℕ) (before notes : List Note) (taken take
                 (chooses-append (setting_by d old) None l events (note_events (Moved from to ∷ [])) (free_of (view old)) (free_of (view now))
                 (free_of (view new)) s.free
                 (subst (λ x. ChoosesAll (setting_by d old) None x (note_events (Moved from to ∷ [])) (free_of (view now)) (free_of (view new)))
-                (sym (note_events-all l g.added))
-                (free_of (view new),
-                subst (λ m. Chooses m None ledger (Noted (Moved from to)) (free_of (view now)) (free_of (view new))) (one-setting d w r l keeps)
-                (moved-chosen d now new parts w here ledger s.between from to may seen), refl)));
+                (sym (note_events-all l g.added)) (
+                  free_of (view new),
+                  subst (λ m. Chooses m None ledger (Noted (Moved from to)) (free_of (view now)) (free_of (view new))) (one-setting d w r l keeps)
+                      (moved-chosen d now new parts w here ledger s.between from to may seen),
+                  refl,
+                )));
           }
 
       pub going-more : (notes' : List Note) → notes' ≡ notes ++ Moved from to ∷ [] → (now_taken : ℕ) → now_taken ≡ taken' + areas_of_frame now from
@@ -239,7 +242,7 @@ module _ (old now : Mem) (low past : ℕ) (before notes : List Note) (taken take
         added = g.added ++ Moved from to ∷ [];
         are = told ∙ ap (λ ns. ns ++ Moved from to ∷ []) g.are ∙ append-assoc before g.added (Moved from to ∷ []);
         steps = let a = g.steps in let b : steps_of_all old (g.added ++ Moved from to ∷ []) ≡ steps_of_all old g.added + areas_of_frame old from =
-                steps-more old g.added (Moved from to) in
+            steps-more old g.added (Moved from to) in
             let c = walk-stays old now from g.parts (g.homes from from_low next.below) (g.items from from_low next.below) in omega (arith, steps, a, b, c);
         stands = so-far;
       }
@@ -323,10 +326,12 @@ module _ (old now : Mem) (low past : ℕ) (before notes : List Note) (taken take
       chosen = chooses-append (setting_by d old) None l (note_events g.added) (FreeSorted ∷ []) (free_of (view old)) (free_of (view now))
           (free_of (view new)) s.free
           (subst (λ x. ChoosesAll (setting_by d old) None x (FreeSorted ∷ []) (free_of (view now)) (free_of (view new)))
-          (sym (note_events-all l g.added))
-          (free_of (view new),
-          subst (λ m. Chooses m None (after_notes l g.added) FreeSorted (free_of (view now)) (free_of (view new))) (one-setting d w r l keeps)
-          (ordered-chosen d now new parts w (rmap_after_all l (note_events g.added) r) (after_notes l g.added) s.between seen), refl))
+          (sym (note_events-all l g.added)) (
+            free_of (view new),
+            subst (λ m. Chooses m None (after_notes l g.added) FreeSorted (free_of (view now)) (free_of (view new))) (one-setting d w r l keeps)
+                (ordered-chosen d now new parts w (rmap_after_all l (note_events g.added) r) (after_notes l g.added) s.between seen),
+            refl,
+          ))
 
       pub has-compacted : HasCompacted d old new w r l g.added
       has-compacted = record {

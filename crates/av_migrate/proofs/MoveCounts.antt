@@ -1,13 +1,11 @@
 -- What the ledger says of frames once one has gone over to another.
-use Rattle.std.proofs.Common.{◌≡◌, ℕ, ◌+◌, ◌<◌, Bool, true, false, cond, ◌||◌, ◌&&◌, nat_lt, List, [], ◌∷◌, map, Option, Some, None, option_map, refl, sym, ap, ◌∙◌, arith, ◌==◌}
-use Rattle.std.proofs.lemmas.Bool.Decides.{nat_tests}
-use Rattle.std.proofs.lemmas.Bool.{false≢true}
+use Rattle.std.proofs.Common.{◌≡◌, ℕ, ◌+◌, Bool, true, false, cond, ◌||◌, ◌&&◌, nat_lt, List, [], ◌∷◌, map, Option, Some, None, option_map, refl, sym, ap, ◌∙◌, arith, ◌==◌}
 use Rattle.std.specs.List.{list_any}
 use Rattle.av_base.specs.Words.{how_many, renamed}
 use Rattle.av_base.specs.declared.slot.Slot.{Slot}
 use Rattle.av_plain.specs.Event.{with_places}
 use Rattle.av_plain.specs.Fault.{asks_copy, is_named}
-use Rattle.av_plain.specs.Ledger.{Cached, Ledger, Setting, cached_by, frame_at, is_free, is_merged, is_stale, map_count, same_slot, slot_entries, slot_of}
+use Rattle.av_plain.specs.Ledger.{Cached, Ledger, Setting, cached_by, frame_at, is_free, is_merged, is_stale, map_count, same_slot, slot_of}
 use Rattle.av_plain.specs.Sound.{IsSound, holders, mergings, no_excuse, uses}
 use Rattle.av_plain.proofs.Event.{slot_entries-renamed}
 use Rattle.av_plain.proofs.Sound.Changes.{any-counts, free-is}

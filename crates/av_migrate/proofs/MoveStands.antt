@@ -1,5 +1,5 @@
 -- What stands for the ledger, and for the bytes, once a frame has gone over to another.
-use Rattle.std.proofs.Common.{◌≡◌, ℕ, ◌<◌, Bool, true, false, cond, not, ◌||◌, List, [], ◌∷◌, filter, map, Option, Some, None, IfSome, option_map, refl, sym, ap, subst, ◌∙◌, arith, ◌==◌}
+use Rattle.std.proofs.Common.{◌≡◌, ℕ, ◌<◌, Bool, true, false, cond, not, ◌||◌, List, [], ◌∷◌, map, Option, Some, None, IfSome, option_map, refl, sym, ap, subst, ◌∙◌, arith, ◌==◌}
 use Rattle.std.proofs.lemmas.Bool.Decides.{nat_tests}
 use Rattle.std.proofs.lemmas.Bool.{false≢true}
 use Rattle.std.specs.List.{list_any}
@@ -10,7 +10,7 @@ use Rattle.av_base.specs.declared.slot.Slot.{Slot}
 use Rattle.av_plain.specs.Device.{Device}
 use Rattle.av_plain.specs.Event.{placed_entry, with_places}
 use Rattle.av_plain.specs.Fault.{asks_copy}
-use Rattle.av_plain.specs.Ledger.{Entry, InFrame, InSlot, Ledger, Setting, Zero, entry, frame_at, in_flight, is_free, is_stale, names_frame, slot_of}
+use Rattle.av_plain.specs.Ledger.{Entry, InFrame, InSlot, Ledger, Setting, Zero, entry, frame_at, is_free, is_stale, names_frame, slot_of}
 use Rattle.av_plain.specs.Sound.{IsSound, no_excuse, uses}
 use Rattle.av_plain.specs.Stands.{BytesStand, IsClean, IsKept, IsKeptAt, LedgerStands, Pte, View, entry_of}
 use Rattle.av_plain.specs.World.{Holds, Page, World, pages}
@@ -20,7 +20,7 @@ use Rattle.av_plain.proofs.Sound.Counts.{same-is, same-turned}
 use Rattle.av_plain.proofs.Sound.Sharing.{before, not_to}
 use Rattle.av_swap_laws.proofs.Parts.{none-some, some-is}
 use Rattle.av_migrate.specs.Move.{MayMove, pte_moved, view_moved}
-use Rattle.av_migrate.proofs.MoveCounts.{apart, cached-other, copy-went, frame_at-went, free-went, gone-along, maps-went, slot_of-went, stale-went}
+use Rattle.av_migrate.proofs.MoveCounts.{cached-other, copy-went, frame_at-went, free-went, gone-along, maps-went, slot_of-went, stale-went}
 
 -- a list without a frame has the others
 pub without-in : (f g : ℕ) (fs : List ℕ) → is_in g (without f fs) ≡ cond (g == f) false (is_in g fs)

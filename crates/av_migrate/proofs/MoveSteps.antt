@@ -1,28 +1,27 @@
 -- The step by which a frame goes over to another, and that which puts the free ones in order, all parts together.
-use Rattle.std.proofs.Common.{◌≡◌, ℕ, zero, suc, ◌+◌, ◌<◌, ◌≤◌, Bool, true, false, cond, ◌||◌, List, [], ◌∷◌, ◌++◌, filter, Option, Some, None, refl, sym, ap, subst, ◌∙◌, arith, ◌==◌}
+use Rattle.std.proofs.Common.{◌≡◌, ℕ, zero, suc, ◌+◌, ◌<◌, ◌≤◌, Bool, true, false, cond, ◌||◌, List, [], ◌∷◌, ◌++◌, filter, Option, refl, sym, ap, ◌∙◌, arith, ◌==◌}
 use Rattle.std.proofs.lemmas.Bool.Decides.{nat_tests}
 use Rattle.std.specs.List.{range_with_len}
-use Rattle.av_base.specs.Words.{is_in, renamed, with_at, without}
+use Rattle.av_base.specs.Words.{is_in, renamed, without}
 use Rattle.av_base.specs.declared.slot.Slot.{Slot}
 use Rattle.av_trace.specs.declared.note.Note.TheVariants.{Moved}
-use Rattle.av_plain.specs.Areas.{Rmap, with_home_moved}
+use Rattle.av_plain.specs.Areas.{with_home_moved}
 use Rattle.av_plain.specs.Choice.{Chooses}
-use Rattle.av_plain.specs.Covered.{AreMergedCovered}
 use Rattle.av_plain.specs.Event.{FreeSorted, Noted, after_note, with_places}
 use Rattle.av_plain.specs.Ledger.{Ledger, Setting, is_free, is_merged}
 use Rattle.av_plain.specs.Sound.{IsSound, count, no_excuse, uses}
-use Rattle.av_plain.specs.Stands.{BytesStand, HomesAre, ItemsAre, LedgerStands, View, free_of}
+use Rattle.av_plain.specs.Stands.{HomesAre, ItemsAre, View, free_of}
 use Rattle.av_plain.proofs.Covered.Merging.{moved-reach}
 use Rattle.av_plain.proofs.Covered.Swap.{Reach}
 use Rattle.av_plain.proofs.Event.{slot_entries-renamed}
 use Rattle.av_plain.proofs.Sound.Changes.{free-is}
 use Rattle.av_plain.proofs.Sound.Counts.{same-is, same-itself}
 use Rattle.av_plain.proofs.Sound.Sharing.{before, slots-went, uses-went}
-use Rattle.av_swap_laws.specs.Held.{AllCovered, Held, IsHeld, Steps}
+use Rattle.av_swap_laws.specs.Held.{Held, IsHeld, Steps}
 use Rattle.av_swap_laws.proofs.Free.{frames-one, given-none}
 use Rattle.av_swap_laws.proofs.Whole.{areas-as, headers-as}
 use Rattle.av_migrate.specs.Move.{MayMove, view_moved, view_ordered}
-use Rattle.av_migrate.proofs.MoveCounts.{apart, gone-along, merged-before}
+use Rattle.av_migrate.proofs.MoveCounts.{merged-before}
 use Rattle.av_migrate.proofs.MoveStands.{moved-bytes, moved-stands}
 
 module _ (m : Setting) (closing : Option ℕ) (old : Held) (h : IsHeld m old) where

@@ -1,19 +1,18 @@
 -- A frame goes over: what the parts of the memory system ask for, and what is seen of it then.
-use Rattle.std.proofs.Common.{◌≡◌, ℕ, ◌+◌, ◌<◌, Bool, true, false, cond, nat_lt, List, [], ◌∷◌, Option, Some, None, option_map, refl, sym, ap, subst, ◌∙◌, arith, ◌==◌, min}
+use Rattle.std.proofs.Common.{◌≡◌, ℕ, ◌<◌, true, false, cond, nat_lt, List, [], Option, Some, None, option_map, refl, sym, ap, subst, ◌∙◌, arith, ◌==◌}
 use Rattle.std.proofs.lemmas.Bool.Decides.{nat_tests}
-use Rattle.std.proofs.lemmas.Bool.{false≢true}
 use Rattle.av_base.specs.Keys.{Key}
 use Rattle.av_base.specs.Words.{how_many, is_in}
 use Rattle.av_base.specs.declared.slot.Slot.{Slot}
 use Rattle.av_frames.specs.Store.{Shown as ShownFrames, free_in_order, relocated, shown as shown_frames}
-use Rattle.av_lru.specs.Lists.{Lists, with_renamed as lists_renamed}
+use Rattle.av_lru.specs.Lists.{with_renamed as lists_renamed}
 use Rattle.av_pagetable.specs.Entries.{entry_at, has}
 use Rattle.av_pagetable.specs.declared.pte.Pte.{Pte}
-use Rattle.av_rmap.specs.Items.{Shown as ShownItems, shown as shown_items, with_renamed as items_renamed}
-use Rattle.av_swapcache.specs.Swap.{IsCachedAs, IsUncached, Shown as ShownSwap, shown as shown_swap, with_renamed as swap_renamed}
+use Rattle.av_rmap.specs.Items.{shown as shown_items, with_renamed as items_renamed}
+use Rattle.av_swapcache.specs.Swap.{IsCachedAs, IsUncached, shown as shown_swap, with_renamed as swap_renamed}
 use Rattle.av_plain.specs.Device.{Device}
-use Rattle.av_plain.specs.Ledger.{Ledger, Setting, frame_at, is_free, is_merged, slot_of, walk}
-use Rattle.av_plain.specs.Sound.{holders, listings, mergings, uses}
+use Rattle.av_plain.specs.Ledger.{Ledger, Setting, slot_of, walk}
+use Rattle.av_plain.specs.Sound.{listings, uses}
 use Rattle.av_plain.specs.Stands.{Pte as Plain}
 use Rattle.av_plain.specs.Transcript.{State}
 use Rattle.av_plain.proofs.Sound.Changes.{any-counts, free-is}

@@ -4,7 +4,6 @@ use mathlib.Core.List.{reverse_aux}
 use Rattle.std.proofs.lemmas.Bool.{false≢true}
 use Rattle.std.proofs.lemmas.Bool.Decides.{nat_tests}
 use Rattle.std.specs.List.{find, list_any, range_with_len}
-use Rattle.av_base.specs.Words.{how_many}
 use Rattle.av_trace.specs.declared.note.Note.{Note}
 use Rattle.av_trace.specs.declared.note.Note.TheVariants.{Moved}
 use Rattle.av_plain.specs.Compact.{MovesDown, greatest_used, least_free, move_down, next_move}

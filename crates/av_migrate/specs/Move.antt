@@ -1,7 +1,7 @@
--- What it makes of the view that a frame goes over to a free one, and that the list of free frames is
--- put in order.
+-- What it makes of the view that a frame goes over to a free one, and that the list of free frames
+-- is put in order.
 use Rattle.std.specs.List.{range_with_len}
-use Rattle.std.specs.Prelude.{◌≡◌, ◌<◌, ℕ, Bool, List, [], ◌∷◌, filter, map, Option, None, option_map}
+use Rattle.std.specs.Prelude.{◌≡◌, ◌<◌, ℕ, [], ◌∷◌, filter, map, None, option_map}
 use Rattle.av_base.specs.Words.{is_in, renamed, with_at, without}
 use Rattle.av_plain.specs.Event.{placed_entry}
 use Rattle.av_plain.specs.Ledger.{Ledger, Setting}
@@ -12,8 +12,8 @@ use Rattle.av_plain.specs.Stands.{Pte, View}
 abbrev pub pte_moved : ℕ → ℕ → Pte → Pte
 pte_moved from to t = record t { entry = placed_entry (renamed from to) t.entry }
 
--- all that is kept of the frame is kept of the other one, which takes its place everywhere. The frame
--- is free instead, in front of the others: it has no entry, no slot and no item
+-- all that is kept of the frame is kept of the other one, which takes its place everywhere. The
+-- frame is free instead, in front of the others: it has no entry, no slot and no item
 abbrev pub view_moved : ℕ → ℕ → View → View
 view_moved from to v = record v {
   bytes = with_at to (v.bytes from) v.bytes;

@@ -1,4 +1,3 @@
-use Rattle.std.proofs.Common.{ℕ}
 use Rattle.av_migrate.proofs.CompactLaws.{Going}
 use Rattle.av_migrate.proofs.compacting.compact.Given as goal
 

@@ -1,5 +1,5 @@
-use Rattle.std.proofs.Common.{◌+◌, ◌≡◌, ◌∙◌, ap, arith, get_or, length, refl, subst, sym, take}
-use Rattle.std.proofs.lemmas.List.{take_all, take_more}
+use Rattle.std.proofs.Common.{◌∙◌, ap, arith, get_or, refl, sym, take}
+use Rattle.std.proofs.lemmas.List.{take_more}
 use Rattle.av_pagetable.specs.Entries.{entry_at}
 use Rattle.av_migrate.specs.Pointed.{pointed_at}
 use Rattle.av_migrate.proofs.PointLaws.{pointed-more, pointed-none}
