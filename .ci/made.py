@@ -98,15 +98,13 @@ def anchor_of(heading: str) -> str:
     return re.sub(r"[^\w -]", "", heading.lower()).replace(" ", "-")
 
 
-def commands_table() -> Iterator[str]:
+def commands_list() -> Iterator[str]:
     """The commands, each with what it does in a sentence, and the way to its section."""
-    yield "| Command | What it does |"
-    yield "|---|---|"
     reference = Reference()
     for form in reference.forms.values():
         words = " ".join([form.name, *form.kinds])
         place = f"docs/REFERENCE.md#{anchor_of(form.heading)}"
-        yield f"| [`{words}`]({place}) | {reference.first_sentence(form.name)} |"
+        yield f"- [`{words}`]({place}): {reference.first_sentence(form.name)}"
 
 
 def crates_table() -> Iterator[str]:
@@ -152,7 +150,7 @@ def examples_table() -> Iterator[str]:
 
 
 # the parts of documents that are made: the name that stands in the marks around each
-PARTS = {"commands": commands_table, "crates": crates_table, "examples": examples_table}
+PARTS = {"commands": commands_list, "crates": crates_table, "examples": examples_table}
 MARKED = re.compile(r"(<!-- made: (\w+) -->\n).*?(<!-- end -->)", re.S)
 
 

@@ -25,7 +25,7 @@ MOST_SIZES = 64
 # the picture, and its space for the axes
 WIDTH, HEIGHT, LEFT, RIGHT, TOP, BOTTOM = 640, 400, 70, 20, 50, 60
 # what is drawn: its column, and its colour
-LINES = (("faults", "#1864ab"), ("loaded", "#2b8a3e"), ("written", "#d9480f"))
+LINES = (("faults", "#1864ab"), ("loaded", "#2a7f3b"), ("written", "#c2410c"))
 
 
 class Size(NamedTuple):

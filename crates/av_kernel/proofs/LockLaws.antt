@@ -47,13 +47,12 @@ use Rattle.av_mem.specs.declared.mem.Mem.{Mem}
 use Rattle.av_mem.specs.Mem.{Keeps, IsSteadyAt, frame_count, ranges_of, setting_by, view}
 use Rattle.av_mem.proofs.AnonLaws.{left_of}
 use Rattle.av_mem.proofs.MemLaws.{alive_is}
-use Rattle.av_fault.specs.declared.fault.Stop.{Stop}
-use Rattle.av_fault.specs.declared.fault.Stop.TheVariants as stops
 use Rattle.av_step.specs.Step.{IsSteadyFor, MemSteps, StepsBeside}
 use Rattle.av_step.proofs.Loads.{world_as}
 use Rattle.av_step.proofs.StepLaws.{left_alone, moved_on, none_rose}
 use Rattle.av_access.specs.Access.{HasServed, IsBroughtIn, answer_at, causes_of_access, end_at}
 use Rattle.av_access.proofs.AccessLoads.{loads-flagged}
+use Rattle.av_access.proofs.LockTurns.{brought-causes}
 use Rattle.av_kernel.proofs.ChangeLaws.{AreChanged, anons_left, change-keeps, change-steps, flag_effect, none_left_out, state_changed}
 use Rattle.av_kernel.proofs.MapLaws.{leads, lived}
 
@@ -190,11 +189,11 @@ module _ {d : Device} (old : Mem) (spaces : AllSpaces) (anons : AnonSet) (s : St
         ledger = refl;
         free = subst (λ closing. ChoosesAll (setting_by d old) closing s.ledger (event ∷ []) s.free (free_of (view old))) (sym open_all)
             (subst (λ free. ChoosesAll (setting_by d old) None s.ledger (event ∷ []) free (free_of (view old))) keeps.stands.free (
-            free_of (view old),
-            chooses-nothing (setting_by d old) None s.ledger event (free_of (view old))
-                (record { frames = λ g used. used; slots = λ t used. used }) refl refl refl refl,
-            refl,
-          ));
+              free_of (view old),
+              chooses-nothing (setting_by d old) None s.ledger event (free_of (view old))
+                  (record { frames = λ g used. used; slots = λ t used. used }) refl refl refl refl,
+              refl,
+            ));
         rmap = next-plain (rmap_after_all s.ledger (event ∷ []) (rmap_of s)) s.world command answer _ plain (record {
           areas = areas-are ∙ sym (stay (chain_length s.anons) (rmap_after_all s.ledger (event ∷ []) (rmap_of s)).areas);
           anons = anons_left old spaces anons s p (page_of a) n (to_flag Locked set) (with_page_flag Locked set) keeps ranges (flag_effect Locked set) are;
@@ -272,13 +271,13 @@ module _ {d : Device} (old : Mem) (spaces : AllSpaces) (anons : AnonSet) (s : St
   mlock-stops less = flagged-steps old spaces anons s p a len reached true keeps alive reaches are (Mlock p a len) (Refused Enomem) refl refl
       (λ long on. refl) tt
       (mlocks (first ∷ []) (Refused Enomem) (
-      no_events,
-      refl,
-      refl,
-      subst (λ b. MatchBool b (BringsIn (setting_by d old) s.world s.ledger p (page_of a) (pages_met a len) no_events (Refused Enomem))
-          ((no_events ≡ []) × (Refused Enomem ≡ Refused Enomem)))
-          (sym (hole_met old spaces anons s p a len reached true keeps alive reaches are less)) (refl, refl),
-    ))
+        no_events,
+        refl,
+        refl,
+        subst (λ b. MatchBool b (BringsIn (setting_by d old) s.world s.ledger p (page_of a) (pages_met a len) no_events (Refused Enomem))
+            ((no_events ≡ []) × (Refused Enomem ≡ Refused Enomem)))
+            (sym (hole_met old spaces anons s p a len reached true keeps alive reaches are less)) (refl, refl),
+      ))
       (ap (λ b. cond b s.world (with_lock true s.world p (page_of a) (pages_met a len))) fits)
 
   -- all are locked, and then come in
@@ -325,14 +324,9 @@ module _ {d : Device} (old : Mem) (spaces : AllSpaces) (anons : AnonSet) (s : St
         ∙ sym (next-locked loaded p a len (address_of (page_of a)) end) ∙ ap (next loaded (Mlock p a len)) (sym h.answers)
 
     told : causes (record { answer = answer; notes = notes; rows = [] }) ≡ causes_of_access (notes_of coming) h.stop
-    told = (λ i. causes (record { answer = h.answers i; notes = alone i; rows = [] })) ∙ by h.stop
-      where
-        by : (stop : Option Stop) → causes (record { answer = write_answer (address_of (page_of a)) (end_at stop h.page); notes = notes_of coming; rows = [] })
-            ≡ causes_of_access (notes_of coming) stop
-        by None = refl
-        by (Some stops.Denied) = refl
-        by (Some stops.Lost) = refl
-        by (Some (stops.Starved out)) = refl
+    told = ap (λ ns. causes (record { answer = answer; notes = ns; rows = [] })) alone
+        ∙ brought-causes (flagged_state old spaces anons s p a len reached true keeps alive reaches are) new p (page_of a) (pages_met a len) before notes
+        answer h (notes_of coming)
 
     pub mlock-steps : MemSteps d d' old new s (Mlock p a len) (record { answer = answer; notes = notes; rows = [] })
     mlock-steps = record {

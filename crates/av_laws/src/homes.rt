@@ -52,10 +52,12 @@ pub fn homes_are_of_pages()
 /// anon_vma of its area; where two pages are at the slot, with the root of that anon_vma.
 pub fn homes_follow()
     ensures by_events { LeadsHomes both_in_frame with_child by_events }
-    ensures in_place { LeadsHomes (with_entries (((2, 0x12), InFrame 0 false) ∷ [])) with_child in_place }
+    ensures in_place { LeadsHomes (with_entries (((2, 0x12), InFrame 0 false) ∷ [])) with_child
+        in_place }
     ensures prepared_first { LeadsHomes first_ledger (rmap_with (moved_four ∷ []) no_anons)
         prepared_first }
-    ensures of_one_page { LeadsHomes (with_entries of_one_page) with_child (loaded_at (Some (1, 0x22))) }
+    ensures of_one_page { LeadsHomes (with_entries of_one_page) with_child
+        (loaded_at (Some (1, 0x22))) }
     ensures of_two_pages { LeadsHomes (with_entries of_two_pages) with_child
         (loaded_at (Some (0, 0x22))) }
 {}

@@ -6,7 +6,7 @@ use Rattle.av_trace.specs.declared.command.Command.TheVariants.{Mlock}
 use Rattle.av_trace.specs.declared.reply.Errno.TheVariants.{Enomem}
 use Rattle.av_spaces.specs.Spaces.{is_taken}
 use Rattle.av_vma.specs.Pages.{to_flag}
-use Rattle.av_plain.specs.Device.{Device, device_by}
+use Rattle.av_plain.specs.Device.{seen_by}
 use Rattle.av_plain.specs.Transcript.{State}
 use Rattle.av_plain.proofs.Wrote.{device-itself}
 use Rattle.av_mem.specs.Mem.{Keeps}
@@ -83,6 +83,8 @@ returns g c =
     let whole = subst (λ n. page + n ≤ reached) size c.if-reached-past.false in
     let reply = c.args.reply.now in
     let new = c.bring_in.new in
+    let before = seen_by g.D.SwapDev.sizes g.D.SwapDev.pages g.D.SwapDev.failures g.D.SwapDev.history c.args.dev.now in
+    let after = seen_by g.D.SwapDev.sizes g.D.SwapDev.pages g.D.SwapDev.failures g.D.SwapDev.history new.dev in
     record {
       steady = λ steady. c.in_ok-answer.ensures.steady.0;
       same = c.bring_in.ensures.same;
@@ -94,6 +96,6 @@ returns g c =
           (sym (c.answer_with.ensures ∙ (λ i. record { answer = c.in_ok-answer.answer; notes = new.notes; rows = c.requires.cleared.rows i })))
           (mlock-steps k c.modify.new.self c.modify.new.anons s c.args.process c.args.address c.args.len reached keeps c.requires.lives c.requires.low
           c.requires.few to are new.mem reply.notes new.notes c.in_ok-answer.answer whole c.bring_in.ensures.count c.requires.cleared.notes
-          (subst (λ n. IsBroughtIn _ _ mid new.mem c.args.process page n reply.notes new.notes c.in_ok-answer.answer) size
+          (subst (λ n. IsBroughtIn before after mid new.mem c.args.process page n reply.notes new.notes c.in_ok-answer.answer) size
           (c.in_ok-answer.ensures.in_turn mid held)));
     }

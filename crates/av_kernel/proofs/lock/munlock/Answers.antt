@@ -1,4 +1,4 @@
-use Rattle.std.proofs.Common.{◌+◌, ◌-◌, ◌/◌, ◌<◌, ◌≤◌, refl, sym, subst, ◌∙◌}
+use Rattle.std.proofs.Common.{◌+◌, ◌-◌, ◌/◌, ◌<◌, ◌≤◌, false, refl, sym, subst, ◌∙◌}
 use Rattle.av_base.specs.declared.flags.Flag.TheVariants.{Locked}
 use Rattle.av_merge.specs.Pages.{GoesTo}
 use Rattle.av_trace.specs.declared.command.Command.TheVariants.{Munlock}
