@@ -52,6 +52,7 @@ CARRIERS = {
     "av_swapoff": "SlotSystem swapoff",
     "av_fork": "fork_areas fork_entries",
     "av_mremap": "remap_areas remap_entries",
+    "av_migrate": "compact frames_go_over free_frames_are_ordered",
     "av_fault": "touch",
     "av_place": "find_place find_gap find_target check_protect check_remap is_too_long "
     "is_no_range leaves_old check_indices",
