@@ -1,5 +1,5 @@
 -- What mlock and munlock leave: the flag first, and then, for an mlock, the pages that came in.
-use Rattle.std.proofs.Common.{◌≡◌, ℕ, zero, suc, ◌+◌, ◌-◌, ◌*◌, ◌^◌, ◌<◌, ◌≤◌, Bool, true, false, cond, List, [], ◌∷◌, ◌++◌, Option, Some, None, is_some, option_map, refl, sym, ap, subst, ◌∙◌, arith, ◌==◌, nat_le}
+use Rattle.std.proofs.Common.{◌≡◌, ℕ, zero, suc, ◌+◌, ◌-◌, ◌*◌, ◌/◌, ◌^◌, ◌<◌, ◌≤◌, max, Bool, true, false, cond, not, List, [], ◌∷◌, ◌++◌, Option, Some, None, is_some, option_map, refl, sym, ap, subst, ◌∙◌, arith, ◌==◌, nat_le, nat_lt}
 use Rattle.std.proofs.lemmas.Bool.Decides.{nat_tests}
 use Rattle.std.specs.Ordering.{eq_by_cmp, nat_cmp}
 use Rattle.std.specs.Prelude.{MatchBool, MatchOption}
@@ -17,15 +17,17 @@ use Rattle.av_trace.specs.declared.note.Note.{Note}
 use Rattle.av_trace.specs.declared.reply.Answer.{Answer}
 use Rattle.av_trace.specs.declared.reply.Answer.TheVariants.{Done, Refused}
 use Rattle.av_trace.specs.declared.reply.Errno.{Errno}
-use Rattle.av_trace.specs.declared.reply.Errno.TheVariants.{Einval, Enomem}
+use Rattle.av_trace.specs.declared.reply.Errno.TheVariants.{Einval, Enomem, Esrch}
+use Rattle.av_trace.specs.declared.reply.Reply.{Reply}
 use Rattle.av_trace.specs.Reply.{answer_only}
 use Rattle.av_plain.specs.Access.{Accesses, End, Stopped, Whole, write_answer}
-use Rattle.av_plain.specs.Areas.{Areas, chain_length, next_areas, rmap_after_all}
+use Rattle.av_plain.specs.Areas.{Anons, Areas, Rmap, chain_length, next_areas, rmap_after_all}
 use Rattle.av_plain.specs.Choice.{ChoosesAll}
-use Rattle.av_plain.specs.Device.{Device, Wrote, setting_of}
-use Rattle.av_plain.specs.Event.{Event, notes_of}
+use Rattle.av_plain.specs.Device.{Device, IsSameDevice, Wrote, device_by, setting_of}
+use Rattle.av_plain.specs.Event.{Event, FlagSet, after_all, notes_of}
 use Rattle.av_plain.specs.Fault.{Denied, Lost, Starved}
 use Rattle.av_plain.specs.Fork.{IsRmapNext}
+use Rattle.av_plain.specs.Ledger.{Ledger, Setting}
 use Rattle.av_plain.specs.Load.{with_loads}
 use Rattle.av_plain.specs.Lock.{BringsIn, access_of, accesses_of, lock_event, with_lock}
 use Rattle.av_plain.specs.Map.{hole_answer}
@@ -42,12 +44,13 @@ use Rattle.av_plain.proofs.World.{pages-set}
 use Rattle.av_plain.proofs.Wrote.{device-itself, wrote-none}
 use Rattle.av_swap_laws.proofs.Free.{chooses-nothing}
 use Rattle.av_mem.specs.declared.mem.Mem.{Mem}
-use Rattle.av_mem.specs.Mem.{Keeps, frame_count, ranges_of, setting_by, view}
+use Rattle.av_mem.specs.Mem.{Keeps, IsSteadyAt, frame_count, ranges_of, setting_by, view}
+use Rattle.av_mem.proofs.AnonLaws.{left_of}
 use Rattle.av_mem.proofs.MemLaws.{alive_is}
-use Rattle.av_step.specs.Step.{MemSteps, StepsBeside}
+use Rattle.av_step.specs.Step.{IsSteadyFor, MemSteps, StepsBeside}
 use Rattle.av_step.proofs.Loads.{world_as}
 use Rattle.av_step.proofs.StepLaws.{left_alone, moved_on, none_rose}
-use Rattle.av_access.specs.Access.{IsBroughtIn, causes_of_access, end_at}
+use Rattle.av_access.specs.Access.{HasServed, IsBroughtIn, answer_at, causes_of_access, end_at}
 use Rattle.av_access.proofs.AccessLoads.{loads-flagged}
 use Rattle.av_access.proofs.LockTurns.{brought-causes}
 use Rattle.av_kernel.proofs.ChangeLaws.{AreChanged, anons_left, change-keeps, change-steps, flag_effect, none_left_out, state_changed}

@@ -1,5 +1,5 @@
 -- The flag is set, and then the pages come in, or there is a hole.
-use Rattle.std.proofs.Common.{◌+◌, ◌-◌, ◌/◌, ◌<◌, ◌≤◌, ◌^◌, true, refl, sym, subst, ◌∙◌}
+use Rattle.std.proofs.Common.{◌≡◌, ◌+◌, ◌-◌, ◌/◌, ◌<◌, ◌≤◌, ◌^◌, true, refl, sym, ap, subst, ◌∙◌}
 use Rattle.av_base.specs.declared.flags.Flag.TheVariants.{Locked}
 use Rattle.av_merge.specs.Pages.{GoesTo}
 use Rattle.av_trace.specs.declared.command.Command.TheVariants.{Mlock}
@@ -7,11 +7,13 @@ use Rattle.av_trace.specs.declared.reply.Errno.TheVariants.{Enomem}
 use Rattle.av_spaces.specs.Spaces.{is_taken}
 use Rattle.av_vma.specs.Pages.{to_flag}
 use Rattle.av_plain.specs.Device.{seen_by}
+use Rattle.av_plain.specs.Transcript.{State}
 use Rattle.av_plain.proofs.Wrote.{device-itself}
+use Rattle.av_mem.specs.Mem.{Keeps}
 use Rattle.av_access.specs.Access.{IsBroughtIn}
-use Rattle.av_step.specs.Step.{MemSteps}
+use Rattle.av_step.specs.Step.{MemSteps, StepsBeside}
 use Rattle.av_step.proofs.StepLaws.{wants-over}
-use Rattle.av_kernel.proofs.ChangeLaws.{are_changed}
+use Rattle.av_kernel.proofs.ChangeLaws.{AreChanged, are_changed}
 use Rattle.av_kernel.proofs.LockLaws.{flagged-keeps, flagged_state, low_end, mlock-steps, mlock-stops, over-device}
 use Rattle.av_kernel.proofs.lock.lock_pages.Goals as goal
 
