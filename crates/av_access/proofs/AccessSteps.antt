@@ -21,7 +21,7 @@ use Rattle.av_plain.specs.Transcript.{State, rmap_of}
 use Rattle.av_plain.specs.Event.{Event, notes_of}
 use Rattle.av_mem.specs.declared.mem.Mem.{Mem}
 use Rattle.av_fault.specs.declared.fault.Stop.{Stop}
-use Rattle.av_fault.specs.declared.fault.Stop.TheVariants.{Bus, Oom, Segv}
+use Rattle.av_fault.specs.declared.fault.Stop.TheVariants.{Denied, Lost, Starved}
 use Rattle.av_vma.specs.Pages.{Lengths}
 use Rattle.av_plain.specs.Areas.{Areas, Rmap, chain_length, next_areas, rmap_after_all}
 use Rattle.av_trace.specs.declared.command.Command.{Command}
@@ -46,16 +46,16 @@ not_refused false Follow Refuse is h = absurd (no is)
 -- the answer of an access that stopped
 answers-stopped : (a k page : ℕ) (stop : Stop) (shown : List ℕ) → k ≡ bytes_before a page →
     answer_of stop k shown ≡ stop_answer (stop_of stop) (bytes_before a page) shown
-answers-stopped a k page Segv shown is = ap (λ k. answers.Segv k shown) is
-answers-stopped a k page Bus shown is = ap (λ k. answers.Bus k shown) is
-answers-stopped a k page (Oom out) shown is = ap (λ k. answers.Oom k out shown) is
+answers-stopped a k page Denied shown is = ap (λ k. answers.Segv k shown) is
+answers-stopped a k page Lost shown is = ap (λ k. answers.Bus k shown) is
+answers-stopped a k page (Starved out) shown is = ap (λ k. answers.Oom k out shown) is
 
 -- a write that stopped stored what it says
 world-stopped : (w : World) (p a k : ℕ) (bytes : List ℕ) (stop : Stop) → after_write w p a (take k bytes) ≡ next w (Write p a bytes)
     (answer_of stop k [])
-world-stopped w p a k bytes Segv = refl
-world-stopped w p a k bytes Bus = refl
-world-stopped w p a k bytes (Oom out) = refl
+world-stopped w p a k bytes Denied = refl
+world-stopped w p a k bytes Lost = refl
+world-stopped w p a k bytes (Starved out) = refl
 
 module _ {d : Device} (s : State) (old new : Mem) (p a : ℕ) (before notes : List Note) (rows : List Row) (k : ℕ) (fresh : before ≡ [])
     (none : rows ≡ [])
@@ -228,9 +228,9 @@ module _ {d : Device} (s : State) (old new : Mem) (p a : ℕ) (before notes : Li
       by : (stop : Option Stop) → causes (record { answer = answer_at stop whole k shown; notes = notes_of events; rows = rows })
           ≡ causes_of_access (notes_of events) stop
       by None = λ i. max (fails (notes_of events)) (one i) + two i
-      by (Some Segv) = refl
-      by (Some Bus) = refl
-      by (Some (Oom out)) = refl
+      by (Some Denied) = refl
+      by (Some Lost) = refl
+      by (Some (Starved out)) = refl
 
   pub read-ended : {d' : Device} (n : ℕ) (shown : List ℕ) (answer : Answer) (stop : Option Stop) → IsRead d d' s new p a n before notes stop k shown →
       answer ≡ answer_at stop (answers.Data shown) k shown → MemSteps d d' old new s (Read p a n)

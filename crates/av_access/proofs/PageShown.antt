@@ -70,7 +70,7 @@ module _ {d d' : Device} (s : State) (new : Mem) (p page at n : ℕ) (before now
       subst (λ e. IsKept (view new) d' l e (pages (loaded d s new p page t.added) p page)) t.ready.0 (t.served.serves.held.bytes.kept p page) in
       let size : length (take (at + n - at) (drop at bytes)) ≡ n = length-take-le (at + n - at) (drop at bytes)
       (enough (length (drop at bytes)) (length-drop at bytes) long) ∙ rest in
-      read_served s new p page at n before now shown shown' same t.added t.notes t.touches t.served t.failures (
+      read_served s new p page at n before now shown shown' same t.added t.noted.notes t.touches t.served t.noted.failures (
         take (at + n - at) (drop at bytes),
         is,
         size,
@@ -94,7 +94,7 @@ module _ {d d' : Device} (s : State) (new : Mem) (p page at n : ℕ) (before now
       let holds : Holds (pages (loaded d s new p page t.added) p page) (λ _. 0) =
       subst (λ e. IsKept (view new) d' l e (pages (loaded d s new p page t.added) p page)) t.ready.0 (t.served.serves.held.bytes.kept p page) in
       let size : length (replicate {A = ℕ} n 0) ≡ n = length-replicate n 0 in
-      read_served s new p page at n before now shown shown' same t.added t.notes t.touches t.served t.failures (
+      read_served s new p page at n before now shown shown' same t.added t.noted.notes t.touches t.served t.noted.failures (
         replicate n 0,
         is,
         size,

@@ -27,7 +27,7 @@ use Rattle.av_mem.specs.declared.mem.Mem.{Mem}
 use Rattle.av_mem.specs.Mem.{setting_by, sizes_of, frame_count, view}
 use Rattle.av_mem.proofs.KeepsLaws.{serves-keeps, state_by}
 use Rattle.av_fault.specs.declared.fault.Stop.{Stop}
-use Rattle.av_fault.specs.declared.fault.Stop.TheVariants.{Bus, Oom, Segv}
+use Rattle.av_fault.specs.declared.fault.Stop.TheVariants.{Denied, Lost, Starved}
 use Rattle.av_fault.specs.declared.fault.Touched.TheVariants.{Ready, Stopped}
 use Rattle.av_fault.specs.Fault.{IsServed, IsTouched, failed_by, lost_by, stop_of}
 use Rattle.av_access.specs.Access.{causes_of_access}
@@ -48,15 +48,15 @@ rose-served added a b = rose-less _ _ a b (few (fails added))
 rose-stopped : (added : List Note) (stop : Stop) (a b : ℕ) → failed_by (Stopped stop) ≤ fails added → RoseBy
     (fails added + lost_by (Stopped stop)) a b
     → RoseBy (causes_of_access added (Some stop)) a b
-rose-stopped added Segv a b failed = rose-less _ _ a b (few (fails added))
+rose-stopped added Denied a b failed = rose-less _ _ a b (few (fails added))
   where
     few : (n : ℕ) → max n 0 + 0 ≤ n + 0
     few n = omega arith
-rose-stopped added Bus a b failed = rose-less _ _ a b (few (fails added))
+rose-stopped added Lost a b failed = rose-less _ _ a b (few (fails added))
   where
     few : (n : ℕ) → max n 0 + 1 ≤ n + 1
     few n = omega arith
-rose-stopped added (Oom out) a b failed = rose-less _ _ a b (few (fails added) out.fault failed)
+rose-stopped added (Starved out) a b failed = rose-less _ _ a b (few (fails added) out.fault failed)
   where
     few : (n k : ℕ) → k ≤ n → max n k + 0 ≤ n + 0
     few n k less = omega (arith, less)
@@ -100,8 +100,8 @@ module _ {d d' : Device} (s : State) (p page at : ℕ) (piece : List ℕ) (befor
   -- it was not served
   pub stopped : (new : Mem) (write : Bool) (stop : Stop) → IsTouched d d' s new write (p, page) before now (Stopped stop)
       → IsPageStep d d' s new write p page at piece before now (Some stop)
-  stopped new write stop t = unwritten new write t.added (Some stop) t.notes t.touches t.served (still write)
-      (rose-stopped t.added stop d.failures d'.failures t.failed t.failures)
+  stopped new write stop t = unwritten new write t.added (Some stop) t.noted.notes t.touches t.served (still write)
+      (rose-stopped t.added stop d.failures d'.failures t.noted.failed t.noted.failures)
     where
       still : (write : Bool) (w : World) → w ≡ world_after write p page at piece (Some stop) w
       still true w = refl
@@ -199,7 +199,7 @@ module _ {d d' : Device} (s : State) (p page at : ℕ) (piece : List ℕ) (befor
       }) in
       record {
         added = t.added;
-        notes = t.notes;
+        notes = t.noted.notes;
         touches = stands.touches;
         next = state_by new w' rs l;
         world = sym (stored_is w p (4096 * page + at) piece some);
@@ -229,7 +229,7 @@ module _ {d d' : Device} (s : State) (p page at : ℕ) (piece : List ℕ) (befor
         });
         same = same;
         wrote = t.served.wrote;
-        failures = rose-served t.added d.failures d'.failures t.failures;
+        failures = rose-served t.added d.failures d'.failures t.noted.failures;
       }
     where
       used_is : after_all s.ledger (page_events true (p, page) t.added None) ≡ after_use true (p, page) (after_notes s.ledger t.added)

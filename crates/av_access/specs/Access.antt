@@ -19,7 +19,7 @@ use Rattle.av_plain.specs.Transcript.{State, rmap_of}
 use Rattle.av_access.specs.declared.access.Piece.{Piece}
 use Rattle.av_mem.specs.declared.mem.Mem.{Mem}
 use Rattle.av_fault.specs.declared.fault.Stop.{Stop}
-use Rattle.av_fault.specs.declared.fault.Stop.TheVariants.{Bus, Oom, Segv}
+use Rattle.av_fault.specs.declared.fault.Stop.TheVariants.{Denied, Lost, Starved}
 use Rattle.av_mem.specs.Mem.{setting_by, Keeps}
 use Rattle.av_fault.specs.Fault.{stop_of}
 use Rattle.av_plain.specs.Pass.{pages_written}
@@ -28,9 +28,9 @@ use Rattle.av_plain.specs.Pass.{pages_written}
 
 -- the answer of an access that stopped
 abbrev pub answer_of : Stop → ℕ → List ℕ → Answer
-answer_of Segv k shown = answers.Segv k shown
-answer_of Bus k shown = answers.Bus k shown
-answer_of (Oom out) k shown = answers.Oom k out shown
+answer_of Denied k shown = answers.Segv k shown
+answer_of Lost k shown = answers.Bus k shown
+answer_of (Starved out) k shown = answers.Oom k out shown
 
 -- the answer of an access by how it ended: this one where it was whole
 abbrev pub answer_at : Option Stop → Answer → ℕ → List ℕ → Answer

@@ -205,15 +205,15 @@ fn stop_answer(stop: Stop, served: usize, shown: Bytes) -> Answer
     ensures { result ≡ answer_of stop served shown }
 {
     match stop {
-        Stop::Segv => Answer::Segv {
+        Stop::Denied => Answer::Segv {
             served: served as u64,
             shown,
         },
-        Stop::Bus => Answer::Bus {
+        Stop::Lost => Answer::Bus {
             served: served as u64,
             shown,
         },
-        Stop::Oom(out) => Answer::Oom {
+        Stop::Starved(out) => Answer::Oom {
             served: served as u64,
             out,
             shown,

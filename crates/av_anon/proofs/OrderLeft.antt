@@ -1,7 +1,8 @@
 -- Chain order where an area leaves its anon_vmas.
-use Rattle.std.proofs.Common.{◌≡◌, ℕ, zero, suc, ◌+◌, ◌-◌, ◌<◌, Bool, true, false, cond, ◌&&◌, ◌||◌, ◌==◌, IsSome, Option, Some, None, List, [], ◌∷◌, refl, sym, ap, ◌∙◌, subst, arith, inl, inr, eq-eqb, ne_eqb}
+use Rattle.std.proofs.Common.{◌≡◌, ℕ, zero, suc, ◌+◌, ◌-◌, ◌<◌, Bool, true, false, cond, ◌&&◌, ◌||◌, ◌==◌, IsSome, Option, Some, None, List, [], ◌∷◌, refl, sym, ap, ◌∙◌, subst, arith, inl, inr, eq-eqb, ne_eqb, not}
 use Rattle.std.specs.Prelude.{option_map}
 use Rattle.std.proofs.lemmas.Bool.{cases_eq, eqb-true}
+use Rattle.av_base.proofs.Without.{count-without}
 use Rattle.av_base.specs.Words.{how_many, is_in, with_at, without}
 use Rattle.std.specs.List.{range_with_len}
 use Rattle.av_chain.specs.Links.{left_by_all, one_if}
@@ -30,8 +31,8 @@ how_many-without t a [] h = refl
 how_many-without t a (x ∷ xs) h = elim (cases_eq a x) [
   | inl e ↦
       let rest : how_many t xs ≡ flag (t x) + how_many t xs = (let zero : flag (t x) ≡ 0 = ap flag (ap t (sym e) ∙ h) in omega (arith, zero)) in
-      ap (λ b. how_many t (cond b (without a xs) (x ∷ without a xs))) (eq-eqb a x e) ∙ how_many-without t a xs h ∙ rest
-  | inr ne ↦ ap (λ b. how_many t (cond b (without a xs) (x ∷ without a xs))) (ne_eqb a x ne) ∙ ap (λ k. flag (t x) + k) (how_many-without t a xs h)
+      ap (λ b. how_many t (cond (not b) (x ∷ without a xs) (without a xs))) (eq-eqb a x e) ∙ how_many-without t a xs h ∙ rest
+  | inr ne ↦ ap (λ b. how_many t (cond (not b) (x ∷ without a xs) (without a xs))) (ne_eqb a x ne) ∙ ap (λ k. flag (t x) + k) (how_many-without t a xs h)
 ]
 
 -- two tests that agree but at a, where the second fails
@@ -137,18 +138,10 @@ child_same v info u w = elim (cases_eq w v) [
     same (Some i) = refl
 
 in_without : (a b : ℕ) (xs : List ℕ) → (b ≡ a → ⊥) → how_many (λ c. b == c) (without a xs) ≡ how_many (λ c. b == c) xs
-in_without a b xs ne = how_many-without (λ c. b == c) a xs (ne_eqb b a ne)
+in_without a b xs ne = count-without a b xs ∙ ap (λ t. cond t 0 (how_many (λ c. b == c) xs)) (ne_eqb b a ne)
 
 none_without : (a : ℕ) (xs : List ℕ) → how_many (λ c. a == c) (without a xs) ≡ 0
-none_without a [] = refl
-none_without a (x ∷ xs) = elim (cases_eq a x) [
-  | inl e ↦ ap (λ b. how_many (λ c. a == c) (cond b (without a xs) (x ∷ without a xs))) (eq-eqb a x e) ∙ none_without a xs
-  | inr ne ↦
-      let rest = none_without a xs in
-      let zero : flag (a == x) ≡ 0 = ap flag (ne_eqb a x ne) in
-      let sum : flag (a == x) + how_many (λ c. a == c) (without a xs) ≡ 0 = omega (arith, rest, zero) in
-      ap (λ b. how_many (λ c. a == c) (cond b (without a xs) (x ∷ without a xs))) (ne_eqb a x ne) ∙ sum
-]
+none_without a xs = count-without a a xs ∙ ap (λ t. cond t 0 (how_many (λ c. a == c) xs)) (eq-eqb a a refl)
 
 some_left : (b : ℕ) (xs : List ℕ) → how_many (λ c. b == c) xs ≡ 1 → is_empty xs ≡ false
 some_left b [] h = absurd (omega arith)

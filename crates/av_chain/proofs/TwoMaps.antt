@@ -1,6 +1,6 @@
 -- The two maps that a list of links is.
 use Rattle.av_base.specs.Words.{how_many, is_in, with_at, without}
-use Rattle.std.proofs.Common.{◌≡◌, ℕ, ◌+◌, arith, true, false, cond, ◌||◌, ◌==◌, List, [], ◌∷◌, ◌++◌, refl, sym, ap, ◌∙◌, Option, Some, None, append-nil}
+use Rattle.std.proofs.Common.{◌≡◌, ℕ, ◌+◌, arith, true, false, cond, ◌||◌, ◌==◌, List, [], ◌∷◌, ◌++◌, refl, sym, ap, ◌∙◌, Option, Some, None, append-nil, not}
 use mathlib.Core.Bool.{Bool}
 use Rattle.av_chain.specs.Links.{Link, chain_of, users_of, first_in, rest_in, left_by, left_by_all, one_if, AreMutual, AreOnce, without_first}
 use Rattle.av_chain.proofs.Altered.{either, cond_lift, cond_same}
@@ -87,17 +87,17 @@ pub without_none : (x : ℕ) (ys : List ℕ) → is_in x ys ≡ false → withou
 without_none x [] e = refl
 without_none x (y ∷ ys) e =
     let apart = or_false (x == y) (is_in x ys) e in
-    ap (λ t. cond t (without x ys) (y ∷ without x ys)) apart.0 ∙ ap (λ zs. y ∷ zs) (without_none x ys apart.1)
+    ap (λ t. cond (not t) (y ∷ without x ys) (without x ys)) apart.0 ∙ ap (λ zs. y ∷ zs) (without_none x ys apart.1)
 
 pub without_twice : (x : ℕ) (ys : List ℕ) → without x (without x ys) ≡ without x ys
 without_twice x [] = refl
 without_twice x (y ∷ ys) =
-    either (without x (cond (x == y) (without x ys) (y ∷ without x ys)) ≡ cond (x == y) (without x ys) (y ∷ without x ys)) (x == y)
-    (λ e. ap (λ t. without x (cond t (without x ys) (y ∷ without x ys))) e ∙ without_twice x ys
-    ∙ sym (ap (λ t. cond t (without x ys) (y ∷ without x ys)) e))
-    (λ e. ap (λ t. without x (cond t (without x ys) (y ∷ without x ys))) e
-    ∙ ap (λ t. cond t (without x (without x ys)) (y ∷ without x (without x ys))) e
-    ∙ ap (λ zs. y ∷ zs) (without_twice x ys) ∙ sym (ap (λ t. cond t (without x ys) (y ∷ without x ys)) e))
+    either (without x (cond (not (x == y)) (y ∷ without x ys) (without x ys)) ≡ cond (not (x == y)) (y ∷ without x ys) (without x ys)) (x == y)
+    (λ e. ap (λ t. without x (cond (not t) (y ∷ without x ys) (without x ys))) e ∙ without_twice x ys
+    ∙ sym (ap (λ t. cond (not t) (y ∷ without x ys) (without x ys)) e))
+    (λ e. ap (λ t. without x (cond (not t) (y ∷ without x ys) (without x ys))) e
+    ∙ ap (λ t. cond (not t) (y ∷ without x (without x ys)) (without x (without x ys))) e
+    ∙ ap (λ zs. y ∷ zs) (without_twice x ys) ∙ sym (ap (λ t. cond (not t) (y ∷ without x ys) (without x ys)) e))
 
 popped_chain : (a : ℕ) (ls : List Link) (b : ℕ) → chain_of (without_first a ls) b ≡ with_at a (rest_in (chain_of ls a)) (chain_of ls) b
 popped_chain a [] b = sym (cond_same (b == a) [])
@@ -143,7 +143,7 @@ passed_by a (Some v) l ls u e = either (cond (u == l.1) (l.0 ∷ with_at v (with
     let here : with_at v (without a (users_of ls v)) (users_of ls) u ≡ without a (users_of ls v) =
     ap (λ y. cond y (without a (users_of ls v)) (users_of ls u)) f in
     let past : without a (l.0 ∷ users_of ls v) ≡ l.0 ∷ without a (users_of ls v) =
-    ap (λ y. cond y (without a (users_of ls v)) (l.0 ∷ without a (users_of ls v))) e in
+    ap (λ y. cond (not y) (l.0 ∷ without a (users_of ls v)) (without a (users_of ls v))) e in
     (λ i. cond (u == l.1) (l.0 ∷ here i) (here i)) ∙ ap (λ k. cond (k == l.1) (l.0 ∷ without a (users_of ls v)) (without a (users_of ls v)))
     (sym (number_eq v u f))
     ∙ (λ i. cond (v == l.1) (sym past i) (without a (users_of ls v))) ∙ sym (cond_lift (without a) (v == l.1) (l.0 ∷ users_of ls v) (users_of ls v))
@@ -165,7 +165,7 @@ popped_users a (l ∷ ls) o u =
     (λ f.
     let mine : users_of (l ∷ ls) l.1 ≡ l.0 ∷ users_of ls l.1 = ap (λ y. cond y (l.0 ∷ users_of ls l.1) (users_of ls l.1)) (same_number l.1) in
     let gone : without a (l.0 ∷ users_of ls l.1) ≡ users_of ls l.1 =
-    ap (λ y. cond y (without a (users_of ls l.1)) (l.0 ∷ without a (users_of ls l.1))) e
+    ap (λ y. cond (not y) (l.0 ∷ without a (users_of ls l.1)) (without a (users_of ls l.1))) e
     ∙ without_none a (users_of ls l.1) absent in
     ap (users_of ls) (sym (number_eq l.1 u f)) ∙ sym (ap (without a) mine ∙ gone)
     ∙ sym (ap (λ y. cond y (without a (users_of (l ∷ ls) l.1)) (users_of (l ∷ ls) u)) f))

@@ -62,7 +62,7 @@ flight-ended m l s fs failed sound is = dropped (is_orphan (after_note (end_note
 -- the first of those that end
 pub first-completes : (l : Ledger) (end : Option WriteEnd) (ns : List Note) → EndsFirst end l ns → Completes l (take 1 l.flight) ns
 first-completes l None ns h = subst (λ fs. Completes l (take 1 fs) ns) (sym h.0) h.1
-first-completes l (Some end) ns h = let r = first-some end.slot l.flight h.0 in
+first-completes l (Some end) ns h = let r = first-some end.slot l.flight h.0.0 in
     subst (λ fs. Completes l (take 1 fs) ns) (sym r.1) (end.failed, [], h.1 ∙ sym (append-nil _), refl)
 
 -- one more write ends before the rest

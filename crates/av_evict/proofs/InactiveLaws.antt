@@ -19,7 +19,7 @@ use Rattle.av_evict.proofs.SystemLaws.{gives-as, gives-then, loose}
 use Rattle.av_evict.specs.Inactive.{GoesOut, IsSentIdle}
 use Rattle.av_evict.specs.Steps.{IsSent, IsUsed, KeepsReferenced, MayDrop, MaySend, MayStart, closes}
 use Rattle.av_plain.specs.Reclaim.{Outcome, cause_of, is_in_writeback, is_referenced, leave_notes}
-use Rattle.av_evict.proofs.StepLaws.{clean-may_drop, landed-flights, pair-cached, pair-slot_of, still-landed, unmerged-count}
+use Rattle.av_evict.proofs.StepLaws.{clean-may_drop, landed-flights, pair-slot_of, still-landed, unmerged-count}
 use Rattle.av_evict.proofs.TurnLaws.{sent-stale}
 
 -- ---- a frame that was sent to its slot goes on
@@ -30,15 +30,15 @@ idle-pair l f s at = slot_of-some f s l.cache at.cached
 pub idle-used : (l : Ledger) (f : ℕ) (s : Slot) → IsSentIdle f s l → IsUsed f l
 idle-used l f s at = let p = idle-pair l f s at in let q = pair-frame s f l.cache in omega (arith, p, q)
 
-pub idle-may_start : (l : Ledger) (f : ℕ) (s : Slot) → IsSentIdle f s l → MayStart s l
-idle-may_start l f s at = record { cached = pair-cached l s f (idle-pair l f s at); landed = still-landed l s at.landed }
+pub idle-may_start : (l : Ledger) (f : ℕ) (s : Slot) → IsSentIdle f s l → MayStart f s l
+idle-may_start l f s at = record { cached = at.cached; landed = still-landed l s at.landed }
 
 pub idle-started : (l : Ledger) (f : ℕ) (s : Slot) (ns : List Note) → IsSentIdle f s l → ns ≡ Started s ∷ [] → IsUsed f (after_notes l ns)
 idle-started l f s ns at is = subst (λ x. IsUsed f (after_notes l x)) (sym is)
     (let e = alike-uses l (after_note (Started s) l) (alike-started l s) f in let u = idle-used l f s at in omega (arith, e, u))
 
-pub idle-may_drop : (m : Setting) (l : Ledger) (f : ℕ) (s : Slot) → IsSound m l → IsSentIdle f s l → false ≡ is_stale l s → MayDrop s l
-idle-may_drop m l f s sound at clean = clean-may_drop m l s f sound (idle-pair l f s at) at.unmapped at.landed (sym clean)
+pub idle-may_drop : (l : Ledger) (f : ℕ) (s : Slot) → IsSentIdle f s l → false ≡ is_stale l s → MayDrop f s l
+idle-may_drop l f s at clean = clean-may_drop l f s at.cached at.unmapped at.landed (sym clean)
 
 pub begun-stale : (l : Ledger) (f : ℕ) (s : Slot) (ns ms : List Note) → true ≡ is_stale l s → ns ≡ Started s ∷ [] → ms ≡ Kept f WriteStarted ∷ [] →
     GoesOut f s l (ns ++ ms)

@@ -9,5 +9,5 @@ pub mod TailLaws
 pub mod PassLaws
 pub mod OrderLaws
 pub mod SeekLaws
-pub mod OutLaws
+pub mod ShortageLaws
 pub mod CountLaws

@@ -23,7 +23,7 @@ use Rattle.av_evict.specs.Pass.{AreTurns, IsLanded, turn_order}
 use Rattle.av_evict.specs.Steps.{closes}
 use Rattle.av_evict.specs.System.{Gives, Goes, IsAt, Leaves, SystemView, spares}
 use Rattle.av_evict.specs.Turn.{Frees, InVain, IsTurnIfAny, MayTurn, MayTurnNow, with_turn}
-use Rattle.av_evict.proofs.SystemLaws.{does-none, goes-then, leaves-spares}
+use Rattle.av_evict.proofs.SystemLaws.{happened-none, goes-then, leaves-spares}
 use Rattle.av_evict.proofs.StepLaws.{unmerged-count}
 use Rattle.av_evict.proofs.TailLaws.{first-is, first-no, unmap-lists}
 use Rattle.av_evict.proofs.TurnLaws.{turn-now}
@@ -273,7 +273,7 @@ turning-start a n pinned next first l sound stands landed = record {
   first = first l sound stands;
   gained = [];
   added = sym (append-nil n);
-  goes = record { sound = sound; does = does-none a l stands };
+  goes = record { sound = sound; happened = happened-none a l stands };
   vain = refl;
   stays = record { landed = landed; inactive = refl; active = refl; merged = refl; used = λ g h. h };
 }
@@ -299,8 +299,8 @@ pub turning-at : (a b : SystemView) (n0 n1 : List Note) (pinned : Option ℕ) (t
 turning-at a b n0 n1 pinned turn f at t =
     let i = t at.0 at.1 at.2 at.3 in (
       after_notes at.0 i.gained,
-      subst (λ m. IsSound m (after_notes at.0 i.gained)) (sym i.goes.does.stays.setting) i.goes.sound,
-      i.goes.does.stands,
+      subst (λ m. IsSound m (after_notes at.0 i.gained)) (sym i.goes.happened.stays.setting) i.goes.sound,
+      i.goes.happened.stands,
       turning-may a b n0 n1 pinned turn f at.0 at.1 i,
     )
 
@@ -313,9 +313,9 @@ pub turning-step : (a b c : SystemView) (n0 n1 n2 : List Note) (pinned : Option 
 turning-step a b c n0 n1 n2 pinned turn f next t leaves gives after l sound stands landed =
     let i = t l sound stands landed in
     let l1 = after_notes l i.gained in
-    let s1 : IsSound b.setting l1 = subst (λ m. IsSound m l1) (sym i.goes.does.stays.setting) i.goes.sound in
+    let s1 : IsSound b.setting l1 = subst (λ m. IsSound m l1) (sym i.goes.happened.stays.setting) i.goes.sound in
     let may = turning-may a b n0 n1 pinned turn f l sound i in
-    let x = gives l1 s1 i.goes.does.stands may in
+    let x = gives l1 s1 i.goes.happened.stands may in
     let r = turning-split a b n0 n1 pinned turn f l i in
     let same : after_notes l (i.gained ++ x.0) ≡ after_notes l1 x.0 = after_notes-append l i.gained x.0 in
     let stays = but-stays b.setting (spares b pinned) l1 f x.0 s1 may x.2 in
@@ -325,8 +325,8 @@ turning-step a b c n0 n1 n2 pinned turn f next t leaves gives after l sound stan
       todo = r.0;
       split = i.split ∙ ap (λ y. i.done ++ y) r.1 ∙ sym (append_assoc i.done (f ∷ []) r.0);
       count = one_more i.done turn i.count;
-      first = after (after_notes l1 x.0) (subst (λ m. IsSound m (after_notes l1 x.0)) (sym x.3.does.stays.setting) x.3.sound)
-          x.3.does.stands i.done r.0
+      first = after (after_notes l1 x.0) (subst (λ m. IsSound m (after_notes l1 x.0)) (sym x.3.happened.stays.setting) x.3.sound)
+          x.3.happened.stands i.done r.0
           ((λ j. reverse (stays.inactive j) ++ reverse (stays.active j)) ∙ r.2);
       gained = i.gained ++ x.0;
       added = x.1 ∙ ap (λ z. z ++ x.0) i.added ∙ append_assoc n0 i.gained x.0;
@@ -336,7 +336,7 @@ turning-step a b c n0 n1 n2 pinned turn f next t leaves gives after l sound stan
           (vain-append a.setting a.closing l (with_turn sp l i.done) (with_turn sp l (f ∷ [])) i.gained x.0 i.vain
           (subst (λ fs. InVain a.setting a.closing l1 fs x.0) (with_turn-merged sp l l1 (f ∷ []) i.stays.merged)
           (subst (λ (q : Spared). InVain a.setting q.closing l1 (with_turn q l1 (f ∷ [])) x.0) (leaves-spares a b pinned leaves)
-          (subst (λ m. InVain m b.closing l1 (with_turn (spares b pinned) l1 (f ∷ [])) x.0) i.goes.does.stays.setting x.2))));
+          (subst (λ m. InVain m b.closing l1 (with_turn (spares b pinned) l1 (f ∷ [])) x.0) i.goes.happened.stays.setting x.2))));
       stays = subst (Stays l) (sym same) (stays-then l l1 (after_notes l1 x.0) i.stays stays);
     }
   where
@@ -350,12 +350,12 @@ pub turning-freed : (a b c : SystemView) (n0 n1 n2 : List Note) (pinned : Option
 turning-freed a b c n0 n1 n2 pinned turn f t leaves gives l sound stands landed =
     let i = t l sound stands landed in
     let l1 = after_notes l i.gained in
-    let s1 : IsSound b.setting l1 = subst (λ m. IsSound m l1) (sym i.goes.does.stays.setting) i.goes.sound in
+    let s1 : IsSound b.setting l1 = subst (λ m. IsSound m l1) (sym i.goes.happened.stays.setting) i.goes.sound in
     let may = turning-may a b n0 n1 pinned turn f l sound i in
-    let x = gives l1 s1 i.goes.does.stands may in
+    let x = gives l1 s1 i.goes.happened.stands may in
     let r = first-is f i.todo i.first in
-    let frees : Frees a.setting a.closing f l1 x.0 = subst (λ k. Frees a.setting k f l1 x.0) i.goes.does.stays.closing
-    (subst (λ m. Frees m b.closing f l1 x.0) i.goes.does.stays.setting x.2.1) in
+    let frees : Frees a.setting a.closing f l1 x.0 = subst (λ k. Frees a.setting k f l1 x.0) i.goes.happened.stays.closing
+    (subst (λ m. Frees m b.closing f l1 x.0) i.goes.happened.stays.setting x.2.1) in
     let sp = spares a pinned in
     let here : has_turn sp l1 f ≡ true = subst (λ (q : Spared). has_turn q l1 f ≡ true) (leaves-spares a b pinned leaves) x.2.0 in
     let order : with_turn sp l (turn_order l) ≡ with_turn sp l i.done ++ f ∷ with_turn sp l r.0 =

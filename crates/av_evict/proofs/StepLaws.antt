@@ -1,17 +1,17 @@
 -- What single steps keep, and what they are with their notes.
-use Rattle.std.proofs.Common.{slice_get, Bool, List, None, Option, Some, [], ap, arith, cond, false, is_none, is_some, nat_lt, not, option_map, refl, subst, sym, true, ℕ, ◌&&◌, ◌++◌, ◌+◌, ◌<◌, ◌==◌, ◌||◌, ◌∙◌, ◌∷◌, ◌≡◌}
+use Rattle.std.proofs.Common.{slice_get, Bool, List, None, Option, Some, [], ap, arith, cond, false, is_none, nat_lt, not, option_map, refl, subst, sym, true, ℕ, ◌&&◌, ◌++◌, ◌+◌, ◌<◌, ◌==◌, ◌||◌, ◌∙◌, ◌∷◌, ◌≡◌}
 use Rattle.std.proofs.lemmas.Bool.Decides.{nat_tests}
 use Rattle.av_base.specs.declared.slot.Slot.{Slot}
 use Rattle.av_trace.specs.declared.note.Note.{Note}
 use Rattle.av_trace.specs.declared.note.Note.TheVariants.{Aged, Dropped, Kept, Put, Started, Unmapped}
 use Rattle.av_plain.specs.Event.{after_note, after_notes, change_entries, if_some, when, without_seen}
-use Rattle.av_plain.specs.Ledger.{Cached, InSlot, Ledger, Setting, SwapArea, frame_at, free_slots, has_free_slot, in_flight, is_cached, is_free_slot, is_merged, is_open, is_orphan, is_stale, is_unmapped, map_count, may_give, no_slot, same_slot, slot_entries, slot_of}
+use Rattle.av_plain.specs.Ledger.{Cached, InSlot, Ledger, Setting, SwapArea, frame_at, free_slots, has_free_slot, in_flight, is_free_slot, is_merged, is_open, is_orphan, is_stale, is_unmapped, map_count, may_give, no_slot, same_slot, slot_entries, slot_of}
 use Rattle.av_plain.specs.Pass.{end_note, end_notes}
-use Rattle.av_plain.specs.Sound.{IsSound, IsSoundBut, flights, holders, mergings, no_excuse, pairs, slots, uses}
+use Rattle.av_plain.specs.Sound.{IsSound, IsSoundBut, flights, holders, mergings, no_excuse, pairs, uses}
 use Rattle.av_plain.proofs.Sound.Changes.{any-counts, drop-sound}
 use Rattle.av_plain.proofs.Sound.Counts.{frame_at-none, frame_at-some, pair-frame, pair-slot, same-is, same-itself, same-turned, slot-is, slot-turned, slot_of-none, slot_of-some, two_frames, two_slots}
 use Rattle.av_plain.proofs.Sound.Flight.{orphan-landed, started-kept}
-use Rattle.av_plain.proofs.Sound.Steps.{end_notes-kept, ended, given-nowhere}
+use Rattle.av_plain.proofs.Sound.Steps.{alike-end_note, end_notes-kept, ended, given-nowhere}
 use Rattle.std.specs.Prelude.{IsTrue, MatchOption}
 use Rattle.std.specs.FinMap.Entries.{find as find_area}
 use Rattle.std.specs.Option.{option_map_or}
@@ -20,8 +20,8 @@ use Rattle.std.specs.List.{list_all}
 use Rattle.av_plain.proofs.Sound.Cache.{active-kept, head-kept, put-kept, unmapped-kept}
 use Rattle.av_trace.specs.declared.note.Cause.{Cause}
 use Rattle.av_trace.specs.declared.note.Cause.TheVariants.{Ksm, Locked, NoSlot, Referenced, WriteStarted, Writeback}
-use Rattle.av_evict.specs.Steps.{EndsFirst, GetsSlot, IsInCache, IsSent, IsUnmapped, IsUsed, MayDrop, MayPut, MaySend, MayStart, MayUnmap}
-use Rattle.av_evict.specs.System.{Does, Goes, SystemView, any_slot}
+use Rattle.av_evict.specs.Steps.{EndsFirst, GetsSlot, IsCachedAt, IsFirst, IsSent, IsUnmapped, IsUsed, MayDrop, MayPut, MaySend, MayStart, MayUnmap}
+use Rattle.av_evict.specs.System.{HasHappened, Goes, SystemView, any_slot}
 use Rattle.av_evict.specs.declared.system.WriteEnd.{WriteEnd}
 use Rattle.av_evict.proofs.SystemLaws.{loose}
 use Rattle.av_plain.proofs.Event.{map_count-unseen}
@@ -35,21 +35,11 @@ above n h = grind (arith, nat_tests, h)
 none : (n : ℕ) → nat_lt 0 n ≡ false → n ≡ 0
 none n h = grind (arith, nat_tests, h)
 
-pub pair-cached : (l : Ledger) (s : Slot) (f : ℕ) → 0 < pairs l s f → is_cached l s ≡ true
-pair-cached l s f h = any-counts (λ (c : Cached). same_slot s c.slot) l.cache
-    ∙ above (slots l s) (let p = pair-slot s f l.cache in omega (arith, p, h))
-  where
-    above : (n : ℕ) → 0 < n → nat_lt 0 n ≡ true
-    above n h = grind (arith, nat_tests, h)
-
 pub still-landed : (l : Ledger) (s : Slot) → flights l s ≡ 0 → in_flight l s ≡ false
 still-landed l s h = any-counts (same_slot s) l.flight ∙ none (flights l s) h
   where
     none : (n : ℕ) → n ≡ 0 → nat_lt 0 n ≡ false
     none n h = grind (arith, nat_tests, h)
-
-pub cached-slots : (l : Ledger) (s : Slot) → is_cached l s ≡ true → 0 < slots l s
-cached-slots l s h = above (slots l s) (sym (any-counts (λ (c : Cached). same_slot s c.slot) l.cache) ∙ h)
 
 pub landed-flights : (l : Ledger) (s : Slot) → in_flight l s ≡ false → flights l s ≡ 0
 landed-flights l s h = none (flights l s) (sym (any-counts (same_slot s) l.flight) ∙ h)
@@ -67,7 +57,7 @@ pair-frame_at m l s f sound pair = by (frame_at l s) refl
             let once = sound.slots_once s in
             absurd (omega (arith, p, two, once, pair))
 
-pub pair-slot_of : (m : Setting) (l : Ledger) (s : Slot) (f : ℕ) → IsSound m l → 0 < pairs l s f → slot_of l f ≡ Some s
+pub pair-slot_of : (m : Setting) {x : Slot → ℕ} (l : Ledger) (s : Slot) (f : ℕ) → IsSoundBut m x l → 0 < pairs l s f → slot_of l f ≡ Some s
 pair-slot_of m l s f sound pair = by (slot_of l f) refl
   where
     by : (o : Option Slot) → slot_of l f ≡ o → o ≡ Some s
@@ -81,12 +71,8 @@ pair-slot_of m l s f sound pair = by (slot_of l f) refl
             absurd (omega (arith, p, two, once, pair))
 
 -- a frame that is cached is one of the machine's
-pub cached-below : (m : Setting) (l : Ledger) (f : ℕ) → IsSound m l → IsInCache f l → f < m.frames
-cached-below m l f sound cached = by (slot_of l f) refl cached
-  where
-    by : (o : Option Slot) → slot_of l f ≡ o → is_some o ≡ true → f < m.frames
-    by None is h = cc
-    by (Some s) is h = sound.in_range f (let p = slot_of-some f s l.cache is in let q = pair-frame s f l.cache in omega (arith, p, q))
+pub cached-below : (m : Setting) (l : Ledger) (f : ℕ) (s : Slot) → IsSound m l → IsCachedAt f s l → f < m.frames
+cached-below m l f s sound at = sound.in_range f (let p = slot_of-some f s l.cache at in let q = pair-frame s f l.cache in omega (arith, p, q))
 
 -- a frame that isn't merged stands nowhere among those that are
 pub unmerged-count : (l : Ledger) (f : ℕ) → is_merged l f ≡ false → mergings l f ≡ 0
@@ -94,24 +80,21 @@ unmerged-count l f h = none (mergings l f) (sym (any-counts (λ g. f == g) l.mer
 
 -- ---- each step keeps soundness
 
-pub start-sound : (m : Setting) (l : Ledger) (s : Slot) → IsSound m l → MayStart s l → IsSound m (after_note (Started s) l)
-start-sound m l s sound may = started-kept m no_excuse l s sound (cached-slots l s may.cached) (landed-flights l s may.landed)
+pub start-sound : (m : Setting) (l : Ledger) (f : ℕ) (s : Slot) → IsSound m l → MayStart f s l → IsSound m (after_note (Started s) l)
+start-sound m l f s sound may = started-kept m no_excuse l s sound
+    (let p = slot_of-some f s l.cache may.cached in let q = pair-slot s f l.cache in omega (arith, p, q)) (landed-flights l s may.landed)
 
-pub drop-may : (m : Setting) (l : Ledger) (s : Slot) → IsSound m l → MayDrop s l → IsSound m (after_note (Dropped s) l)
-drop-may m l s sound may = drop-sound m l s sound (landed-flights l s may.landed)
+pub drop-may : (m : Setting) (l : Ledger) (f : ℕ) (s : Slot) → IsSound m l → MayDrop f s l → IsSound m (after_note (Dropped s) l)
+drop-may m l f s sound may = drop-sound m l s sound (landed-flights l s may.landed)
 
 pub put-sound : (m : Setting) (closing : Option ℕ) (l : Ledger) (f : ℕ) (s : Slot) → IsSound m l → MayPut f l → may_give m closing l s ≡ true →
     IsSound m (after_note (Put f s) l)
 put-sound m closing l f s sound may gives = let n = given-nowhere m closing l s gives in
     put-kept m no_excuse l s f sound n.uncached n.unnamed (slot_of-none f l.cache may.uncached) (unmerged-count l f may.unmerged) may.mapped
 
-pub unmap-sound : (m : Setting) (l : Ledger) (f : ℕ) → IsSound m l → IsInCache f l → IsSound m (after_note (Unmapped f) l)
-unmap-sound m l f sound cached = by (slot_of l f) refl cached
-  where
-    by : (o : Option Slot) → slot_of l f ≡ o → is_some o ≡ true → IsSound m (if_some (slot_of l f) (λ s. change_entries f (λ _. InSlot s)) l)
-    by None is h = cc
-    by (Some s) is h = subst (λ o. IsSound m (if_some o (λ s. change_entries f (λ _. InSlot s)) l)) (sym is)
-        (unmapped-kept m no_excuse l s f sound (slot_of-some f s l.cache is))
+pub unmap-sound : (m : Setting) (l : Ledger) (f : ℕ) (s : Slot) → IsSound m l → IsCachedAt f s l → IsSound m (after_note (Unmapped f) l)
+unmap-sound m l f s sound at = subst (λ o. IsSound m (if_some o (λ s. change_entries f (λ _. InSlot s)) l)) (sym at)
+    (unmapped-kept m no_excuse l s f sound (slot_of-some f s l.cache at))
 
 -- ---- moves between the lists
 
@@ -223,8 +206,8 @@ put-cached m closing l f s ns put = subst (λ x. slot_of (after_notes l x) f ≡
 pub test-mapped : (l : Ledger) (f : ℕ) (b : Bool) → b ≡ not (map_count l f == 0) → b ≡ true → 0 < map_count l f
 test-mapped l f b is h = grind (arith, nat_tests, is, h)
 
-pub mapped-unmap : (l : Ledger) (f : ℕ) (b : Bool) → b ≡ not (map_count l f == 0) → b ≡ true → IsInCache f l → MayUnmap f l
-mapped-unmap l f b is h cached = record { cached = cached; mapped = test-mapped l f b is h }
+pub mapped-unmap : (l : Ledger) (f : ℕ) (s : Slot) (b : Bool) → b ≡ not (map_count l f == 0) → b ≡ true → IsCachedAt f s l → MayUnmap f s l
+mapped-unmap l f s b is h at = record { cached = at; mapped = test-mapped l f b is h }
 
 pub unmap-notes : (l : Ledger) (f : ℕ) (b : Bool) (ns : List Note) → b ≡ not (map_count l f == 0) → ns ≡ when b (Unmapped f) → IsUnmapped f l ns
 unmap-notes l f b ns is h = h ∙ ap (λ c. when c (Unmapped f)) is
@@ -242,18 +225,14 @@ sent-both m closing l f s ns ms put un = (put.0, put.1, (λ i. put.2 i ++ (un �
 
 -- ---- a slot is dropped
 
-pub orphan-may_drop : (l : Ledger) (s : Slot) → is_orphan l s ≡ true → MayDrop s l
-orphan-may_drop l s is = record {
-  cached = at (frame_at l s) refl (first (is_unmapped l (frame_at l s)) (not (in_flight l s)) (slot_entries l s == 0) is);
+pub orphan-may_drop : (l : Ledger) (f : ℕ) (s : Slot) → IsCachedAt f s l → is_orphan l s ≡ true → MayDrop f s l
+orphan-may_drop l f s at is = record {
+  cached = at;
   landed = still-landed l s (orphan-landed l s is);
   kept = λ named. let z = last (is_unmapped l (frame_at l s)) (not (in_flight l s)) (slot_entries l s == 0) is in
       absurd (clash (slot_entries l s == 0) z named);
 }
   where
-    first : (a b c : Bool) → (a && b && c) ≡ true → a ≡ true
-    first true b c h = refl
-    first false b c h = cc
-
     last : (a b c : Bool) → (a && b && c) ≡ true → c ≡ true
     last true true c h = h
     last true false c h = cc
@@ -262,24 +241,11 @@ orphan-may_drop l s is = record {
     clash : (b : Bool) → b ≡ true → b ≡ false → ⊥
     clash b h i = cc
 
-    at : (o : Option ℕ) → frame_at l s ≡ o → is_unmapped l (frame_at l s) ≡ true → is_cached l s ≡ true
-    at None is h = let e = sym (ap (is_unmapped l) is) ∙ h in cc
-    at (Some f) is h = pair-cached l s f (frame_at-some f s l.cache is)
-
 -- a clean slot whose frame has no entries may be dropped
-pub clean-may_drop : (m : Setting) (l : Ledger) (s : Slot) (f : ℕ) → IsSound m l → 0 < pairs l s f → map_count l f ≡ 0 → flights l s ≡ 0 →
-    is_stale l s ≡ false → MayDrop s l
-clean-may_drop m l s f sound pair unmapped landed clean = record {
-  cached = pair-cached l s f pair;
-  landed = still-landed l s landed;
-  kept = λ named. (ap (is_unmapped l) (pair-frame_at m l s f sound pair) ∙ grind (arith, nat_tests, unmapped), clean);
-}
+pub clean-may_drop : (l : Ledger) (f : ℕ) (s : Slot) → IsCachedAt f s l → map_count l f ≡ 0 → flights l s ≡ 0 → is_stale l s ≡ false → MayDrop f s l
+clean-may_drop l f s at unmapped landed clean = record { cached = at; landed = still-landed l s landed; kept = λ named. (unmapped, clean) }
 
 -- ---- the first write in flight ends
-
-pub first-none : (fs : List Slot) → None ≡ slice_get fs 0 → fs ≡ []
-first-none [] h = refl
-first-none (s ∷ fs) h = cc
 
 pub first-some : (s : Slot) (fs : List Slot) → Some s ≡ slice_get fs 0 → (rest : List Slot) × (fs ≡ s ∷ rest)
 first-some s [] h = cc
@@ -289,22 +255,28 @@ first-some s (t ∷ fs) h = (fs, ap (λ x. x ∷ fs) (some_is t s (sym h)))
     some_is t s h = cc
 
 -- within a step the ledger is sound enough
-pub ended-loose : (a b : SystemView) (l : Ledger) (s : Slot) (failed : Bool) → IsSound a.setting l → Does a b l (end_note failed s ∷ []) →
+pub ended-loose : (a b : SystemView) (l : Ledger) (s : Slot) (failed : Bool) → IsSound a.setting l → HasHappened a b l (end_note failed s ∷ []) →
     IsSoundBut b.setting any_slot (after_note (end_note failed s) l)
 ended-loose a b l s failed sound d = subst (λ m. IsSoundBut m any_slot (after_note (end_note failed s) l)) (sym d.stays.setting)
     (loose a.setting _ _ (ended a.setting l failed s sound))
 
+-- the frame still caches it
+pub ended-cached : (m : Setting) (l : Ledger) (f : ℕ) (s : Slot) (failed : Bool) → IsSound m l → IsCachedAt f s l →
+    IsCachedAt f s (after_note (end_note failed s) l)
+ended-cached m l f s failed sound at = pair-slot_of m _ s f (ended m l failed s sound)
+    (let p = slot_of-some f s l.cache at in let e = (alike-end_note l failed s).pairs_same s f in omega (arith, p, e))
+
 -- and so it goes, whether the slot is an orphan then or not
 pub ends-first : (a b : SystemView) (before now : List Note) (l : Ledger) (end : WriteEnd) (ns : List Note) → IsSound a.setting l →
-    Some end.slot ≡ slice_get l.flight 0 → now ≡ before ++ ns → ns ≡ end_notes l end.slot end.failed → Does a b l ns →
+    IsFirst (Some end) l → now ≡ before ++ ns → ns ≡ end_notes l end.slot end.failed → HasHappened a b l ns →
     (gained : List Note) × (now ≡ before ++ gained) × EndsFirst (Some end) l gained × Goes a b l gained
-ends-first a b before now l end ns sound first whole is does = (
+ends-first a b before now l end ns sound first whole is happened = (
   ns,
   whole,
   (first, is),
   record {
     sound = subst (λ x. IsSound a.setting (after_notes l x)) (sym is) (end_notes-kept a.setting l end.slot end.failed sound).sound;
-    does = does;
+    happened = happened;
   },
 )
 

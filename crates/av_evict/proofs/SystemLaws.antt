@@ -16,7 +16,7 @@ use Rattle.av_plain.specs.Sound.{IsSound, IsSoundBut}
 use Rattle.av_plain.proofs.AreasLeft.{rmap_after_all-append}
 use Rattle.av_plain.proofs.Access.{after_notes-append, chooses-append, note_events-append, note_events-all}
 use Rattle.av_plain.proofs.Ledger.{how_many-append}
-use Rattle.av_evict.specs.System.{Adds, Always, Does, Gives, Goes, IsAt, Knows, Leaves, Makes, Stays, SystemView, any_slot, spares}
+use Rattle.av_evict.specs.System.{Adds, Always, HasHappened, Gives, Goes, IsAt, Knows, Leaves, Makes, Stays, SystemView, any_slot, spares}
 
 -- within a step nothing is asked of uses
 pub loose : (m : Setting) (x : Slot → ℕ) (l : Ledger) → IsSoundBut m x l → IsSoundBut m any_slot l
@@ -90,8 +90,8 @@ left_then d e = record { stays = stays_then d.stays e.stays; locked = e.locked �
 pub leaves-spares : (a b : SystemView) (pinned : Option ℕ) → Leaves a b → spares b pinned ≡ spares a pinned
 leaves-spares a b pinned d = λ i. record { pinned = pinned; locked = d.locked i; closing = d.stays.closing i }
 
-pub does-then : (a b c : SystemView) (l : Ledger) (ns ms : List Note) → Does a b l ns → Does b c (after_notes l ns) ms → Does a c l (ns ++ ms)
-does-then a b c l ns ms d e = record {
+pub happened-then : (a b c : SystemView) (l : Ledger) (ns ms : List Note) → HasHappened a b l ns → HasHappened b c (after_notes l ns) ms → HasHappened a c l (ns ++ ms)
+happened-then a b c l ns ms d e = record {
   stands = subst c.stands (sym (after_notes-append l ns ms)) e.stands;
   stays = stays_then d.stays e.stays;
   chooses = subst (λ es. ChoosesAll a.setting a.closing l es a.free c.free) (sym (note_events-append ns ms))
@@ -111,8 +111,8 @@ does-then a b c l ns ms d e = record {
 pub goes-then : (a b c : SystemView) (l : Ledger) (ns ms : List Note) → Goes a b l ns → Goes b c (after_notes l ns) ms → Goes a c l (ns ++ ms)
 goes-then a b c l ns ms d e = record {
   sound = subst (IsSound a.setting) (sym (after_notes-append l ns ms))
-      (subst (λ m. IsSound m (after_notes (after_notes l ns) ms)) d.does.stays.setting e.sound);
-  does = does-then a b c l ns ms d.does e.does;
+      (subst (λ m. IsSound m (after_notes (after_notes l ns) ms)) d.happened.stays.setting e.sound);
+  happened = happened-then a b c l ns ms d.happened e.happened;
 }
 
 rose-none : (n top a b : ℕ) → n ≡ a → n ≤ b → min (a + 0) top ≤ b
@@ -123,8 +123,8 @@ loads-none w true = refl
 loads-none w false = refl
 
 -- what changes nothing that is shown
-pub does-none : (a : SystemView) (l : Ledger) → a.stands l → Does a a l []
-does-none a l h = record {
+pub happened-none : (a : SystemView) (l : Ledger) → a.stands l → HasHappened a a l []
+happened-none a l h = record {
   claims = λ w r c. subst (λ x. a.claims x r l) (sym (loads-none w (is_some a.setting.headers))) c;
   stands = h;
   stays = stays_so a;
@@ -143,7 +143,7 @@ at-knows a R at = (at.0, loose a.setting _ at.0 at.1, at.2, at.3)
 pub makes-gives : (a b : SystemView) (n0 n1 : List Note) (R : Ledger → Type 0) (ns : List Note) → Makes a b R ns → n1 ≡ n0 ++ ns →
     ((l : Ledger) → IsSound a.setting l → a.stands l → R l → IsSound a.setting (after_notes l ns)) → Gives a b n0 n1 R (Adds ns)
 makes-gives a b n0 n1 R ns makes added kept l sound stands ready =
-    (ns, added, refl, record { sound = kept l sound stands ready; does = makes l (loose a.setting _ l sound) stands ready })
+    (ns, added, refl, record { sound = kept l sound stands ready; happened = makes l (loose a.setting _ l sound) stands ready })
 
 -- what is known of the notes may be said otherwise
 pub gives-as : (a b : SystemView) (n0 n1 : List Note) (R R' : Ledger → Type 0) (Q Q' : Ledger → List Note → Type 0) → Gives a b n0 n1 R Q →
@@ -162,7 +162,7 @@ gives-so a b n0 n1 R Q Q' gives more l sound stands ready =
       x.0,
       x.1,
       more l x.0 sound stands x.2 x.3
-          (subst (λ m. IsSoundBut m any_slot (after_notes l x.0)) (sym x.3.does.stays.setting) (loose a.setting _ _ x.3.sound)),
+          (subst (λ m. IsSoundBut m any_slot (after_notes l x.0)) (sym x.3.happened.stays.setting) (loose a.setting _ _ x.3.sound)),
       x.3,
     )
 
@@ -170,7 +170,7 @@ gives-so a b n0 n1 R Q Q' gives more l sound stands ready =
 pub gives-none : (a : SystemView) (n : List Note) (R : Ledger → Type 0) (Q : Ledger → List Note → Type 0) →
     ((l : Ledger) → IsSound a.setting l → a.stands l → R l → Q l []) → Gives a a n n R Q
 gives-none a n R Q q l sound stands ready =
-    ([], sym (append-nil n), q l sound stands ready, record { sound = sound; does = does-none a l stands })
+    ([], sym (append-nil n), q l sound stands ready, record { sound = sound; happened = happened-none a l stands })
 
 -- one call after another
 pub gives-then : (a b c : SystemView) (n0 n1 n2 : List Note) (R R' : Ledger → Type 0) (Q Q' Whole : Ledger → List Note → Type 0) →
@@ -182,8 +182,8 @@ pub gives-then : (a b c : SystemView) (n0 n1 n2 : List Note) (R R' : Ledger → 
 gives-then a b c n0 n1 n2 R R' Q Q' Whole first second ready both l sound stands r =
     let x = first l sound stands r in
     let l1 = after_notes l x.0 in
-    let s1 : IsSound b.setting l1 = subst (λ m. IsSound m l1) (sym x.3.does.stays.setting) x.3.sound in
-    let y = second l1 s1 x.3.does.stands (ready l x.0 sound r x.2 x.3.sound) in
+    let s1 : IsSound b.setting l1 = subst (λ m. IsSound m l1) (sym x.3.happened.stays.setting) x.3.sound in
+    let y = second l1 s1 x.3.happened.stands (ready l x.0 sound r x.2 x.3.sound) in
     (x.0 ++ y.0, y.1 ∙ ap (λ z. z ++ y.0) x.1 ∙ append_assoc n0 x.0 y.0, both l x.0 y.0 sound r x.2 y.2, goes-then a b c l x.0 y.0 x.3 y.3)
 
 -- and the second may be made
@@ -193,8 +193,8 @@ pub gives-at : (a b : SystemView) (n0 n1 : List Note) (R R' : Ledger → Type 0)
 gives-at a b n0 n1 R R' Q at gives ready =
     let x = gives at.0 at.1 at.2 at.3 in (
       after_notes at.0 x.0,
-      subst (λ m. IsSound m (after_notes at.0 x.0)) (sym x.3.does.stays.setting) x.3.sound,
-      x.3.does.stands,
+      subst (λ m. IsSound m (after_notes at.0 x.0)) (sym x.3.happened.stays.setting) x.3.sound,
+      x.3.happened.stands,
       ready at.0 x.0 at.1 at.3 x.2 x.3.sound,
     )
 
@@ -218,7 +218,7 @@ pub midway-start : (a : SystemView) (n : List Note) (Rest Whole : Ledger → Lis
 midway-start a n Rest Whole all l sound stands = record {
   gained = [];
   added = sym (append-nil n);
-  goes = record { sound = sound; does = does-none a l stands };
+  goes = record { sound = sound; happened = happened-none a l stands };
   more = λ rest h. all l rest h;
 }
 
@@ -230,14 +230,14 @@ pub midway-step : (a b c : SystemView) (n0 n1 n2 : List Note) (Rest Next Whole Q
 midway-step a b c n0 n1 n2 Rest Next Whole Q mid gives step l sound stands =
     let i = mid l sound stands in
     let l1 = after_notes l i.gained in
-    let s1 : IsSound b.setting l1 = subst (λ m. IsSound m l1) (sym i.goes.does.stays.setting) i.goes.sound in
-    let g = gives l1 s1 i.goes.does.stands tt in
+    let s1 : IsSound b.setting l1 = subst (λ m. IsSound m l1) (sym i.goes.happened.stays.setting) i.goes.sound in
+    let g = gives l1 s1 i.goes.happened.stands tt in
     record {
       gained = i.gained ++ g.0;
       added = g.1 ∙ ap (λ x. x ++ g.0) i.added ∙ append_assoc n0 i.gained g.0;
       goes = goes-then a b c l i.gained g.0 i.goes g.3;
       more = λ rest h. subst (Whole l) (sym (append_assoc i.gained g.0 rest))
-          (i.more (g.0 ++ rest) (step l1 g.0 rest i.goes.does.stays.setting i.goes.does.stays.closing s1 i.goes.does.stands g.2
+          (i.more (g.0 ++ rest) (step l1 g.0 rest i.goes.happened.stays.setting i.goes.happened.stays.closing s1 i.goes.happened.stands g.2
           (subst (λ x. Next x rest) (after_notes-append l i.gained g.0) h)));
     }
 
@@ -249,6 +249,6 @@ midway-end a b n0 n1 Rest Whole Q mid none at l sound stands ready =
       i.gained,
       i.added,
       at l i.gained stands sound (subst (Whole l) (append-nil i.gained) (i.more [] (none (after_notes l i.gained)
-          (subst (λ m. IsSound m (after_notes l i.gained)) (sym i.goes.does.stays.setting) i.goes.sound) i.goes.does.stands))),
+          (subst (λ m. IsSound m (after_notes l i.gained)) (sym i.goes.happened.stays.setting) i.goes.sound) i.goes.happened.stands))),
       i.goes,
     )

@@ -15,9 +15,9 @@ use Rattle.av_plain.specs.Sound.{IsSound, flights, pairs}
 use Rattle.av_plain.proofs.Sound.Counts.{pair-frame, slot-itself, slot_of-some}
 use Rattle.av_plain.proofs.Sound.Steps.{UnmapKept, alike-end_note, alike-started, alike-then, flights-end_note, unmap_notes-kept}
 use Rattle.av_evict.specs.Steps.{EndsFirst, IsSent, MayDrop, MayStart, closes}
-use Rattle.av_evict.specs.Turn.{InVain, IsCleaned, IsEvicted, IsSentTo, IsTurn, IsTurnIfAny, MayTurn, MayTurnNow, MayWrite, with_turn}
+use Rattle.av_evict.specs.Turn.{InVain, IsCleaned, IsEvicted, IsSentTo, IsTurn, IsTurnIfAny, MayTurn, MayTurnNow, with_turn}
 use Rattle.av_evict.specs.declared.system.WriteEnd.{WriteEnd}
-use Rattle.av_evict.proofs.StepLaws.{clean-may_drop, pair-cached, pair-slot_of, unmerged-count}
+use Rattle.av_evict.proofs.StepLaws.{clean-may_drop, pair-slot_of, unmerged-count}
 
 -- ---- a page is written at once
 
@@ -36,8 +36,8 @@ started-clean l s = each l.cache
     each [] = refl
     each (c ∷ cs) = (λ i. one c (same_slot s c.slot) refl i || each cs i)
 
-pub write-may_start : (l : Ledger) (s : Slot) → MayWrite s l → MayStart s l
-write-may_start l s may = record { cached = may.cached; landed = ap (list_any (same_slot s)) may.landed }
+pub write-may_start : (l : Ledger) (f : ℕ) (s : Slot) → IsSentTo f s l → MayStart f s l
+write-may_start l f s may = record { cached = may.cached; landed = ap (list_any (same_slot s)) may.landed }
 
 -- a slot that an entry names is no orphan
 pub named-no_orphan : (l : Ledger) (s : Slot) → 0 < slot_entries l s → is_orphan l s ≡ false
@@ -49,23 +49,23 @@ named-no_orphan l s named = by (is_unmapped l (frame_at l s)) (not (in_flight l 
     by false b c h = refl
 
 -- once it has begun, a write ends
-write-some : (l : Ledger) (s : Slot) (ns : List Note) → MayWrite s l → EndsFirst None (after_note (Started s) l) ns → ⊥
-write-some l s ns may h = not_empty s (sym (ap (λ fs. fs ++ s ∷ []) may.landed) ∙ h.0)
+write-some : (l : Ledger) (f : ℕ) (s : Slot) (ns : List Note) → IsSentTo f s l → EndsFirst None (after_note (Started s) l) ns → ⊥
+write-some l f s ns may h = not_empty s (sym (ap (λ fs. fs ++ s ∷ []) may.landed) ∙ h.0)
   where
     not_empty : (s : Slot) → ◌≡◌ {A = List Slot} (s ∷ []) [] → ⊥
     not_empty s h = cc
 
-pub write-no_end : (l : Ledger) (s : Slot) (ns ms : List Note) → MayWrite s l → ns ≡ Started s ∷ [] → EndsFirst None (after_notes l ns) ms → ⊥
-write-no_end l s ns ms may is ends = write-some l s ms may (subst (λ x. EndsFirst None (after_notes l x) ms) is ends)
+pub write-no_end : (l : Ledger) (f : ℕ) (s : Slot) (ns ms : List Note) → IsSentTo f s l → ns ≡ Started s ∷ [] → EndsFirst None (after_notes l ns) ms → ⊥
+write-no_end l f s ns ms may is ends = write-some l f s ms may (subst (λ x. EndsFirst None (after_notes l x) ms) is ends)
 
 -- and it is the one that began
-write-ends : (l : Ledger) (s : Slot) (e : WriteEnd) (ns : List Note) → MayWrite s l → EndsFirst (Some e) (after_note (Started s) l) ns →
+write-ends : (l : Ledger) (f : ℕ) (s : Slot) (e : WriteEnd) (ns : List Note) → IsSentTo f s l → EndsFirst (Some e) (after_note (Started s) l) ns →
     ns ≡ end_note e.failed s ∷ []
-write-ends l s e ns may h = h.1 ∙ subst (λ x. end_notes (after_note (Started s) l) x e.failed ≡ end_note e.failed s ∷ []) (sym is)
+write-ends l f s e ns may h = h.1 ∙ subst (λ x. end_notes (after_note (Started s) l) x e.failed ≡ end_note e.failed s ∷ []) (sym is)
     (ap (λ b. end_note e.failed s ∷ when b (Dropped s)) kept)
   where
     is : e.slot ≡ s
-    is = some_is e.slot s (h.0 ∙ ap (λ fs. slice_get (fs ++ s ∷ []) 0) may.landed)
+    is = some_is e.slot s (h.0.0 ∙ ap (λ fs. slice_get (fs ++ s ∷ []) 0) may.landed)
       where
         some_is : (a b : Slot) → Some a ≡ Some b → a ≡ b
         some_is a b h = cc
@@ -77,9 +77,9 @@ write-ends l s e ns may h = h.1 ∙ subst (λ x. end_notes (after_note (Started 
     kept : is_orphan (after_note (end_note e.failed s) (after_note (Started s) l)) s ≡ false
     kept = named-no_orphan (after_note (end_note e.failed s) (after_note (Started s) l)) s named
 
-pub write-both : (l : Ledger) (s : Slot) (end : WriteEnd) (ns ms : List Note) → MayWrite s l → ns ≡ Started s ∷ [] →
+pub write-both : (l : Ledger) (f : ℕ) (s : Slot) (end : WriteEnd) (ns ms : List Note) → IsSentTo f s l → ns ≡ Started s ∷ [] →
     EndsFirst (Some end) (after_notes l ns) ms → ns ++ ms ≡ Started s ∷ end_note end.failed s ∷ []
-write-both l s end ns ms may is ends = λ i. is i ++ write-ends l s end ms may (subst (λ x. EndsFirst (Some end) (after_notes l x) ms) is ends) i
+write-both l f s end ns ms may is ends = λ i. is i ++ write-ends l f s end ms may (subst (λ x. EndsFirst (Some end) (after_notes l x) ms) is ends) i
 
 -- ---- cleaned, and dropped
 
@@ -88,9 +88,6 @@ sent-pair l f s at = slot_of-some f s l.cache at.cached
 
 pub sent-below : (m : Setting) (l : Ledger) (f : ℕ) (s : Slot) → IsSound m l → IsSentTo f s l → f < m.frames
 sent-below m l f s sound at = sound.in_range f (let p = sent-pair l f s at in let q = pair-frame s f l.cache in omega (arith, p, q))
-
-pub sent-may_write : (l : Ledger) (f : ℕ) (s : Slot) → IsSentTo f s l → MayWrite s l
-sent-may_write l f s at = record { landed = at.landed; cached = pair-cached l s f (sent-pair l f s at); named = at.named }
 
 pub cleaned-none : (l : Ledger) (s : Slot) → false ≡ is_stale l s → IsCleaned s false l []
 cleaned-none l s is = (by (is_stale l s), ap (λ (b : Bool). if b then Started s ∷ end_note false s ∷ [] else []) is)
@@ -105,18 +102,18 @@ cleaned-some l s failed ns is h = (ap (λ b. b || not failed) (sym is), h ∙ ap
 
 pub cleaned-may_drop : (m : Setting) (l : Ledger) (f : ℕ) (s : Slot) (ns : List Note) → IsSentTo f s l → IsCleaned s false l ns →
     IsSound m (after_notes l ns) →
-    MayDrop s (after_notes l ns)
-cleaned-may_drop m l f s ns at clean sound = subst (λ x. MayDrop s (after_notes l x)) (sym clean.1)
+    MayDrop f s (after_notes l ns)
+cleaned-may_drop m l f s ns at clean sound = subst (λ x. MayDrop f s (after_notes l x)) (sym clean.1)
     (by (is_stale l s) refl (subst (λ x. IsSound m (after_notes l x)) clean.1 sound))
   where
     by : (b : Bool) → is_stale l s ≡ b → IsSound m (after_notes l (if b then Started s ∷ end_note false s ∷ [] else [])) →
-        MayDrop s (after_notes l (if b then Started s ∷ end_note false s ∷ [] else []))
-    by false is sound = clean-may_drop m l s f sound (sent-pair l f s at) at.unmapped (ap (λ fs. how_many (same_slot s) fs) at.landed) is
+        MayDrop f s (after_notes l (if b then Started s ∷ end_note false s ∷ [] else []))
+    by false is sound = clean-may_drop l f s at.cached at.unmapped (ap (λ fs. how_many (same_slot s) fs) at.landed) is
     by true is sound =
         let l1 = after_note (Started s) l in
         let l2 = after_note (end_note false s) l1 in
         let a = alike-then l l1 l2 (alike-started l s) (alike-end_note l1 false s) in
-        clean-may_drop m l2 s f sound (let p = sent-pair l f s at in let e = a.pairs_same s f in omega (arith, p, e))
+        clean-may_drop l2 f s (pair-slot_of m l2 s f sound (let p = sent-pair l f s at in let e = a.pairs_same s f in omega (arith, p, e)))
         (ap (λ es. map_count (record l { entries = es }) f) a.entries ∙ at.unmapped)
         (flights-end_note l1 false s s ∙ gone (same_slot s s) (slot-itself s) (flights l1 s)) (same (frame_at l1 s) ∙ started-clean l s)
       where

@@ -38,8 +38,8 @@ numbers_of Cached = record { pinned = 0; noslot = 0; fault = 1; locked = 0; ksm 
 -- and what the pinned frame would add if it were not pinned: nothing where there is none
 abbrev pub adds_unpinned : Setting → Spared → Ledger → Option ℕ → OutOf
 adds_unpinned m spared l None = numbers_of Pinned
-adds_unpinned m spared l (Some p) =
-    numbers_of (if nat_lt p m.frames then stands_as (record spared { pinned = None }) l p else Pinned)
+adds_unpinned m spared l (Some p) = numbers_of (if nat_lt p m.frames
+    then stands_as (record spared { pinned = None }) l p else Pinned)
 
 abbrev pub pinned_adds : Setting → Spared → Ledger → OutOf
 pinned_adds m spared l = adds_unpinned m spared l spared.pinned

@@ -1,13 +1,13 @@
 -- Single steps: when one may be taken, the note that tells it, and what each does with its note.
 use Rattle.std.specs.Prelude.{◌≡◌, ℕ, ◌<◌, true, false, ◌==◌, not, List, [], ◌∷◌, slice_get, Option}
-use Rattle.std.specs.Prelude.{Some, None, is_none, is_some, Bool}
+use Rattle.std.specs.Prelude.{Some, None, is_none, Bool}
 use Rattle.av_base.specs.declared.slot.Slot.{Slot}
 use Rattle.av_trace.specs.declared.note.Cause.TheVariants.{Referenced}
 use Rattle.av_trace.specs.declared.note.Note.{Note}
 use Rattle.av_trace.specs.declared.note.Note.TheVariants.{Kept, Put, Unmapped}
 use Rattle.av_plain.specs.Event.{when}
-use Rattle.av_plain.specs.Ledger.{Ledger, Setting, frame_at, in_flight, is_cached, is_merged}
-use Rattle.av_plain.specs.Ledger.{is_stale, is_unmapped, map_count, slot_entries, slot_of}
+use Rattle.av_plain.specs.Ledger.{Ledger, Setting, in_flight, is_merged}
+use Rattle.av_plain.specs.Ledger.{is_stale, map_count, slot_entries, slot_of}
 use Rattle.av_plain.specs.Pass.{IsSlotFor, Spared, end_note, end_notes, is_stuck, unmap_notes}
 use Rattle.av_plain.specs.Reclaim.{is_referenced}
 use Rattle.av_plain.specs.Sound.{uses}
@@ -15,29 +15,31 @@ use Rattle.av_evict.specs.declared.system.WriteEnd.{WriteEnd}
 
 -- ---- when a step may be taken
 
+-- the frame is cached at the slot
+abbrev pub IsCachedAt : ℕ → Slot → Ledger → Type 0
+IsCachedAt f s l = slot_of l f ≡ Some s
+
 -- an entry names the frame, and it is neither cached nor merged
 pub record MayPut (f : ℕ) (l : Ledger) : Type 0 where
   pub uncached : slot_of l f ≡ None
   pub mapped : 0 < map_count l f
   pub unmerged : is_merged l f ≡ false
 
--- an entry names the frame, and it is cached
-pub record MayUnmap (f : ℕ) (l : Ledger) : Type 0 where
-  pub cached : is_some (slot_of l f) ≡ true
+-- an entry names the frame, which is cached at the slot
+pub record MayUnmap (f : ℕ) (s : Slot) (l : Ledger) : Type 0 where
+  pub cached : IsCachedAt f s l
   pub mapped : 0 < map_count l f
 
--- the slot is cached, and not in flight
-pub record MayStart (s : Slot) (l : Ledger) : Type 0 where
-  pub cached : is_cached l s ≡ true
+-- the frame is cached at the slot, which is not in flight
+pub record MayStart (f : ℕ) (s : Slot) (l : Ledger) : Type 0 where
+  pub cached : IsCachedAt f s l
   pub landed : in_flight l s ≡ false
 
--- the slot is cached and not in flight; and no entry names it, or no entry names its frame, and its
--- page is written
-pub record MayDrop (s : Slot) (l : Ledger) : Type 0 where
-  pub cached : is_cached l s ≡ true
+-- the same; and no entry names the slot, or no entry names the frame, and its page is written
+pub record MayDrop (f : ℕ) (s : Slot) (l : Ledger) : Type 0 where
+  pub cached : IsCachedAt f s l
   pub landed : in_flight l s ≡ false
-  pub kept : (slot_entries l s == 0) ≡ false
-      → (is_unmapped l (frame_at l s) ≡ true) × (is_stale l s ≡ false)
+  pub kept : (slot_entries l s == 0) ≡ false → (map_count l f ≡ 0) × (is_stale l s ≡ false)
 
 -- an entry or a slot names the frame
 abbrev pub IsUsed : ℕ → Ledger → Type 0
@@ -60,12 +62,7 @@ abbrev pub referenced_notes : ℕ → Bool → List Note
 referenced_notes f true = Kept f Referenced ∷ []
 referenced_notes f false = []
 
--- the slot whose write ended
-abbrev pub slot_of_end : Option WriteEnd → Option Slot
-slot_of_end None = None
-slot_of_end (Some end) = Some end.slot
-
--- and how
+-- how a write ended, or none
 abbrev pub notes_of_end : Option WriteEnd → List Note
 notes_of_end None = []
 notes_of_end (Some end) = end_note end.failed end.slot ∷ []
@@ -76,11 +73,17 @@ notes_of_end (Some end) = end_note end.failed end.slot ∷ []
 abbrev pub closes : Option ℕ → Spared
 closes closing = record { pinned = None; locked = λ f. false; closing = closing }
 
--- the first write in flight has ended so, and its slot was dropped where it was an orphan then
+-- this is the first write in flight, or there is none
+abbrev pub IsFirst : Option WriteEnd → Ledger → Type 0
+IsFirst None l = l.flight ≡ []
+IsFirst (Some end) l =
+    (Some end.slot ≡ slice_get l.flight 0) × IsCachedAt end.frame end.slot l
+
+-- it has ended so, and its slot was dropped where it was an orphan then
 abbrev pub EndsFirst : Option WriteEnd → Ledger → List Note → Type 0
-EndsFirst None l notes = (l.flight ≡ []) × (notes ≡ [])
+EndsFirst None l notes = IsFirst None l × (notes ≡ [])
 EndsFirst (Some end) l notes =
-    (Some end.slot ≡ slice_get l.flight 0) × (notes ≡ end_notes l end.slot end.failed)
+    IsFirst (Some end) l × (notes ≡ end_notes l end.slot end.failed)
 
 -- the frame has this slot, and no entry any more; or there is none for it
 abbrev pub IsSent : Setting → Option ℕ → ℕ → Option Slot → Ledger → List Note → Type 0
@@ -100,10 +103,6 @@ GetsSlot m closing f (Some s) l notes =
 -- the frame was kept as referenced, or none of its entries is seen
 abbrev pub KeepsReferenced : ℕ → Bool → Ledger → List Note → Type 0
 KeepsReferenced f seen l notes = (seen ≡ is_referenced l f) × (notes ≡ referenced_notes f seen)
-
--- the frame is cached
-abbrev pub IsInCache : ℕ → Ledger → Type 0
-IsInCache f l = is_some (slot_of l f) ≡ true
 
 -- the second half: no entry any more
 abbrev pub IsUnmapped : ℕ → Ledger → List Note → Type 0

@@ -68,7 +68,7 @@ pub record Leaves (old new : SystemView) : Type 0 where
 
 -- what the notes tell has happened to a ledger that it stood for. The memories are as they were,
 -- but for what a load makes unclaimed; areas, anon_vmas and homes are what the notes make of them
-pub record Does (old new : SystemView) (l : Ledger) (notes : List Note) : Type 0 where
+pub record HasHappened (old new : SystemView) (l : Ledger) (notes : List Note) : Type 0 where
   pub stands : new.stands (after_notes l notes)
   pub stays : Stays old new
   pub chooses : ChoosesAll old.setting old.closing l (note_events notes) old.free new.free
@@ -80,7 +80,7 @@ pub record Does (old new : SystemView) (l : Ledger) (notes : List Note) : Type 0
 
 -- and to each of which that held
 abbrev pub Makes : SystemView → SystemView → (Ledger → Type 0) → List Note → Type 0
-Makes old new Ready notes = Tells old (λ l. Ready l → Does old new l notes)
+Makes old new Ready notes = Tells old (λ l. Ready l → HasHappened old new l notes)
 
 -- nothing has to hold
 abbrev pub Always : Ledger → Type 0
@@ -95,7 +95,7 @@ IsAt k P = (l : Ledger) × IsSound k.setting l × k.stands l × P l
 -- the same, from a sound ledger to a sound one
 pub record Goes (old new : SystemView) (l : Ledger) (notes : List Note) : Type 0 where
   pub sound : IsSound old.setting (after_notes l notes)
-  pub does : Does old new l notes
+  pub happened : HasHappened old new l notes
 
 -- from each sound ledger that it stood for, if it was ready, notes were added of which this holds,
 -- and what they tell has happened

@@ -5,7 +5,7 @@ use Rattle.av_base.specs.declared.slot.Slot.{Slot}
 use Rattle.av_trace.specs.declared.note.Note.{Note}
 use Rattle.av_trace.specs.declared.note.Note.TheVariants.{Dropped, Started}
 use Rattle.av_plain.specs.Event.{after_notes}
-use Rattle.av_plain.specs.Ledger.{Ledger, Setting, is_cached, is_stale, map_count}
+use Rattle.av_plain.specs.Ledger.{Ledger, Setting, is_stale, map_count}
 use Rattle.av_plain.specs.Ledger.{slot_entries, slot_of}
 use Rattle.av_plain.specs.Pass.{IsSlotFor, Spared, end_note, has_turn, is_dirty, is_stuck}
 use Rattle.av_plain.specs.Pass.{stays_cached, turn_notes}
@@ -22,12 +22,6 @@ pub record MayTurn (f : ℕ) (l : Ledger) : Type 0 where
 pub record MayTurnNow (f : ℕ) (l : Ledger) : Type 0 where
   pub landed : l.flight ≡ []
   pub send : MaySend f l
-
--- nothing is in flight, and an entry names the slot, which is cached
-pub record MayWrite (s : Slot) (l : Ledger) : Type 0 where
-  pub landed : l.flight ≡ []
-  pub cached : is_cached l s ≡ true
-  pub named : 0 < slot_entries l s
 
 -- no write is in flight, and the frame is cached at the slot, which its entries name
 pub record IsSentTo (f : ℕ) (s : Slot) (l : Ledger) : Type 0 where

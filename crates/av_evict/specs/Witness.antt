@@ -14,7 +14,7 @@ use Rattle.av_plain.specs.Fault.{is_locked}
 use Rattle.av_plain.specs.Ledger.{Ledger, Setting}
 use Rattle.av_plain.specs.Pass.{pages_written}
 use Rattle.av_plain.specs.World.{World}
-use Rattle.av_evict.specs.System.{Does, Leaves, SystemView}
+use Rattle.av_evict.specs.System.{HasHappened, Leaves, SystemView}
 
 -- the setting, or one just like it that doesn't tell headers
 abbrev pub setting_told : Bool → Setting → Setting
@@ -70,4 +70,4 @@ CanBeMet m closing first free calls w r l note =
     let now = setting_told told m in let page = if told then first else None in
     let old = only_view now closing page free calls w r l in
     let new = only_view now closing page free' calls' (w' told) r' (after_note note l) in
-    Does old new l (note ∷ []) × (IsStep w l note → Leaves old new))
+    HasHappened old new l (note ∷ []) × (IsStep w l note → Leaves old new))

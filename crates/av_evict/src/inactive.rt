@@ -108,11 +108,11 @@ fn write_or_drop<S: System>(
 {
     let dirty = system.is_dirty(frame);
     if dirty {
-        start(system, slot, notes)?;
+        start(system, frame, slot, notes)?;
         keep(system, frame, Cause::WriteStarted, notes)?;
         return Ok(());
     }
-    drop_slot(system, slot, notes)?;
+    drop_slot(system, frame, slot, notes)?;
     Ok(())
 }
 

@@ -12,8 +12,8 @@
 
 mod flight;
 mod inactive;
-mod out;
 mod pass;
+mod shortage;
 mod standing;
 mod steps;
 mod system;
@@ -23,5 +23,6 @@ mod witness;
 pub use flight::complete;
 pub use inactive::{age, reclaim};
 pub use pass::{SeekEnd, seek};
+pub use steps::drop_slot;
 pub use system::{System, WriteEnd};
 pub use witness::steps_can_be_met;

@@ -13,7 +13,7 @@ ghost use Rattle.av_evict.specs.System.{Always, Gives, IsAt, Knows, Leaves, Tell
 ghost use Rattle.av_evict.specs.System.{spares};
 
 use crate::flight::complete;
-use crate::out::{has_cached, out_of};
+use crate::shortage::{has_cached, out_of};
 use crate::system::System;
 use crate::turn::turn_if_any;
 use av_trace::{Notes, OutOf};

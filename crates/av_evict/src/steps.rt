@@ -3,8 +3,8 @@
 ghost use Rattle.std.specs.Prelude.{◌≡◌, ◌∷◌, [], OnOk, IfOk, Bool, false};
 ghost use Rattle.av_trace.specs.declared.note.Note.TheVariants.{Aged, Dropped, Kept, Started};
 ghost use Rattle.av_plain.specs.Pass.{end_note as note_of};
-ghost use Rattle.av_evict.specs.Steps.{EndsFirst, GetsSlot, IsInCache, IsSent, IsUnmapped, IsUsed};
-ghost use Rattle.av_evict.specs.Steps.{KeepsReferenced, MayDrop, MaySend, MayStart};
+ghost use Rattle.av_evict.specs.Steps.{EndsFirst, GetsSlot, IsCachedAt, IsSent, IsUnmapped};
+ghost use Rattle.av_evict.specs.Steps.{IsUsed, KeepsReferenced, MayDrop, MaySend, MayStart};
 ghost use Rattle.av_evict.specs.System.{Adds, Always, Gives, IsAt, Leaves};
 
 use crate::system::{System, WriteEnd};
@@ -27,8 +27,8 @@ pub fn finish_first<S: System>(
         return Ok(None);
     };
     notes.push(end_note(end))?;
-    if system.is_orphan(end.slot) {
-        system.drop_slot(end.slot);
+    if system.is_orphan(end.frame, end.slot) {
+        system.drop_slot(end.frame, end.slot);
         notes.push(Note::Dropped(end.slot))?;
     }
     Ok(Some(end))
@@ -45,26 +45,38 @@ fn end_note(end: WriteEnd) -> Note
     }
 }
 
-/// Puts the write of a cached slot last in flight.
-pub fn start<S: System>(system: &mut S, slot: Slot, notes: &mut Notes) -> Result<(), AllocError>
-    requires { IsAt (S.view system.old false) (MayStart slot) }
+/// Puts the write of the slot at which a frame is cached last in flight.
+pub fn start<S: System>(
+    system: &mut S,
+    frame: u32,
+    slot: Slot,
+    notes: &mut Notes,
+) -> Result<(), AllocError>
+    requires { IsAt (S.view system.old false) (MayStart frame slot) }
     ensures gives { OnOk result ((told : Bool) → Gives (S.view system.old told)
-        (S.view system.new told) notes.old notes.new (MayStart slot) (Adds (Started slot ∷ []))) }
+        (S.view system.new told) notes.old notes.new (MayStart frame slot)
+        (Adds (Started slot ∷ []))) }
     ensures stays { (told : Bool) → Leaves (S.view system.old told) (S.view system.new told) }
 {
-    system.start(slot);
+    system.start(frame, slot);
     notes.push(Note::Started(slot))?;
     Ok(())
 }
 
-/// Takes a slot out of the cache.
-pub fn drop_slot<S: System>(system: &mut S, slot: Slot, notes: &mut Notes) -> Result<(), AllocError>
-    requires { IsAt (S.view system.old false) (MayDrop slot) }
+/// Takes the slot at which a frame is cached out of the cache.
+pub fn drop_slot<S: System>(
+    system: &mut S,
+    frame: u32,
+    slot: Slot,
+    notes: &mut Notes,
+) -> Result<(), AllocError>
+    requires { IsAt (S.view system.old false) (MayDrop frame slot) }
     ensures gives { OnOk result ((told : Bool) → Gives (S.view system.old told)
-        (S.view system.new told) notes.old notes.new (MayDrop slot) (Adds (Dropped slot ∷ []))) }
+        (S.view system.new told) notes.old notes.new (MayDrop frame slot)
+        (Adds (Dropped slot ∷ []))) }
     ensures stays { (told : Bool) → Leaves (S.view system.old told) (S.view system.new told) }
 {
-    system.drop_slot(slot);
+    system.drop_slot(frame, slot);
     notes.push(Note::Dropped(slot))?;
     Ok(())
 }
@@ -86,7 +98,7 @@ pub fn send<S: System>(
     let Some(slot) = slot_for(system, frame, notes)? else {
         return Ok(None);
     };
-    unmap(system, frame, notes)?;
+    unmap(system, frame, slot, notes)?;
     Ok(Some(slot))
 }
 
@@ -112,16 +124,22 @@ fn slot_for<S: System>(
     Ok(Some(slot))
 }
 
-// Unmaps a cached frame where an entry names it. No page of it is locked.
-fn unmap<S: System>(system: &mut S, frame: u32, notes: &mut Notes) -> Result<(), AllocError>
-    requires cached { IsAt (S.view system.old false) (IsInCache frame) }
+// Unmaps a frame that is cached at a slot where an entry names it. No page of it is locked.
+fn unmap<S: System>(
+    system: &mut S,
+    frame: u32,
+    slot: Slot,
+    notes: &mut Notes,
+) -> Result<(), AllocError>
+    requires cached { IsAt (S.view system.old false) (IsCachedAt frame slot) }
     requires unlocked { (S.view system.old false).locked frame ≡ false }
     ensures gives { OnOk result ((told : Bool) → Gives (S.view system.old told)
-        (S.view system.new told) notes.old notes.new (IsInCache frame) (IsUnmapped frame)) }
+        (S.view system.new told) notes.old notes.new (IsCachedAt frame slot)
+        (IsUnmapped frame)) }
     ensures stays { (told : Bool) → Leaves (S.view system.old told) (S.view system.new told) }
 {
     if system.is_mapped(frame) {
-        system.unmap(frame)?;
+        system.unmap(frame, slot)?;
         notes.push(Note::Unmapped(frame))?;
     }
     Ok(())

@@ -8,13 +8,13 @@ ghost use Rattle.av_trace.specs.declared.note.Note.TheVariants.{Aged, Dropped, K
 ghost use Rattle.av_trace.specs.declared.note.Note.TheVariants.{Unmapped};
 ghost use Rattle.av_plain.specs.Areas.{Rmap};
 ghost use Rattle.av_plain.specs.Fault.{is_locked};
-ghost use Rattle.av_plain.specs.Ledger.{Ledger, has_free, in_flight, is_free, is_merged, is_orphan};
+ghost use Rattle.av_plain.specs.Ledger.{has_free, in_flight, is_free, is_merged, is_orphan};
 ghost use Rattle.av_plain.specs.Ledger.{is_stale, map_count, may_give, no_slot, slot_of};
 ghost use Rattle.av_plain.specs.Reclaim.{is_referenced};
 ghost use Rattle.av_plain.specs.World.{World};
 ghost use Rattle.av_evict.specs.Standing.{cached_count, merged_count};
-ghost use Rattle.av_evict.specs.Steps.{IsUsed, MayDrop, MayPut, MayStart, MayUnmap, notes_of_end};
-ghost use Rattle.av_evict.specs.Steps.{put_notes, referenced_notes, slot_of_end};
+ghost use Rattle.av_evict.specs.Steps.{IsCachedAt, IsFirst, IsUsed, MayDrop, MayPut, MayStart};
+ghost use Rattle.av_evict.specs.Steps.{MayUnmap, notes_of_end, put_notes, referenced_notes};
 ghost use Rattle.av_evict.specs.System.{Always, Knows, Makes, Leaves, SystemView, Tells};
 
 use av_base::Slot;
@@ -24,6 +24,8 @@ use std::alloc::AllocError;
 /// How the write of a slot ended.
 #[derive(Clone, Copy, Drop)]
 pub struct WriteEnd {
+    /// The frame that caches the slot.
+    pub frame: u32,
     pub slot: Slot,
     pub failed: bool,
 }
@@ -101,9 +103,10 @@ pub trait System {
     fn is_in_flight(&self, slot: Slot) -> bool
         ensures { (told : Bool) → Tells (view self.now told) (λ l. result ≡ in_flight l slot) };
 
-    /// Whether neither an entry names a cached slot nor one its frame, and it is not in flight.
-    fn is_orphan(&self, slot: Slot) -> bool
-        requires { Knows (view self.now false) Always }
+    /// Whether the slot at which a frame is cached is not in flight, and no entry names it or the
+    /// frame.
+    fn is_orphan(&self, frame: u32, slot: Slot) -> bool
+        requires { Knows (view self.now false) (IsCachedAt frame slot) }
         ensures { (told : Bool) → Tells (view self.now told) (λ l. result ≡ is_orphan l slot) };
 
     // ---- lists
@@ -159,35 +162,34 @@ pub trait System {
             (MayPut frame) (put_notes frame result) }
         ensures stays { (told : Bool) → Leaves (view self.old told) (view self.new told) };
 
-    /// Each entry of a cached frame becomes its slot. No page of it is locked.
-    fn unmap(&mut self, frame: u32) -> Result<(), AllocError>
-        requires may { Knows (view self.old false) (MayUnmap frame) }
+    /// Each entry of a frame becomes the slot at which it is cached. No page of it is locked.
+    fn unmap(&mut self, frame: u32, slot: Slot) -> Result<(), AllocError>
+        requires may { Knows (view self.old false) (MayUnmap frame slot) }
         requires unlocked { (view self.old false).locked frame ≡ false }
         ensures makes { OnOk result ((told : Bool) → Makes (view self.old told) (view self.new told)
-            (MayUnmap frame) (Unmapped frame ∷ [])) }
+            (MayUnmap frame slot) (Unmapped frame ∷ [])) }
         ensures stays { (told : Bool) → Leaves (view self.old told) (view self.new told) };
 
-    /// Puts the write of a cached slot last in flight.
-    fn start(&mut self, slot: Slot)
-        requires { Knows (view self.old false) (MayStart slot) }
+    /// Puts the write of the slot at which a frame is cached last in flight.
+    fn start(&mut self, frame: u32, slot: Slot)
+        requires { Knows (view self.old false) (MayStart frame slot) }
         ensures makes { (told : Bool) → Makes (view self.old told) (view self.new told)
-            (MayStart slot) (Started slot ∷ []) }
+            (MayStart frame slot) (Started slot ∷ []) }
         ensures stays { (told : Bool) → Leaves (view self.old told) (view self.new told) };
 
     /// Ends the first write in flight. None exactly where none is in flight.
     fn finish(&mut self) -> Option<WriteEnd>
         requires { Knows (view self.old false) Always }
-        ensures first { (told : Bool) → Tells (view self.old told)
-            (λ l. slot_of_end result ≡ slice_get l.flight 0) }
+        ensures first { (told : Bool) → Tells (view self.old told) (IsFirst result) }
         ensures ends { (told : Bool) → Makes (view self.old told) (view self.new told) Always
             (notes_of_end result) }
         ensures stays { (told : Bool) → Leaves (view self.old told) (view self.new told) };
 
-    /// Takes a slot out of the cache.
-    fn drop_slot(&mut self, slot: Slot)
-        requires { Knows (view self.old false) (MayDrop slot) }
+    /// Takes the slot at which a frame is cached out of the cache.
+    fn drop_slot(&mut self, frame: u32, slot: Slot)
+        requires { Knows (view self.old false) (MayDrop frame slot) }
         ensures makes { (told : Bool) → Makes (view self.old told) (view self.new told)
-            (MayDrop slot) (Dropped slot ∷ []) }
+            (MayDrop frame slot) (Dropped slot ∷ []) }
         ensures stays { (told : Bool) → Leaves (view self.old told) (view self.new told) };
 
     /// Keeps a frame in use as referenced where an entry of it is seen: it goes to the head of

@@ -5,7 +5,7 @@ ghost use Rattle.av_trace.specs.declared.note.Note.TheVariants.{Started};
 ghost use Rattle.av_plain.specs.Pass.{end_note};
 ghost use Rattle.av_evict.specs.System.{Adds, Gives, IsAt, Leaves, spares};
 ghost use Rattle.av_evict.specs.Turn.{IsCleaned, IsEvicted, IsSentTo, IsTurn, IsTurnIfAny};
-ghost use Rattle.av_evict.specs.Turn.{MayTurn, MayTurnNow, MayWrite};
+ghost use Rattle.av_evict.specs.Turn.{MayTurn, MayTurnNow};
 
 use crate::standing::{gets_turn, standing_of};
 use crate::steps::{drop_slot, finish_first, send, start};
@@ -68,7 +68,7 @@ fn evict<S: System>(
     if failed {
         return Ok(false);
     }
-    drop_slot(system, slot, notes)?;
+    drop_slot(system, frame, slot, notes)?;
     Ok(true)
 }
 
@@ -88,19 +88,24 @@ fn clean<S: System>(
     if !system.is_dirty(frame) {
         return Ok(false);
     }
-    let failed = write(system, slot, notes)?;
+    let failed = write(system, frame, slot, notes)?;
     Ok(failed)
 }
 
-// Writes a slot's page at once. Whether that failed.
-fn write<S: System>(system: &mut S, slot: Slot, notes: &mut Notes) -> Result<bool, AllocError>
-    requires { IsAt (S.view system.old false) (MayWrite slot) }
+// Writes the page of a frame that was sent to its slot at once. Whether that failed.
+fn write<S: System>(
+    system: &mut S,
+    frame: u32,
+    slot: Slot,
+    notes: &mut Notes,
+) -> Result<bool, AllocError>
+    requires { IsAt (S.view system.old false) (IsSentTo frame slot) }
     ensures gives { IfOk result (λ failed. (told : Bool) → Gives (S.view system.old told)
-        (S.view system.new told) notes.old notes.new (MayWrite slot)
+        (S.view system.new told) notes.old notes.new (IsSentTo frame slot)
         (Adds (Started slot ∷ end_note failed slot ∷ []))) }
     ensures stays { (told : Bool) → Leaves (S.view system.old told) (S.view system.new told) }
 {
-    start(system, slot, notes)?;
+    start(system, frame, slot, notes)?;
     let Some(end) = finish_first(system, notes)? else {
         unreachable!();
     };

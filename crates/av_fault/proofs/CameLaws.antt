@@ -1,5 +1,5 @@
 -- A page whose entry is a slot is made ready: it came in, and was used or copied then; or it could not come in.
-use Rattle.std.proofs.Common.{◌≡◌, inl, inr, ℕ, Bool, true, false, List, [], ◌∷◌, ◌++◌, Option, Some, None, refl, sym, ap, subst, ◌∙◌, arith}
+use Rattle.std.proofs.Common.{◌≡◌, inl, inr, ℕ, Bool, true, false, List, [], ◌∷◌, ◌++◌, Option, Some, None, refl, sym, ap, subst, ◌∙◌}
 use Rattle.std.proofs.lemmas.List.{append_assoc}
 use Rattle.std.proofs.lemmas.Result.{IfOk-weaker}
 use Rattle.std.specs.Option.{option_map_or}
@@ -22,28 +22,26 @@ use Rattle.av_plain.specs.Event.{Event, Noted, Used, after_all, after_notes, not
 use Rattle.av_plain.specs.Fault.{ComesIn, FindsNone, IsMade, Serves, SwapIn, Touches, drop_at, is_allowed, need, need_of_slot, sparing, was_slot}
 use Rattle.av_plain.specs.Ledger.{InSlot, Ledger, Setting, entry, frame_at}
 use Rattle.av_plain.specs.Load.{with_loads}
-use Rattle.av_plain.specs.Pass.{is_fail}
 use Rattle.av_plain.specs.Stands.{prot_of}
 use Rattle.av_plain.specs.World.{Page, World, is_locked_page, pages}
 use Rattle.av_plain.proofs.Access.{after_all-append, after_notes-append, note_events-all, note_events-append, spares-alike}
 use Rattle.av_plain.proofs.AreasLeft.{rmap_after_all-append}
 use Rattle.av_plain.proofs.Covered.Page.{fit-areas}
 use Rattle.av_plain.proofs.Covered.Swap.{fit-seeks}
-use Rattle.av_plain.proofs.Ledger.{how_many-append}
 use Rattle.av_plain.proofs.Sound.{flags-loads}
 use Rattle.av_mem.specs.declared.mem.Mem.{Mem}
 use Rattle.av_mem.specs.Mem.{ranges_of, setting_by}
-use Rattle.av_mem.specs.Between.{Does, HasDone, IsBetween, KeepsBetween}
+use Rattle.av_mem.specs.Between.{WhateverStood, HasDone, IsBetween, KeepsBetween}
 use Rattle.av_fault.specs.Coming.{Comes, HasCome}
 use Rattle.av_fault.specs.Fault.{HasTouched, IsReady, end_of, is_permitted, touch_events}
 use Rattle.av_fault.specs.Making.{HasMade, IsMadeBy, Makes}
 use Rattle.av_fault.specs.declared.fault.Stop.{Stop}
-use Rattle.av_fault.specs.declared.fault.Stop.TheVariants.{Bus, Oom, Segv}
+use Rattle.av_fault.specs.declared.fault.Stop.TheVariants.{Denied, Lost, Starved}
 use Rattle.av_fault.specs.declared.fault.Touched.{Touched}
 use Rattle.av_fault.specs.declared.fault.Touched.TheVariants.{Ready, Stopped, Zeros}
 use Rattle.av_fault.proofs.Between.{between-some, setting-stays}
 use Rattle.av_mem.proofs.HomeLaws.{entry-away}
-use Rattle.av_fault.proofs.Done.{done-then}
+use Rattle.av_fault.proofs.Done.{done-then, noted-then}
 use Rattle.av_fault.proofs.TouchLaws.{allowed-as}
 
 -- ---- what a page needs whose entry is a slot
@@ -88,9 +86,9 @@ makes-alike m w w' l write came k added touched same = by touched
     by : (touched : Touched) → Makes m w l write came k added touched → Makes m w' l write came k added touched
     by (Ready f) x = made x
     by Zeros x = made x
-    by (Stopped Segv) x = x
-    by (Stopped Bus) x = x
-    by (Stopped (Oom out)) x = subst (λ sp. FindsNone m sp l (need write l (entry l k)) added out) same x
+    by (Stopped Denied) x = x
+    by (Stopped Lost) x = x
+    by (Stopped (Starved out)) x = subst (λ sp. FindsNone m sp l (need write l (entry l k)) added out) same x
 
 -- ---- the page came in
 
@@ -165,9 +163,9 @@ module _ (d d' : Device) (old mid : Mem) (w : World) (r : Rmap) (l : Ledger) (k 
     touches_by : (t : Touched) → Makes m w ledger_noted write true k made.added t → Touches m w l write k added (end_of t)
     touches_by (Ready f) x = (allowed, serves x)
     touches_by Zeros x = (allowed, serves x)
-    touches_by (Stopped Segv) x = absurd x
-    touches_by (Stopped Bus) x = absurd x
-    touches_by (Stopped (Oom out)) x =
+    touches_by (Stopped Denied) x = absurd x
+    touches_by (Stopped Lost) x = absurd x
+    touches_by (Stopped (Starved out)) x =
         (allowed, record { coming = came.added; sought = made.added; whole = refl; before = inr (comes_in write); finds = x })
 
     events-are : (t : Touched) → come_events ++ touch_events write k made.added t ≡ touch_events write k added t
@@ -183,22 +181,15 @@ module _ (d d' : Device) (old mid : Mem) (w : World) (r : Rmap) (l : Ledger) (k 
         by (Stopped stop) = sym (note_events-append came.added made.added)
 
     pub came-touched : HasTouched d d'' old new w r l write k before now touched
-    came-touched =
-        let both = how_many-append is_fail came.added made.added in
-        let first = came.failures in
-        let second = made.failures in
-        let failed = made.failed in
-        record {
-          added = added;
-          notes = made.notes ∙ ap (λ ns. ns ++ made.added) came.notes ∙ append_assoc before came.added made.added;
-          touches = touches_by touched makes_then;
-          ready = subst (λ x. IsReady write x k touched)
-              (sym (after_all-append l come_events (touch_events write k made.added touched)) ∙ ap (after_all l) (events-are touched)) made.ready;
-          done = subst (HasDone d d'' old new w r l) (events-are touched)
-              (done-then d d' d'' old mid new w r l come_events (touch_events write k made.added touched) came.done made.done);
-          failures = omega (arith, both, first, second);
-          failed = omega (arith, both, failed);
-        }
+    came-touched = record {
+      added = added;
+      noted = noted-then d d' d'' before amid now came.added made.added _ _ _ came.noted made.noted;
+      touches = touches_by touched makes_then;
+      ready = subst (λ x. IsReady write x k touched)
+          (sym (after_all-append l come_events (touch_events write k made.added touched)) ∙ ap (after_all l) (events-are touched)) made.ready;
+      done = subst (HasDone d d'' old new w r l) (events-are touched)
+          (done-then d d' d'' old mid new w r l come_events (touch_events write k made.added touched) came.done made.done);
+    }
 
 -- ---- it could not come in
 
@@ -209,12 +200,10 @@ pub stop-touched : (d d' : Device) (old new : Mem) (w : World) (r : Rmap) (l : L
     → HasTouched d d' old new w r l write k before now (Stopped stop)
 stop-touched d d' old new w r l k s write before now stop at allowed came = record {
   added = came.added;
-  notes = came.notes;
+  noted = came.noted;
   touches = by stop came.comes;
   ready = tt;
   done = came.done;
-  failures = came.failures;
-  failed = came.failed;
 }
   where
     absent : frame_at l s ≡ None → need write l (entry l k) ≡ SwapIn s
@@ -222,9 +211,9 @@ stop-touched d d' old new w r l k s write before now stop at allowed came = reco
 
     by : (stop : Stop) → Comes (setting_by d old) w l k s came.added (Err stop)
         → Touches (setting_by d old) w l write k came.added (end_of (Stopped stop))
-    by Segv c = absurd c
-    by Bus c = (allowed, record { slot = s; absent = absent c.0; seeks = c.1; frame = c.2 })
-    by (Oom out) c = (
+    by Denied c = absurd c
+    by Lost c = (allowed, record { slot = s; absent = absent c.0; seeks = c.1; frame = c.2 })
+    by (Starved out) c = (
       allowed,
       record {
         coming = [];
@@ -245,7 +234,7 @@ pub record IsIn (sizes : ℕ → Option ℕ) (mid : Mem) (k : Key) (home : Optio
 pub is-in : (d d1 : Device) (old mid : Mem) (k : Key) (s : Slot) (home : Option (ℕ × ℕ)) (before amid : List Note) (f : ℕ) (end : Result ℕ Stop)
     → IsBetween d.sizes old
     → entry_at old.tables k.0 k.1 ≡ Away s → home ≡ home_of k.1 (pages_of old.spaces.processes k.0 k.1)
-    → Does d d1 old (λ d d' w r l. HasCome (λ m w l added came. Comes m w l k s added came) d d' old mid w r l before amid end) → end ≡ Ok f
+    → WhateverStood d d1 old (λ d d' w r l. HasCome (λ m w l added came. Comes m w l k s added came) d d' old mid w r l before amid end) → end ≡ Ok f
     → IsIn d1.sizes mid k home
 is-in d d1 old mid k s home before amid f end between there is does ok =
     let b = between-some d.sizes old (d.failures, d.history) between in
@@ -265,9 +254,9 @@ pub came-does : (d d' d'' : Device) (old mid new : Mem) (write : Bool) (k : Key)
     (end : Result ℕ Stop)
     (result : Result Touched AllocError) → entry_at old.tables k.0 k.1 ≡ Away s
     → is_permitted write (prot_of (ranges_of old.spaces.processes k.0) k.1) ≡ true
-    → Does d d' old (λ d d' w r l. HasCome (λ m w l added came. Comes m w l k s added came) d d' old mid w r l before amid end) → end ≡ Ok f
-    → IfOk result (λ touched. Does d' d'' mid (λ d' d'' w r l. HasMade d' d'' mid new w r l write true k amid now touched))
-    → IfOk result (λ touched. Does d d'' old (λ d d'' w r l. HasTouched d d'' old new w r l write k before now touched))
+    → WhateverStood d d' old (λ d d' w r l. HasCome (λ m w l added came. Comes m w l k s added came) d d' old mid w r l before amid end) → end ≡ Ok f
+    → IfOk result (λ touched. WhateverStood d' d'' mid (λ d' d'' w r l. HasMade d' d'' mid new w r l write true k amid now touched))
+    → IfOk result (λ touched. WhateverStood d d'' old (λ d d'' w r l. HasTouched d d'' old new w r l write k before now touched))
 came-does d d' d'' old mid new write k s before amid now f end result there permitted does ok = IfOk-weaker result _ _ (λ touched made told w r l h.
     let d0 = as_told told d in
     let d1 = as_told told d' in
@@ -277,8 +266,8 @@ came-does d d' d'' old mid new write k s before amid now f end result there perm
 
 pub stop-does : (d d' : Device) (old new : Mem) (write : Bool) (k : Key) (s : Slot) (before now : List Note) (stop : Stop) (end : Result ℕ Stop)
     → entry_at old.tables k.0 k.1 ≡ Away s → is_permitted write (prot_of (ranges_of old.spaces.processes k.0) k.1) ≡ true
-    → Does d d' old (λ d d' w r l. HasCome (λ m w l added came. Comes m w l k s added came) d d' old new w r l before now end) → end ≡ Err stop
-    → Does d d' old (λ d d' w r l. HasTouched d d' old new w r l write k before now (Stopped stop))
+    → WhateverStood d d' old (λ d d' w r l. HasCome (λ m w l added came. Comes m w l k s added came) d d' old new w r l before now end) → end ≡ Err stop
+    → WhateverStood d d' old (λ d d' w r l. HasTouched d d' old new w r l write k before now (Stopped stop))
 stop-does d d' old new write k s before now stop end there permitted does err = λ told w r l h.
     let d0 = as_told told d in
     stop-touched d0 (as_told told d') old new w r l k s write before now stop (entry-away d0 None old w r l h.serves k s there)

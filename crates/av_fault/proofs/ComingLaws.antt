@@ -1,6 +1,5 @@
 -- A page comes in whose entry names a slot: the slot's page is in a frame, and the entry names that.
 use Rattle.std.proofs.Common.{◌≡◌, ℕ, ◌+◌, ◌-◌, ◌^◌, ◌<◌, Bool, true, false, cond, List, [], ◌∷◌, ◌++◌, Option, Some, None, IfSome, is_some, refl, sym, ap, subst, ◌∙◌, arith}
-use Rattle.std.proofs.lemmas.List.{append-nil, append_assoc}
 use Rattle.std.specs.Prelude.{IsSome, MatchOption, Err, Ok, Result, option_map, slice_index}
 use Rattle.av_base.specs.Keys.{Key}
 use Rattle.av_base.proofs.Keys.{same_key-itself}
@@ -26,14 +25,14 @@ use Rattle.av_plain.specs.Event.{Event, Noted, after_all, after_note, after_note
 use Rattle.av_plain.specs.Fault.{ComesIn, need_of_slot, sparing}
 use Rattle.av_plain.specs.Ledger.{InFrame, InSlot, Ledger, Setting, entry, frame_at, has_free, is_free}
 use Rattle.av_plain.specs.Load.{with_loads}
-use Rattle.av_plain.specs.Pass.{TakesFor, fails, is_fail, is_spared, pages_written}
+use Rattle.av_plain.specs.Pass.{TakesFor, is_spared, pages_written}
 use Rattle.av_plain.specs.Sound.{no_excuse, slots}
 use Rattle.av_plain.specs.Stands.{Pte as Plain, View, entry_of, free_of}
 use Rattle.av_plain.specs.World.{World}
 use Rattle.av_plain.proofs.Access.{after_notes-append, note_events-all, note_events-append}
 use Rattle.av_plain.proofs.Covered.Page.{fit-areas}
 use Rattle.av_plain.proofs.Covered.Swap.{fit-seeks}
-use Rattle.av_plain.proofs.Ledger.{entry-set, how_many-append}
+use Rattle.av_plain.proofs.Ledger.{entry-set}
 use Rattle.av_plain.proofs.Ledger.NoSwap.{key_at-address, key_is}
 use Rattle.av_plain.proofs.Load.{without-loads}
 use Rattle.av_plain.proofs.Sound.Access.{load-kept}
@@ -50,29 +49,21 @@ use Rattle.av_mem.specs.declared.mem.Mem.{Mem}
 use Rattle.av_mem.specs.Cache.{HasLoaded, home_by}
 use Rattle.av_mem.specs.Mem.{HasLists, HasRoom, frame_count, held_by, plain, setting_by, view}
 use Rattle.av_mem.specs.Steps.{KeepsParts}
-use Rattle.av_mem.specs.Between.{Does, HasDone, IsBetween, KeepsBetween}
+use Rattle.av_mem.specs.Between.{WhateverStood, HasDone, IsBetween, KeepsBetween}
 use Rattle.av_mem.proofs.ComingBack.{back-at, back-few, back-found, back-in_range, back-loaded, back-mapped, back-named, back-uncached, back-used, first-taken, seen-loaded, seen-mapped, view_loaded}
 use Rattle.av_mem.proofs.HomeLaws.{away-is, entry-away, home-there}
 use Rattle.av_fault.specs.Coming.{Comes, Fetches, HasCome}
 use Rattle.av_fault.specs.Seek.{HasSought}
 use Rattle.av_fault.specs.declared.fault.Stop.{Stop}
-use Rattle.av_fault.specs.declared.fault.Stop.TheVariants.{Bus, Oom}
+use Rattle.av_fault.specs.declared.fault.Stop.TheVariants.{Lost, Starved}
 use Rattle.av_fault.specs.declared.seek.Got.{Got}
 use Rattle.av_fault.specs.declared.seek.Got.TheVariants.{Frame, Out}
 use Rattle.av_fault.proofs.Amid.{Amid}
 use Rattle.av_fault.proofs.Between.{SaysAsMuch, between-some, bytes-move, fit-stays, setting-stays, to-amid, to-fit}
-use Rattle.av_fault.proofs.Done.{done-by, done-none, done-then, rose-none, rose-then}
+use Rattle.av_fault.proofs.Done.{done-by, done-none, done-then, noted-more, noted-none}
 use Rattle.av_fault.proofs.Run.{run-done, run-none, run-then}
 use Rattle.av_fault.proofs.SeekLaws.{free-some}
 use Rattle.av_plain.proofs.Wrote.{device-itself, device-on, wrote-none}
-
--- ---- notes that are no failed write
-
-no-fault : (note : Note) → is_fail note ≡ false → (notes : List Note) → fails notes ≡ fails (notes ++ note ∷ []) + 0
-no-fault note none notes = plain _ _ _ (how_many-append is_fail notes (note ∷ [])) (ap (λ b. cond b 1 0 + 0) none)
-  where
-    plain : (a b c : ℕ) → b ≡ a + c → c ≡ 0 → a ≡ b + 0
-    plain a b c e z = omega (arith, e, z)
 
 -- ---- the slot is cached already
 
@@ -80,13 +71,11 @@ pub come-cached : (d : Device) (k : Mem) (w : World) (r : Rmap) (l : Ledger) (s 
     → (view k).find s ≡ Some f → HasCome (λ m w l added came. Fetches m w l s added came) d d k k w r l notes notes (Ok f)
 come-cached d k w r l s f notes h cached = record {
   added = [];
-  notes = sym (append-nil notes);
+  noted = noted-none d notes;
   comes = subst (λ o. MatchOption o
       (TakesFor (setting_by d k) (sparing w l None) l [] (Loaded s) × (frame_at l s ≡ Some f)) (λ cached. (◌≡◌ {A = List Note} [] []) × (f ≡ cached)))
       (sym cached ∙ h.serves.held.ledger.swap.finds s) (refl, refl);
   done = done-none d k w r l h;
-  failures = rose-none d.failures;
-  failed = omega arith;
 }
 
 -- ---- a frame was sought for the page
@@ -94,18 +83,13 @@ come-cached d k w r l s f notes h cached = record {
 -- none is free
 pub come-out : (d d1 : Device) (old mid : Mem) (w : World) (r : Rmap) (l : Ledger) (s : Slot) (out : OutOf) (before now : List Note)
     → KeepsBetween d old w r l → (view old).find s ≡ None → HasSought d d1 old mid w r l None before now (Out out)
-    → HasCome (λ m w l added came. Fetches m w l s added came) d d1 old mid w r l before now (Err (Oom out))
+    → HasCome (λ m w l added came. Fetches m w l s added came) d d1 old mid w r l before now (Err (Starved out))
 come-out d d1 old mid w r l s out before now h absent sought = record {
   added = sought.added;
-  notes = sought.notes;
+  noted = sought.noted;
   comes = (sym (h.serves.held.ledger.swap.finds s) ∙ absent, sought.seeks, sought.finds);
   done = sought.done;
-  failures = subst (λ n. RoseBy n d.failures d1.failures) (plus_zero (fails sought.added)) sought.failures;
-  failed = sought.failed;
 }
-  where
-    plus_zero : (n : ℕ) → n ≡ n + 0
-    plus_zero n = omega arith
 
 -- one is
 module _ (d d1 : Device) (old mid : Mem) (w : World) (r : Rmap) (l : Ledger) (q : Key) (s : Slot) (home : Option (ℕ × ℕ)) (before now : List Note)
@@ -213,14 +197,12 @@ module _ (d d1 : Device) (old mid : Mem) (w : World) (r : Rmap) (l : Ledger) (q 
         (subst (λ (v : View). ChoosesAll m None l sought_events (free_of (view old)) (free_of v)) (sym seen) sought.done.free)
 
     pub come-lost : Rose d1.failures d2.failures
-        → HasCome (λ m w l added came. Fetches m w l s added came) d d2 old new w r l before now (Err Bus)
+        → HasCome (λ m w l added came. Fetches m w l s added came) d d2 old new w r l before now (Err Lost)
     come-lost rose = record {
       added = sought.added;
-      notes = sought.notes;
+      noted = record { notes = sought.noted.notes; failures = let before = sought.noted.failures in omega (arith, before, rose); failed = omega arith };
       comes = (out_first, sought.seeks, sought.finds);
       done = lost-done;
-      failures = rose-then (fails sought.added) 1 d.failures d1.failures d2.failures sought.failures rose;
-      failed = omega arith;
     }
 
   -- ---- the first free frame takes it
@@ -284,13 +266,11 @@ module _ (d d1 : Device) (old mid : Mem) (w : World) (r : Rmap) (l : Ledger) (q 
         → HasCome (λ m w l added came. Fetches m w l s added came) d d1 old new w r l before last (Ok f)
     come-loaded last ends = record {
       added = added;
-      notes = ends ∙ ap (λ ns. ns ++ Loaded s f ∷ []) sought.notes ∙ append_assoc before sought.added (Loaded s f ∷ []);
+      noted = noted-more d d1 before now last sought.added (Loaded s f) _ sought.noted ends refl;
       comes = subst (λ o. MatchOption o (TakesFor m (sparing w l None) l added (Loaded s) × (frame_at (after_notes l added) s ≡ Some f))
           (λ cached. (added ≡ []) × (f ≡ cached))) (sym out_first) (takes, cached_now);
       done = subst (HasDone d d1 old new w r l) (sym (note_events-append sought.added (Loaded s f ∷ [])))
           (done-then d d1 d1 old mid new w r l sought_events (load_event ∷ []) sought.done loads);
-      failures = subst (λ n. RoseBy n d.failures d1.failures) (no-fault (Loaded s f) refl sought.added) sought.failures;
-      failed = omega arith;
     }
 
 -- what a device says of its failures, whether it tells its pages or not
@@ -318,7 +298,7 @@ pub record IsToLoad (sizes : ℕ → Option ℕ) (mid : Mem) (s : Slot) (home : 
 pub to-load : (d d1 : Device) (old mid : Mem) (q : Key) (s : Slot) (home : Option (ℕ × ℕ)) (before now : List Note) (found : Got)
     → IsBetween d.sizes old
     → entry_at old.tables q.0 q.1 ≡ Away s → home ≡ home_of q.1 (pages_of old.spaces.processes q.0 q.1) → (view old).find s ≡ None
-    → Does d d1 old (λ d d' w r l. HasSought d d' old mid w r l None before now found) → found ≡ Frame → IsToLoad d1.sizes mid s home
+    → WhateverStood d d1 old (λ d d' w r l. HasSought d d' old mid w r l None before now found) → found ≡ Frame → IsToLoad d1.sizes mid s home
 to-load d d1 old mid q s home before now found between there is absent does frame =
     let b = between-some d.sizes old (d.failures, d.history) between in
     let d0 = as_told false d in
@@ -462,16 +442,11 @@ module _ (d d1 : Device) (old mid : Mem) (w : World) (r : Rmap) (l : Ledger) (q 
         → HasCome (λ m w l added came. Comes m w l q s added came) d d1 old new w r l before last (Ok f)
     come-mapped last ends = record {
       added = came.added ++ note ∷ [];
-      notes = ends ∙ ap (λ ns. ns ++ note ∷ []) came.notes ∙ append_assoc before came.added (note ∷ []);
+      noted = noted-more d d1 before now last came.added note _ came.noted ends refl;
       comes = (comes_in, in_frame);
       done = subst (HasDone d d1 old new w r l) (sym (note_events-append came.added (note ∷ [])))
           (done-then d d1 d1 old mid new w r l fetched_events (Noted note ∷ []) came.done maps);
-      failures = subst (λ n. RoseBy n d.failures d1.failures) (minus_zero _ ∙ no-fault note refl came.added) came.failures;
-      failed = omega arith;
     }
-      where
-        minus_zero : (n : ℕ) → n + 0 ≡ n
-        minus_zero n = omega arith
 
 -- where the slot's page can't be had, nor does the page come in
 pub come-stopped : (d d1 : Device) (old mid : Mem) (w : World) (r : Rmap) (l : Ledger) (q : Key) (s : Slot) (before now : List Note) (stop : Stop)
@@ -479,11 +454,9 @@ pub come-stopped : (d d1 : Device) (old mid : Mem) (w : World) (r : Rmap) (l : L
     → HasCome (λ m w l added came. Comes m w l q s added came) d d1 old mid w r l before now (Err stop)
 come-stopped d d1 old mid w r l q s before now stop came = record {
   added = came.added;
-  notes = came.notes;
+  noted = came.noted;
   comes = came.comes;
   done = came.done;
-  failures = came.failures;
-  failed = came.failed;
 }
 
 -- what the map asks for, whatever the device tells
@@ -496,7 +469,7 @@ pub record IsToMap (mid : Mem) (q : Key) (s : Slot) (f : ℕ) : Type 0 where
 
 pub to-map : (d d1 : Device) (old mid : Mem) (q : Key) (s : Slot) (before now : List Note) (f : ℕ) (end : Result ℕ Stop) → IsBetween d.sizes old
     → entry_at old.tables q.0 q.1 ≡ Away s
-    → Does d d1 old (λ d d' w r l. HasCome (λ m w l added came. Fetches m w l s added came) d d' old mid w r l before now end) → end ≡ Ok f
+    → WhateverStood d d1 old (λ d d' w r l. HasCome (λ m w l added came. Fetches m w l s added came) d d' old mid w r l before now end) → end ≡ Ok f
     → IsToMap mid q s f
 to-map d d1 old mid q s before now f end between there does is =
     let b = between-some d.sizes old (d.failures, d.history) between in

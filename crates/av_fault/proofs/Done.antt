@@ -1,6 +1,7 @@
 -- Events that are done, one after the other.
 use Rattle.std.proofs.Common.{◌≡◌, ℕ, ◌+◌, Bool, true, false, cond, List, [], ◌∷◌, ◌++◌, None, is_some, refl, sym, ap, subst, ◌∙◌, arith}
-use Rattle.av_io.specs.Count.{RoseBy}
+use Rattle.std.proofs.lemmas.List.{append-nil, append_assoc}
+use Rattle.av_trace.specs.declared.note.Note.{Note}
 use Rattle.av_plain.specs.Areas.{Rmap, rmap_after_all}
 use Rattle.av_plain.specs.Choice.{ChoosesAll}
 use Rattle.av_plain.specs.Device.{Device, IsSameDevice, Wrote}
@@ -17,7 +18,9 @@ use Rattle.av_mem.specs.Between.{HasDone, KeepsBetween}
 use Rattle.av_fault.proofs.Amid.{Amid}
 use Rattle.av_fault.proofs.Between.{PartsFit, of-amid, setting-stays}
 use Rattle.av_plain.proofs.Wrote.{device-itself, device-on, wrote-none, wrote-notes}
-use Rattle.av_plain.specs.Pass.{pages_written}
+use Rattle.av_plain.specs.Pass.{fails, is_fail, pages_written}
+use Rattle.av_plain.proofs.Ledger.{how_many-append}
+use Rattle.av_reclaim.specs.Commands.{HasNoted}
 
 -- ---- the memories
 
@@ -93,10 +96,30 @@ module _ (d d' d'' : Device) (old mid new : Mem) (w : World) (r : Rmap) (l : Led
       world_after : List Event → World
       world_after fs = with_loads (setting_by d' mid) (with_loads (setting_by d old) w l es) (after_all l es) fs
 
--- ---- counts of failures
+-- ---- notes that are added
 
-pub rose-none : (n : ℕ) → RoseBy 0 n n
-rose-none n = omega arith
+-- of which none tells a failure
+pub noted-unfailed : (d : Device) (before now added : List Note) → now ≡ before ++ added → fails added ≡ 0 → HasNoted d d before now added 0 0
+noted-unfailed d before now added notes none = record { notes = notes; failures = omega (arith, none); failed = omega arith }
 
-pub rose-then : (m n a b c : ℕ) → RoseBy m a b → RoseBy n b c → RoseBy (m + n) a c
-rose-then m n a b c h i = omega arith
+pub noted-none : (d : Device) (notes : List Note) → HasNoted d d notes notes [] 0 0
+noted-none d notes = noted-unfailed d notes notes [] (sym (append-nil notes)) refl
+
+pub noted-then : (d d' d'' : Device) (before mids now first second : List Note) (lost failed few : ℕ) → HasNoted d d' before mids first 0 few
+    → HasNoted d' d'' mids now second lost failed → HasNoted d d'' before now (first ++ second) lost failed
+noted-then d d' d'' before mids now first second lost failed few a b =
+    let both = how_many-append is_fail first second in
+    let rose = a.failures in
+    let more = b.failures in
+    let least = b.failed in
+    record {
+      notes = b.notes ∙ ap (λ ns. ns ++ second) a.notes ∙ append_assoc before first second;
+      failures = omega (arith, both, rose, more);
+      failed = omega (arith, both, least);
+    }
+
+-- one more, which tells no failure
+pub noted-more : (d d' : Device) (before mids now added : List Note) (note : Note) (few : ℕ) → HasNoted d d' before mids added 0 few
+    → now ≡ mids ++ note ∷ [] → fails (note ∷ []) ≡ 0 → HasNoted d d' before now (added ++ note ∷ []) 0 0
+noted-more d d' before mids now added note few noted is none =
+    noted-then d d' d' before mids now added (note ∷ []) 0 0 few noted (noted-unfailed d' mids now (note ∷ []) is none)

@@ -1,6 +1,5 @@
 -- A page that has its frame is used, and the slot of that is dropped where it is needed no more.
-use Rattle.std.proofs.Common.{◌≡◌, ℕ, ◌+◌, Bool, true, false, cond, List, [], ◌∷◌, ◌++◌, Some, refl, sym, ap, subst, ◌∙◌, arith}
-use Rattle.av_io.specs.Count.{RoseBy}
+use Rattle.std.proofs.Common.{◌≡◌, ℕ, ◌+◌, Bool, true, false, cond, List, [], ◌∷◌, ◌++◌, Some, refl, sym, ap, subst, ◌∙◌}
 use Rattle.av_pagetable.specs.declared.pte.Pte.TheVariants.{Here}
 use Rattle.av_pagetable.specs.Entries.{entry_at}
 use Rattle.av_trace.specs.declared.note.Note.{Note}
@@ -18,7 +17,7 @@ use Rattle.av_mem.specs.Mem.{setting_by}
 use Rattle.av_mem.specs.Between.{HasDone}
 use Rattle.av_fault.specs.Making.{HasMade}
 use Rattle.av_fault.specs.declared.fault.Touched.TheVariants.{Ready}
-use Rattle.av_fault.proofs.Done.{done-then}
+use Rattle.av_fault.proofs.Done.{done-then, noted-unfailed}
 use Rattle.av_fault.proofs.DropLaws.{drops-unfailed}
 use Rattle.av_fault.proofs.UsingLaws.{entry-here, own-here}
 
@@ -26,9 +25,6 @@ module _ (d : Device) (old mid new : Mem) (w : World) (r : Rmap) (l : Ledger) (k
     (before after added : List Note)
     (at : entry l k ≡ Some (InFrame f seen)) (drops : added ≡ drop_of_slot (setting_by d old) write came l (slot_of l f))
     (done : HasDone d d old mid w r l (note_events added)) where
-  unfailed : fails added + 0 ≡ 0
-  unfailed = let none = ap fails drops ∙ drops-unfailed (setting_by d old) write came l (slot_of l f) in omega (arith, none)
-
   pub used-made : after ≡ before ++ added → need write l (entry l k) ≡ NoNeed
       → HasDone d d mid new (with_loads (setting_by d old) w l (note_events added)) (rmap_after_all l (note_events added) r)
       (after_all l (note_events added))
@@ -42,7 +38,7 @@ module _ (d : Device) (old mid new : Mem) (w : World) (r : Rmap) (l : Ledger) (k
       let l' = after_all l (note_events added ++ Used write k ∷ []) in
       record {
         added = added;
-        notes = notes;
+        noted = noted-unfailed d before after added notes (ap fails drops ∙ drops-unfailed (setting_by d old) write came l (slot_of l f));
         makes = record {
           making = [];
           made = subst (λ n. IsMade (setting_by d old) (sparing w) l k n []) (sym no_need) refl;
@@ -53,8 +49,6 @@ module _ (d : Device) (old mid new : Mem) (w : World) (r : Rmap) (l : Ledger) (k
           λ written. own-here d new w' r' l' whole.between k f bit true there (own written),
         );
         done = whole;
-        failures = subst (λ n. RoseBy n d.failures d.failures) (sym unfailed) (omega arith);
-        failed = omega arith;
       }
 
 -- a read needs nothing where the page has a frame, nor does a write where others don't use it

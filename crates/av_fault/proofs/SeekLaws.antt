@@ -50,21 +50,17 @@ module _ (d d' : Device) (old new : Mem) (w : World) (r : Rmap) (l : Ledger) (pi
   pub sought-frame : (f : ℕ) → HasEnded (ends.Frame f) → HasSought d d' old new w r l pinned before now Frame
   sought-frame f h = record {
     added = h.added;
-    notes = h.notes;
+    noted = record { notes = h.notes; failures = let rose = h.failures in omega (arith, rose); failed = omega arith };
     seeks = h.asked.0;
     done = h.done;
-    failures = h.failures;
-    failed = omega arith;
     finds = has_free-some (setting_by d old) (after_notes l h.added) f h.asked.1.0 h.asked.1.1;
   }
 
   pub sought-out : (out : OutOf) → HasEnded (ends.Out out) → HasSought d d' old new w r l pinned before now (Out out)
   sought-out out h = record {
     added = h.added;
-    notes = h.notes;
+    noted = record { notes = h.notes; failures = let rose = h.failures in omega (arith, rose); failed = h.asked.1.failed };
     seeks = h.asked.0;
     done = h.done;
-    failures = h.failures;
-    failed = h.asked.1.failed;
     finds = (h.asked.1.none, h.asked.1.numbers);
   }

@@ -1,10 +1,9 @@
 -- A frame is taken for a page and written: what comes behind the note, and the whole of it.
-use Rattle.std.proofs.Common.{◌≡◌, ℕ, ◌+◌, ◌==◌, Bool, true, false, cond, IfSome, List, [], ◌∷◌, ◌++◌, Option, Some, None, refl, sym, ap, subst, ◌∙◌, arith}
+use Rattle.std.proofs.Common.{◌≡◌, ℕ, ◌+◌, ◌==◌, Bool, true, false, cond, IfSome, List, [], ◌∷◌, ◌++◌, Option, Some, None, refl, sym, ap, subst, ◌∙◌}
 use Rattle.std.proofs.lemmas.List.{append-nil, append_assoc}
 use Rattle.av_base.specs.Keys.{Key}
 use Rattle.av_base.specs.Words.{with_at}
 use Rattle.av_base.specs.declared.slot.Slot.{Slot}
-use Rattle.av_io.specs.Count.{RoseBy}
 use Rattle.av_trace.specs.declared.note.Note.{Note}
 use Rattle.av_trace.specs.declared.reply.OutOf.{OutOf}
 use Rattle.av_vma.specs.Pages.{home_of}
@@ -13,12 +12,11 @@ use Rattle.av_plain.specs.Device.{Device}
 use Rattle.av_plain.specs.Event.{Event, Noted, Used, after_notes, after_use, note_events}
 use Rattle.av_plain.specs.Fault.{FindsNone, IsMade, Need, drop_at, asks_copy, need, pinned_by, sparing, wants_frame}
 use Rattle.av_plain.specs.Ledger.{InFrame, Ledger, Setting, entry, slot_of}
-use Rattle.av_plain.specs.Pass.{Seeks, fails, is_fail, out_of}
+use Rattle.av_plain.specs.Pass.{Seeks, fails, out_of}
 use Rattle.av_plain.specs.Sound.{no_excuse}
 use Rattle.av_plain.specs.Stands.{entry_of}
 use Rattle.av_plain.specs.World.{World}
 use Rattle.av_plain.proofs.Access.{note_events-append}
-use Rattle.av_plain.proofs.Ledger.{how_many-append}
 use Rattle.av_plain.proofs.Load.{without-loads}
 use Rattle.av_plain.proofs.Sound.Changes.{after_use-kept}
 use Rattle.av_plain.proofs.Sound.Counts.{same-itself}
@@ -29,10 +27,10 @@ use Rattle.av_mem.specs.Mem.{setting_by, view}
 use Rattle.av_mem.specs.Between.{HasDone, KeepsBetween}
 use Rattle.av_fault.specs.Making.{HasMade}
 use Rattle.av_fault.specs.Seek.{HasSought}
-use Rattle.av_fault.specs.declared.fault.Stop.TheVariants.{Oom}
+use Rattle.av_fault.specs.declared.fault.Stop.TheVariants.{Starved}
 use Rattle.av_fault.specs.declared.fault.Touched.TheVariants.{Ready, Stopped}
 use Rattle.av_fault.specs.declared.seek.Got.TheVariants.{Frame, Out}
-use Rattle.av_fault.proofs.Done.{done-then}
+use Rattle.av_fault.proofs.Done.{done-then, noted-more}
 use Rattle.av_fault.proofs.Run.{Run, run-then}
 use Rattle.av_fault.proofs.SoughtLaws.{ledger_now, rmap_now, world_now}
 use Rattle.av_fault.proofs.UsingLaws.{own-steps, view_own}
@@ -98,9 +96,6 @@ module _ (d d' : Device) (old mid new : Mem) (w : World) (r : Rmap) (l : Ledger)
   events-are = sym (ap (λ es. es ++ Used true k ∷ []) (note_events-append s.added (note ∷ []))
       ∙ append_assoc (note_events s.added) (Noted note ∷ []) (Used true k ∷ []))
 
-  fails-are : fails (note ∷ []) ≡ 0 → fails added + 0 ≡ fails s.added
-  fails-are none = let e = how_many-append is_fail s.added (note ∷ []) in omega (arith, e, none)
-
   pub taken-made : HasDone d' d' mid new mid_world mid_rmap mid_ledger (Noted note ∷ Used true k ∷ []) → now ≡ mids ++ note ∷ []
       → fails (note ∷ []) ≡ 0
       → IsMade m (sparing w) l k (need true l (entry l k)) added → drop_at m true came (after_notes l added) k ≡ []
@@ -112,15 +107,13 @@ module _ (d d' : Device) (old mid new : Mem) (w : World) (r : Rmap) (l : Ledger)
       let tables = whole.between.serves.held.ledger.tables in
       record {
         added = added;
-        notes = notes ∙ ap (λ ns. ns ++ note ∷ []) s.notes ∙ append_assoc before s.added (note ∷ []);
+        noted = noted-more d d' before mids now s.added note _ s.noted notes unfailed;
         makes = record { making = added; made = made; whole = sym (ap (λ ns. added ++ ns) undropped ∙ append-nil added) };
         ready = (
           sym (tables.entries k.0 k.1) ∙ ap entry_of there,
           λ written. tables.write_bits k.0 k.1 (record { entry = InFrame f true; write = true }) f there refl (same-itself f),
         );
         done = whole;
-        failures = subst (λ n. RoseBy n d.failures d'.failures) (sym (fails-are unfailed)) s.failures;
-        failed = omega arith;
       }
 
 -- ---- no frame is free
@@ -128,12 +121,12 @@ module _ (d d' : Device) (old mid new : Mem) (w : World) (r : Rmap) (l : Ledger)
 module _ (d d' : Device) (old mid : Mem) (w : World) (r : Rmap) (l : Ledger) (pinned : Option ℕ) (before now : List Note) (k : Key) (came : Bool)
     (out : OutOf) (s : HasSought d d' old mid w r l pinned before now (Out out)) where
   pub out-made : (n : Need) → need true l (entry l k) ≡ n → wants_frame n ≡ true → pinned_by n ≡ pinned
-      → HasMade d d' old mid w r l true came k before now (Stopped (Oom out))
+      → HasMade d d' old mid w r l true came k before now (Stopped (Starved out))
   out-made n is wants pins =
       let m = setting_by d old in
       record {
         added = s.added;
-        notes = s.notes;
+        noted = s.noted;
         makes = subst (λ n. FindsNone m (sparing w) l n s.added out) (sym is) (record {
           wants = wants;
           seeks = subst (λ p. Seeks m (sparing w l p) l s.added) (sym pins) s.seeks;
@@ -142,9 +135,4 @@ module _ (d d' : Device) (old mid : Mem) (w : World) (r : Rmap) (l : Ledger) (pi
         });
         ready = tt;
         done = s.done;
-        failures = subst (λ n. RoseBy n d.failures d'.failures) (plus_none (fails s.added)) s.failures;
-        failed = s.failed;
       }
-    where
-      plus_none : (n : ℕ) → n ≡ n + 0
-      plus_none n = omega arith

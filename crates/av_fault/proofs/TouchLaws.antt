@@ -1,7 +1,6 @@
 -- A page is made ready: what its entry is and what was made of it are what the definitions ask for.
-use Rattle.std.proofs.Common.{◌≡◌, inl, ℕ, ◌==◌, Bool, true, false, cond, not, ◌&&◌, List, [], ◌∷◌, ◌++◌, Option, Some, None, is_some, refl, sym, ap, subst, ◌∙◌, arith}
+use Rattle.std.proofs.Common.{◌≡◌, inl, ℕ, ◌==◌, Bool, true, false, cond, not, ◌&&◌, List, [], ◌∷◌, ◌++◌, Option, Some, None, is_some, refl, sym, ap, subst, ◌∙◌}
 use Rattle.std.proofs.lemmas.Bool.{false≢true}
-use Rattle.std.proofs.lemmas.List.{append-nil}
 use Rattle.std.proofs.lemmas.Result.{IfOk-weaker}
 use Rattle.std.specs.Bool.{then_some}
 use Rattle.std.specs.Prelude.{Err, IfOk, Ok, Result, option_map}
@@ -33,14 +32,14 @@ use Rattle.av_mem.specs.declared.mem.Mem.{Mem}
 use Rattle.av_mem.specs.Mem.{Keeps, Serves, frame_count, held_by, plain, ranges_of, setting_by, view}
 use Rattle.av_mem.proofs.LetGoLaws.{rest-none}
 use Rattle.av_mem.proofs.MemLaws.{prot_on, prots_are}
-use Rattle.av_mem.specs.Between.{Does, HasDone, KeepsBetween}
+use Rattle.av_mem.specs.Between.{WhateverStood, HasDone, KeepsBetween}
 use Rattle.av_fault.specs.Fault.{HasTouched, IsTouched, MakesReady, end_of, is_permitted, touch_events}
 use Rattle.av_fault.specs.Making.{HasMade, IsMadeBy, Makes}
-use Rattle.av_fault.specs.declared.fault.Stop.TheVariants.{Bus, Oom, Segv}
+use Rattle.av_fault.specs.declared.fault.Stop.TheVariants.{Denied, Lost, Starved}
 use Rattle.av_fault.specs.declared.fault.Touched.{Touched}
 use Rattle.av_fault.specs.declared.fault.Touched.TheVariants.{Ready, Stopped, Zeros}
 use Rattle.av_fault.proofs.Between.{between-of, fit-stays, to-amid, to-fit}
-use Rattle.av_fault.proofs.Done.{rose-none}
+use Rattle.av_fault.proofs.Done.{noted-none}
 use Rattle.av_fault.proofs.EntryLaws.{entry-is}
 use Rattle.av_fault.proofs.Run.{run-done, run-none, run-then}
 use Rattle.av_fault.proofs.UsingLaws.{entry-here}
@@ -115,9 +114,9 @@ module _ (m : Setting) (w : World) (l : Ledger) (write : Bool) (k : Key) where
       by : (touched : Touched) → Makes m w l write false k added touched → Touches m w l write k added (end_of touched)
       by (Ready f) made = (allowed, serves made)
       by Zeros made = (allowed, serves made)
-      by (Stopped Segv) made = absurd made
-      by (Stopped Bus) made = absurd made
-      by (Stopped (Oom out)) finds = (allowed, record { coming = []; sought = added; whole = refl; before = inl refl; finds = finds })
+      by (Stopped Denied) made = absurd made
+      by (Stopped Lost) made = absurd made
+      by (Stopped (Starved out)) finds = (allowed, record { coming = []; sought = added; whole = refl; before = inl refl; finds = finds })
 
 pub made-touched : (d d' : Device) (old new : Mem) (w : World) (r : Rmap) (l : Ledger) (write : Bool) (k : Key) (before now : List Note)
     (touched : Touched)
@@ -125,19 +124,17 @@ pub made-touched : (d d' : Device) (old new : Mem) (w : World) (r : Rmap) (l : L
     → HasTouched d d' old new w r l write k before now touched
 made-touched d d' old new w r l write k before now touched slotless allowed made = record {
   added = made.added;
-  notes = made.notes;
+  noted = made.noted;
   touches = makes-touches (setting_by d old) w l write k made.added touched slotless allowed made.makes;
   ready = made.ready;
   done = made.done;
-  failures = made.failures;
-  failed = made.failed;
 }
 
 -- so it is of a page whose entry is this one, if memory was not wanting
 pub made-does : (d d' : Device) (old new : Mem) (write : Bool) (k : Key) (before now : List Note) (result : Result Touched AllocError) (e : Pte)
     → entry_at old.tables k.0 k.1 ≡ e → IsNoSlot (entry_of (plain e)) → is_permitted write (prot_of (ranges_of old.spaces.processes k.0) k.1) ≡ true
-    → IfOk result (λ touched. Does d d' old (λ d d' w r l. HasMade d d' old new w r l write false k before now touched))
-    → IfOk result (λ touched. Does d d' old (λ d d' w r l. HasTouched d d' old new w r l write k before now touched))
+    → IfOk result (λ touched. WhateverStood d d' old (λ d d' w r l. HasMade d d' old new w r l write false k before now touched))
+    → IfOk result (λ touched. WhateverStood d d' old (λ d d' w r l. HasTouched d d' old new w r l write k before now touched))
 made-does d d' old new write k before now result e there slotless permitted = IfOk-weaker result _ _ (λ touched made told w r l h.
     let d0 = as_told told d in
     let at : entry l k ≡ entry_of (plain e) = entry-is d0 old w r l h k e there in
@@ -165,7 +162,7 @@ read-touched d old new w r l k f write seen notes h allowed there done here =
     let at : entry l k ≡ Some (InFrame f seen) = entry-here d old w r l h k f write seen there in
     made-touched d d old new w r l false k notes notes (Ready f) (subst IsNoSlot (sym at) tt) allowed (record {
       added = [];
-      notes = sym (append-nil notes);
+      noted = noted-none d notes;
       makes = record {
         making = [];
         made = subst (λ o. IsMade (setting_by d old) (sparing w) l k (need false l o) []) (sym at) refl;
@@ -173,8 +170,6 @@ read-touched d old new w r l k f write seen notes h allowed there done here =
       };
       ready = (entry-here d new _ _ _ done.between k f write true here, λ is. absurd (false≢true is));
       done = done;
-      failures = rose-none d.failures;
-      failed = omega arith;
     })
 
 pub zeros-touched : (d : Device) (old : Mem) (w : World) (r : Rmap) (l : Ledger) (k : Key) (notes : List Note)
@@ -187,7 +182,7 @@ zeros-touched d old w r l k notes h allowed there =
     let same : after_use false k l ≡ l = ap (after_use_of false k l) at in
     made-touched d d old old w r l false k notes notes Zeros (subst IsNoSlot (sym at) tt) allowed (record {
       added = [];
-      notes = sym (append-nil notes);
+      noted = noted-none d notes;
       makes = record {
         making = [];
         made = subst (λ o. IsMade m (sparing w) l k (need false l o) []) (sym at) refl;
@@ -201,8 +196,6 @@ zeros-touched d old w r l k notes h allowed there =
           h.sound)
           refl refl refl (sym (without-loads m w l (Used false k ∷ []) refl)) refl (device-itself d) (wrote-none d.history) refl
           (fit-stays d d old old (device-itself d) (rest-none old).parts (to-fit d old w r l h));
-      failures = rose-none d.failures;
-      failed = omega arith;
     })
 
 -- ---- the whole
@@ -215,7 +208,7 @@ module _ (d d' : Device) (s : State) (old new : Mem) (write : Bool) (k : Key) (b
       let events = touch_events write k h.added touched in
       record {
         added = h.added;
-        notes = h.notes;
+        noted = h.noted;
         touches = subst (λ m. Touches m s.world s.ledger write k h.added (end_of touched)) same h.touches;
         ready = h.ready;
         served = record {
@@ -226,13 +219,11 @@ module _ (d d' : Device) (s : State) (old new : Mem) (write : Bool) (k : Key) (b
               (subst (λ (x : Free). ChoosesAll (setting_by d old) None s.ledger events x (free_of (view new))) keeps.stands.free h.done.free);
           wrote = h.done.wrote;
         };
-        failures = h.failures;
-        failed = h.failed;
       }
 
 -- it was touched, or memory was wanting
 pub is-ready : (told : Bool) (d d' : Device) (old new : Mem) (write : Bool) (k : Key) (before now : List Note) (result : Result Touched AllocError)
-    → IfOk result (λ touched. Does d d' old (λ d d' w r l. HasTouched d d' old new w r l write k before now touched))
+    → IfOk result (λ touched. WhateverStood d d' old (λ d d' w r l. HasTouched d d' old new w r l write k before now touched))
     → IsSameDevice d d' → frame_count new ≡ frame_count old → MakesReady (as_told told d) (as_told told d') old new write k before now result
 is-ready told d d' old new write k before now result done same count = record {
   step = λ s keeps. by result done s keeps;
@@ -241,7 +232,7 @@ is-ready told d d' old new write k before now result done same count = record {
 }
   where
     by : (result : Result Touched AllocError)
-        → IfOk result (λ touched. Does d d' old (λ d d' w r l. HasTouched d d' old new w r l write k before now touched))
+        → IfOk result (λ touched. WhateverStood d d' old (λ d d' w r l. HasTouched d d' old new w r l write k before now touched))
         → (s : State) → Keeps (as_told told d) old s → IfOk result (IsTouched (as_told told d) (as_told told d') s new write k before now)
     by (Ok touched) done s keeps = is-touched (as_told told d) (as_told told d') s old new write k before now keeps touched
         (done told s.world (rmap_of s) s.ledger (between-of (as_told told d) old s keeps))

@@ -1,5 +1,5 @@
 -- A page gets the page of zeros, for a read.
-use Rattle.std.proofs.Common.{◌≡◌, ℕ, true, false, cond, List, [], ◌∷◌, ◌++◌, Some, None, is_some, refl, sym, ap, subst, ◌∙◌, arith}
+use Rattle.std.proofs.Common.{◌≡◌, ℕ, true, false, cond, List, [], ◌∷◌, ◌++◌, Some, None, is_some, refl, sym, ap, subst, ◌∙◌}
 use Rattle.av_base.specs.Keys.{Key}
 use Rattle.av_base.proofs.Keys.{same_key-itself}
 use Rattle.av_base.specs.Page.{address_of, page_of}
@@ -27,7 +27,7 @@ use Rattle.av_mem.specs.Between.{HasDone, KeepsBetween}
 use Rattle.av_fault.specs.Making.{HasMade, IsMapped}
 use Rattle.av_fault.specs.declared.fault.Touched.TheVariants.{Zeros}
 use Rattle.av_fault.proofs.Between.{fit-stays, to-amid, to-fit}
-use Rattle.av_fault.proofs.Done.{rose-none}
+use Rattle.av_fault.proofs.Done.{noted-unfailed}
 use Rattle.av_fault.proofs.EntryLaws.{entry-is, mapped-is, page-back}
 use Rattle.av_fault.proofs.Run.{run-done, run-none, run-then}
 use Rattle.av_plain.proofs.Wrote.{device-itself, wrote-none}
@@ -80,7 +80,7 @@ zero-made d old new w r l k before now h parts mapped empty seen notes =
     (zero-there k.0 (address_of k.1) l) in
     record {
       added = note ∷ [];
-      notes = notes;
+      noted = noted-unfailed d before now (note ∷ []) notes refl;
       makes = record {
         making = note ∷ [];
         made = subst (λ o. IsMade m (sparing w) l k (need false l o) (note ∷ [])) (sym none) refl;
@@ -91,6 +91,4 @@ zero-made d old new w r l k before now h parts mapped empty seen notes =
           → HasDone d d old new w r l (Noted note ∷ Used false (k.0, page) ∷ [])) (page-back k.1)
           (zero-done d old new w r l h parts k.0 (address_of k.1))
           none (mapped-is d old w r l h k mapped.area) seen;
-      failures = rose-none d.failures;
-      failed = omega arith;
     }

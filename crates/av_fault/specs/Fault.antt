@@ -1,14 +1,13 @@
 -- The page fault: a page is made ready for a read or a write, or not.
-use Rattle.std.specs.Prelude.{◌≡◌, ℕ, ◌+◌, ◌≤◌, ◌++◌, Bool, true, false, List, Option, Some, None}
+use Rattle.std.specs.Prelude.{◌≡◌, ℕ, Bool, true, false, List, Option, Some, None}
 use Rattle.std.specs.Prelude.{Result, IfOk}
 use Rattle.std.specs.declared.alloc.AllocError.{AllocError}
-use Rattle.av_io.specs.Count.{RoseBy}
 use Rattle.av_trace.specs.declared.note.Note.{Note}
 use Rattle.av_plain.specs.Ledger.{Ledger, Zero, InFrame, entry}
 use Rattle.av_plain.specs.Device.{Device, IsSameDevice, Wrote}
 use Rattle.av_plain.specs.Event.{Event, after_all, notes_of}
 use Rattle.av_plain.specs.Fault as served
-use Rattle.av_plain.specs.Fault.{Touches, Denied, Lost, Starved, asks_copy}
+use Rattle.av_plain.specs.Fault.{Touches, asks_copy}
 use Rattle.av_plain.specs.Access.{page_events}
 use Rattle.av_plain.specs.Choice.{ChoosesAll}
 use Rattle.av_plain.specs.Areas.{Rmap, rmap_after_all}
@@ -17,14 +16,15 @@ use Rattle.av_base.specs.Keys.{Key}
 use Rattle.av_base.specs.declared.prot.Prot.{Prot}
 use Rattle.av_mem.specs.Between.{HasDone}
 use Rattle.av_plain.specs.Load.{with_loads}
-use Rattle.av_plain.specs.Pass.{fails, pages_written}
+use Rattle.av_plain.specs.Pass.{pages_written}
 use Rattle.av_plain.specs.Sound.{IsSound}
 use Rattle.av_plain.specs.Stands.{free_of}
 use Rattle.av_plain.specs.Transcript.{State, rmap_of}
 use Rattle.av_mem.specs.declared.mem.Mem.{Mem}
 use Rattle.av_mem.specs.Mem.{frame_count, setting_by, view, Keeps, Serves}
+use Rattle.av_reclaim.specs.Commands.{HasNoted}
 use Rattle.av_fault.specs.declared.fault.Stop.{Stop}
-use Rattle.av_fault.specs.declared.fault.Stop.TheVariants.{Bus, Oom, Segv}
+use Rattle.av_fault.specs.declared.fault.Stop.TheVariants.{Denied, Lost, Starved}
 use Rattle.av_fault.specs.declared.fault.Touched.{Touched}
 use Rattle.av_fault.specs.declared.fault.Touched.TheVariants.{Ready, Zeros, Stopped}
 
@@ -32,9 +32,9 @@ use Rattle.av_fault.specs.declared.fault.Touched.TheVariants.{Ready, Zeros, Stop
 
 -- why a page is not served, in the definitions' words
 abbrev pub stop_of : Stop → served.Stop
-stop_of Segv = Denied
-stop_of Bus = Lost
-stop_of (Oom out) = Starved out
+stop_of Denied = served.Denied
+stop_of Lost = served.Lost
+stop_of (Starved out) = served.Starved out
 
 abbrev pub end_of : Touched → Option served.Stop
 end_of (Ready f) = None
@@ -45,17 +45,17 @@ end_of (Stopped stop) = Some (stop_of stop)
 abbrev pub lost_by : Touched → ℕ
 lost_by (Ready f) = 0
 lost_by Zeros = 0
-lost_by (Stopped Segv) = 0
-lost_by (Stopped Bus) = 1
-lost_by (Stopped (Oom out)) = 0
+lost_by (Stopped Denied) = 0
+lost_by (Stopped Lost) = 1
+lost_by (Stopped (Starved out)) = 0
 
 -- how many frames an out-of-memory calls cached
 abbrev pub failed_by : Touched → ℕ
 failed_by (Ready f) = 0
 failed_by Zeros = 0
-failed_by (Stopped Segv) = 0
-failed_by (Stopped Bus) = 0
-failed_by (Stopped (Oom out)) = out.fault
+failed_by (Stopped Denied) = 0
+failed_by (Stopped Lost) = 0
+failed_by (Stopped (Starved out)) = out.fault
 
 -- the events of these notes, and of the page's use where it is served
 abbrev pub touch_events : Bool → Key → List Note → Touched → List Event
@@ -85,12 +85,10 @@ pub record IsServed (d d' : Device) (s : State) (new : Mem) (events : List Event
 pub record IsTouched (d d' : Device) (s : State) (new : Mem) (write : Bool) (k : Key)
     (before now : List Note) (touched : Touched) : Type 0 where
   pub added : List Note
-  pub notes : now ≡ before ++ added
+  pub noted : HasNoted d d' before now added (lost_by touched) (failed_by touched)
   pub touches : Touches (setting_by d new) s.world s.ledger write k added (end_of touched)
   pub ready : IsReady write (after_all s.ledger (touch_events write k added touched)) k touched
   pub served : IsServed d d' s new (touch_events write k added touched)
-  pub failures : RoseBy (fails added + lost_by touched) d.failures d'.failures
-  pub failed : failed_by touched ≤ fails added
 
 -- whatever stood before: the page is made ready or not. It is the same device then, and there are
 -- as many frames, also where memory was wanting
@@ -112,9 +110,7 @@ is_permitted write (Some prot) = allows write prot
 pub record HasTouched (d d' : Device) (old new : Mem) (w : World) (r : Rmap) (l : Ledger)
     (write : Bool) (k : Key) (before now : List Note) (touched : Touched) : Type 0 where
   pub added : List Note
-  pub notes : now ≡ before ++ added
+  pub noted : HasNoted d d' before now added (lost_by touched) (failed_by touched)
   pub touches : Touches (setting_by d old) w l write k added (end_of touched)
   pub ready : IsReady write (after_all l (touch_events write k added touched)) k touched
   pub done : HasDone d d' old new w r l (touch_events write k added touched)
-  pub failures : RoseBy (fails added + lost_by touched) d.failures d'.failures
-  pub failed : failed_by touched ≤ fails added

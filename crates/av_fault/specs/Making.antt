@@ -1,8 +1,7 @@
 -- How a page gets the page of zeros, a frame, or a copy of its frame.
-use Rattle.std.specs.Prelude.{◌≡◌, ◌+◌, ◌<◌, ◌≤◌, Bool, true, List, ◌++◌, IsSome}
+use Rattle.std.specs.Prelude.{◌≡◌, ◌<◌, Bool, true, List, ◌++◌, IsSome}
 use Rattle.av_base.specs.Keys.{Key}
 use Rattle.av_base.specs.Limits.{top_page}
-use Rattle.av_io.specs.Count.{RoseBy}
 use Rattle.av_pagetable.specs.Entries.{has}
 use Rattle.av_pagetable.specs.declared.pte.Pte.{Pte}
 use Rattle.av_pagetable.specs.declared.pte.Pte.TheVariants.{Empty, Zero, Here, Away}
@@ -12,14 +11,14 @@ use Rattle.av_plain.specs.Device.{Device}
 use Rattle.av_plain.specs.Event.{after_all, after_notes}
 use Rattle.av_plain.specs.Fault.{FindsNone, IsMade, drop_at, need, sparing}
 use Rattle.av_plain.specs.Ledger.{Ledger, Setting, entry}
-use Rattle.av_plain.specs.Pass.{fails}
 use Rattle.av_plain.specs.World.{World}
 use Rattle.av_spaces.specs.Spaces.{pages_of}
 use Rattle.av_mem.specs.declared.mem.Mem.{Mem}
 use Rattle.av_mem.specs.Mem.{setting_by}
 use Rattle.av_mem.specs.Between.{HasDone}
+use Rattle.av_reclaim.specs.Commands.{HasNoted}
 use Rattle.av_fault.specs.Fault.{IsReady, failed_by, lost_by, touch_events}
-use Rattle.av_fault.specs.declared.fault.Stop.TheVariants.{Bus, Oom, Segv}
+use Rattle.av_fault.specs.declared.fault.Stop.TheVariants.{Denied, Lost, Starved}
 use Rattle.av_fault.specs.declared.fault.Touched.{Touched}
 use Rattle.av_fault.specs.declared.fault.Touched.TheVariants.{Ready, Zeros, Stopped}
 
@@ -44,9 +43,9 @@ pub record IsMadeBy (m : Setting) (w : World) (l : Ledger) (write came : Bool) (
 abbrev pub Makes : Setting → World → Ledger → Bool → Bool → Key → List Note → Touched → Type 0
 Makes m w l write came k added (Ready f) = IsMadeBy m w l write came k added
 Makes m w l write came k added Zeros = IsMadeBy m w l write came k added
-Makes m w l write came k added (Stopped Segv) = ⊥
-Makes m w l write came k added (Stopped Bus) = ⊥
-Makes m w l write came k added (Stopped (Oom out)) =
+Makes m w l write came k added (Stopped Denied) = ⊥
+Makes m w l write came k added (Stopped Lost) = ⊥
+Makes m w l write came k added (Stopped (Starved out)) =
     FindsNone m (sparing w) l (need write l (entry l k)) added out
 
 -- these notes were added at a page whose entry is no slot, or no more if it came in, and this is
@@ -54,12 +53,10 @@ Makes m w l write came k added (Stopped (Oom out)) =
 pub record HasMade (d d' : Device) (old new : Mem) (w : World) (r : Rmap) (l : Ledger)
     (write came : Bool) (k : Key) (before now : List Note) (touched : Touched) : Type 0 where
   pub added : List Note
-  pub notes : now ≡ before ++ added
+  pub noted : HasNoted d d' before now added (lost_by touched) (failed_by touched)
   pub makes : Makes (setting_by d old) w l write came k added touched
   pub ready : IsReady write (after_all l (touch_events write k added touched)) k touched
   pub done : HasDone d d' old new w r l (touch_events write k added touched)
-  pub failures : RoseBy (fails added + lost_by touched) d.failures d'.failures
-  pub failed : failed_by touched ≤ fails added
 
 -- ---- the parts
 

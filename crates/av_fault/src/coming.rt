@@ -7,7 +7,7 @@ ghost use Rattle.av_plain.specs.Device.{IsSameDevice, seen_by};
 ghost use Rattle.av_spaces.specs.Spaces.{pages_of};
 ghost use Rattle.av_vma.specs.Pages.{home_of};
 ghost use Rattle.av_mem.specs.Mem.{frame_count};
-ghost use Rattle.av_mem.specs.Between.{Does, IsBetween};
+ghost use Rattle.av_mem.specs.Between.{WhateverStood, IsBetween};
 ghost use Rattle.av_fault.specs.Coming.{Comes, Fetches, HasCome};
 
 use crate::fault::Stop;
@@ -31,7 +31,7 @@ pub(crate) fn come_in<D: SwapDev>(
     requires between { IsBetween (D.sizes dev.old) mem.old }
     requires away { entry_at mem.old.tables key.0 key.1 ≡ Pte.Away slot }
     requires home { home ≡ home_of key.1 (pages_of mem.old.spaces.processes key.0 key.1) }
-    ensures come { IfOk result (λ came. Does
+    ensures come { IfOk result (λ came. WhateverStood
         (seen_by D.sizes D.pages D.failures D.history dev.old)
         (seen_by D.sizes D.pages D.failures D.history dev.new) mem.old (λ d d' w r l.
         HasCome (λ m w l added came. Comes m w l key slot added came)
@@ -68,7 +68,7 @@ fn fetch<D: SwapDev>(
     requires between { IsBetween (D.sizes dev.old) mem.old }
     requires away { entry_at mem.old.tables key.0 key.1 ≡ Pte.Away slot }
     requires home { home ≡ home_of key.1 (pages_of mem.old.spaces.processes key.0 key.1) }
-    ensures fetched { IfOk result (λ came. Does
+    ensures fetched { IfOk result (λ came. WhateverStood
         (seen_by D.sizes D.pages D.failures D.history dev.old)
         (seen_by D.sizes D.pages D.failures D.history dev.new) mem.old (λ d d' w r l.
         HasCome (λ m w l added came. Fetches m w l slot added came)
@@ -81,7 +81,7 @@ fn fetch<D: SwapDev>(
         return Ok(Ok(frame));
     }
     if let Got::Out(out) = seek(mem, dev, None, notes)? {
-        return Ok(Err(Stop::Oom(out)));
+        return Ok(Err(Stop::Starved(out)));
     }
     let home = mem.home_to_load(slot, home);
     match mem.load(slot, home, dev) {
@@ -89,6 +89,6 @@ fn fetch<D: SwapDev>(
             notes.push(Note::Loaded { slot, frame })?;
             Ok(Ok(frame))
         }
-        Err(_) => Ok(Err(Stop::Bus)),
+        Err(_) => Ok(Err(Stop::Lost)),
     }
 }

@@ -8,7 +8,7 @@ ghost use Rattle.av_plain.specs.Stands.{prot_of};
 ghost use Rattle.av_plain.specs.World.{allows};
 ghost use Rattle.av_spaces.specs.Spaces.{pages_of};
 ghost use Rattle.av_vma.specs.Pages.{AreLaid, IsWhole, home_of};
-ghost use Rattle.av_mem.specs.Between.{Does, IsBetween};
+ghost use Rattle.av_mem.specs.Between.{WhateverStood, IsBetween};
 ghost use Rattle.av_fault.specs.Fault.{HasTouched, MakesReady, is_permitted};
 ghost use Rattle.av_fault.specs.Making.{IsMapped};
 
@@ -27,11 +27,11 @@ use std::alloc::AllocError;
 #[derive(Clone, Copy, Drop, Debug, PartialEq, Eq)]
 pub enum Stop {
     /// The page is not mapped, or its protection does not allow the access.
-    Segv,
+    Denied,
     /// The page is on the device alone, and the device did not give it.
-    Bus,
+    Lost,
     /// A frame is wanted and none is free, and a direct pass freed none.
-    Oom(OutOf),
+    Starved(OutOf),
 }
 
 /// What a page has for an access.
@@ -63,7 +63,7 @@ pub fn touch<D: SwapDev>(
         mem.old mem.new write (process, page) notes.old notes.new result }
 {
     let Some(area) = area_for(mem, process, page, write) else {
-        return Ok(Touched::Stopped(Stop::Segv));
+        return Ok(Touched::Stopped(Stop::Denied));
     };
     let key = (process, page);
     let home = home(&area, page);
@@ -114,7 +114,7 @@ fn touch_to_read<D: SwapDev>(
     requires permitted { is_permitted false
         (prot_of (ranges_of mem.old.spaces.processes key.0) key.1) ≡ true }
     requires home { home ≡ home_of key.1 (pages_of mem.old.spaces.processes key.0 key.1) }
-    ensures touched { IfOk result (λ touched. Does
+    ensures touched { IfOk result (λ touched. WhateverStood
         (seen_by D.sizes D.pages D.failures D.history dev.old)
         (seen_by D.sizes D.pages D.failures D.history dev.new) mem.old (λ d d' w r l.
         HasTouched d d' mem.old mem.new w r l false key notes.old notes.new touched)) }
@@ -150,7 +150,7 @@ fn touch_to_write<D: SwapDev>(
     requires permitted { is_permitted true
         (prot_of (ranges_of mem.old.spaces.processes key.0) key.1) ≡ true }
     requires home { home ≡ home_of key.1 (pages_of mem.old.spaces.processes key.0 key.1) }
-    ensures touched { IfOk result (λ touched. Does
+    ensures touched { IfOk result (λ touched. WhateverStood
         (seen_by D.sizes D.pages D.failures D.history dev.old)
         (seen_by D.sizes D.pages D.failures D.history dev.new) mem.old (λ d d' w r l.
         HasTouched d d' mem.old mem.new w r l true key notes.old notes.new touched)) }

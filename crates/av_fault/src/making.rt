@@ -10,7 +10,7 @@ ghost use Rattle.av_plain.specs.World.{World};
 ghost use Rattle.av_spaces.specs.Spaces.{pages_of};
 ghost use Rattle.av_vma.specs.Pages.{home_of};
 ghost use Rattle.av_mem.specs.Mem.{frame_count, view};
-ghost use Rattle.av_mem.specs.Between.{Does, IsBetween, KeepsBetween};
+ghost use Rattle.av_mem.specs.Between.{WhateverStood, IsBetween, KeepsBetween};
 ghost use Rattle.av_fault.specs.Making.{HasMade, IsBare, IsMapped};
 ghost use Rattle.av_fault.specs.Using.{IsHere, asks_copy_in};
 
@@ -55,7 +55,7 @@ pub(crate) fn make_new<D: SwapDev>(
     requires between { IsBetween (D.sizes dev.old) mem.old }
     requires mapped { IsMapped mem.old key }
     requires bare { IsBare (entry_at mem.old.tables key.0 key.1) }
-    ensures made { IfOk result (λ touched. Does
+    ensures made { IfOk result (λ touched. WhateverStood
         (seen_by D.sizes D.pages D.failures D.history dev.old)
         (seen_by D.sizes D.pages D.failures D.history dev.new) mem.old (λ d d' w r l.
         HasMade d d' mem.old mem.new w r l true false key notes.old notes.new touched)) }
@@ -64,7 +64,7 @@ pub(crate) fn make_new<D: SwapDev>(
     ensures count { frame_count mem.new ≡ frame_count mem.old }
 {
     if let Got::Out(out) = seek(mem, dev, None, notes)? {
-        return Ok(Touched::Stopped(Stop::Oom(out)));
+        return Ok(Touched::Stopped(Stop::Starved(out)));
     }
     let home = mem.spaces.prepare(&mut mem.anons, key.0, key.1)?;
     let frame = take_frame_of_zeros(mem, key, home)?;
@@ -89,7 +89,7 @@ pub(crate) fn make_copy<D: SwapDev>(
     requires here { IsHere mem.old key from false }
     requires shared { asks_copy_in (view mem.old) from ≡ true }
     requires home { home ≡ home_of key.1 (pages_of mem.old.spaces.processes key.0 key.1) }
-    ensures made { IfOk result (λ touched. Does
+    ensures made { IfOk result (λ touched. WhateverStood
         (seen_by D.sizes D.pages D.failures D.history dev.old)
         (seen_by D.sizes D.pages D.failures D.history dev.new) mem.old (λ d d' w r l.
         (came : Bool)
@@ -99,7 +99,7 @@ pub(crate) fn make_copy<D: SwapDev>(
     ensures count { frame_count mem.new ≡ frame_count mem.old }
 {
     if let Got::Out(out) = seek(mem, dev, Some(from), notes)? {
-        return Ok(Touched::Stopped(Stop::Oom(out)));
+        return Ok(Touched::Stopped(Stop::Starved(out)));
     }
     let frame = take_frame_for_copy(mem, key, from, home);
     notes.push(Note::Copied {

@@ -2,7 +2,7 @@
 
 ghost use Rattle.std.specs.Prelude.{◌≡◌, IfOk};
 ghost use Rattle.av_plain.specs.Device.{IsSameDevice, seen_by};
-ghost use Rattle.av_mem.specs.Between.{Does, IsBetween};
+ghost use Rattle.av_mem.specs.Between.{WhateverStood, IsBetween};
 ghost use Rattle.av_mem.specs.Mem.{frame_count};
 ghost use Rattle.av_fault.specs.Seek.{HasSought};
 
@@ -30,7 +30,7 @@ pub(crate) fn seek<D: SwapDev>(
     notes: &mut Notes,
 ) -> Result<Got, AllocError>
     requires between { IsBetween (D.sizes dev.old) mem.old }
-    ensures sought { IfOk result (λ got. Does
+    ensures sought { IfOk result (λ got. WhateverStood
         (seen_by D.sizes D.pages D.failures D.history dev.old)
         (seen_by D.sizes D.pages D.failures D.history dev.new) mem.old
         (λ d d' w r l. HasSought d d' mem.old mem.new w r l pinned notes.old notes.new got)) }

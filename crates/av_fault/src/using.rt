@@ -13,7 +13,7 @@ ghost use Rattle.av_spaces.specs.Spaces.{pages_of};
 ghost use Rattle.av_vma.specs.Pages.{home_of};
 ghost use Rattle.av_mem.specs.Mem.{HasItems, frame_count, view};
 ghost use Rattle.av_mem.specs.Steps.{KeepsParts};
-ghost use Rattle.av_mem.specs.Between.{Does, HasBetween, HasDone, IsBetween, KeepsBetween};
+ghost use Rattle.av_mem.specs.Between.{WhateverStood, HasBetween, HasDone, IsBetween, KeepsBetween};
 ghost use Rattle.av_fault.specs.Making.{HasMade};
 ghost use Rattle.av_fault.specs.Using.{HasDropped, HasDroppedFull, IsHere, asks_copy_in};
 
@@ -74,7 +74,7 @@ pub(crate) fn write_frame<D: SwapDev>(
     requires between { IsBetween (D.sizes dev.old) mem.old }
     requires here { IsHere mem.old key frame settled }
     requires home { home ≡ home_of key.1 (pages_of mem.old.spaces.processes key.0 key.1) }
-    ensures made { IfOk result (λ touched. Does
+    ensures made { IfOk result (λ touched. WhateverStood
         (seen_by D.sizes D.pages D.failures D.history dev.old)
         (seen_by D.sizes D.pages D.failures D.history dev.new) mem.old (λ d d' w r l.
         (came : Bool)
@@ -129,7 +129,7 @@ pub(crate) fn drop_unneeded(
     if mem.swap.in_flight(slot) || mem.swap.entries(slot) > 0 {
         return Ok(true);
     }
-    mem.drop_slot(slot);
+    mem.drop_slot(frame, slot);
     notes.push(Note::Dropped(slot))?;
     Ok(false)
 }

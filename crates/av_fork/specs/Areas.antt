@@ -10,8 +10,8 @@ use Rattle.av_mem.specs.Mem.{view}
 use Rattle.av_spaces.specs.Kin.{AnonsFit}
 use Rattle.av_spaces.specs.Spaces.{IsSpawned}
 
--- what there is after a fork of the parent, by the areas, anon_vmas, homes and items that there were:
--- the kernel has just that, its anon_vmas fit, and the child lives
+-- what there is after a fork of the parent, by the areas, anon_vmas, homes and items that there
+-- were: the kernel has just that, its anon_vmas fit, and the child lives
 pub record HasFork (old new : Mem) (parent child : ℕ) (s : State) : Type 0 where
   pub next : Rmap
   pub forked : AreForked parent child (rmap_of s) next

@@ -1,5 +1,6 @@
 -- How the entries of a process go over to a child.
-use Rattle.std.specs.Prelude.{◌≡◌, ℕ, ◌-◌, Bool, false, not, ◌&&◌, if◌then◌else◌, Option, Some, None}
+use Rattle.std.specs.Prelude.{◌≡◌, ℕ, ◌-◌, Bool, false, not, ◌&&◌, if◌then◌else◌, Option, Some}
+use Rattle.std.specs.Prelude.{None}
 use Rattle.std.specs.Prelude.{option_map}
 use Rattle.av_base.specs.Words.{within}
 use Rattle.av_plain.specs.Choice.{Chooses}
@@ -36,8 +37,8 @@ left_in areas table page = if entry_goes_over (areas page) then table page else 
 abbrev pub without_range : ℕ → ℕ → (ℕ → Pte) → ℕ → Pte
 without_range from past table page = if within from (past - from) page then Empty else table page
 
--- the child has inherited each entry of the parent that goes over: nothing is taken, nothing becomes
--- free, and the items stay, so a merged frame gets entries and no item
+-- the child has inherited each entry of the parent that goes over: nothing is taken, nothing
+-- becomes free, and the items stay, so a merged frame gets entries and no item
 pub record HasForkedEntries (d : Device) (old new : Mem) (pages : Process) (l : Ledger) (p q : ℕ)
     : Type 0 where
   pub stands : HasLedger d new (after l (Forked p q (inheritance pages l p)))

@@ -5,6 +5,7 @@ use Rattle.std.specs.List.{range_with_len}
 use Rattle.av_base.specs.declared.slot.Slot.{Slot}
 use Rattle.av_base.specs.Words.{how_many, is_in, without}
 use Rattle.av_frames.specs.Store.{IsWhole, Shown, itself, relocated, with_bytes, with_maps, with_home, with_dirty, with_slot}
+use Rattle.av_base.proofs.Without.{count-without, length-without}
 use Rattle.av_base.proofs.Counted.{count-set}
 use Rattle.av_frames.proofs.Free.{not_in, none_in, within_flags}
 use Rattle.av_frames.proofs.Fresh.{once_from, numbers-suc}
@@ -14,56 +15,8 @@ zero_plus n = omega arith
 
 -- ---- without a frame
 
--- of a list's frames only the one that goes is counted otherwise
-pub many-without : (g f : ℕ) (fs : List ℕ) → how_many (λ x. g == x) (without f fs) ≡ cond (g == f) 0 (how_many (λ x. g == x) fs)
-many-without g f [] = by (g == f)
-  where
-    by : (b : Bool) → ◌≡◌ {A = ℕ} 0 (cond b 0 0)
-    by true = refl
-    by false = refl
-many-without g f (x ∷ xs) = by (x == f) (g == f) refl refl (many-without g f xs)
-  where
-    rest : ℕ
-    rest = how_many (λ y. g == y) xs
-
-    by : (b d : Bool) → (x == f) ≡ b → (g == f) ≡ d → how_many (λ y. g == y) (without f xs) ≡ cond (g == f) 0 rest
-        → how_many (λ y. g == y) (cond (not (x == f)) (x ∷ without f xs) (without f xs)) ≡ cond (g == f) 0 (cond (g == x) 1 0 + rest)
-    by true true e d h =
-        ap (λ c. how_many (λ y. g == y) (cond (not c) (x ∷ without f xs) (without f xs))) e ∙ h
-        ∙ ap (λ c. cond c 0 rest) d ∙ sym (ap (λ c. cond c 0 (cond (g == x) 1 0 + rest)) d)
-    by true false e d h =
-        let other : (g == x) ≡ false = grind (arith, nat_tests, e, d) in
-        ap (λ c. how_many (λ y. g == y) (cond (not c) (x ∷ without f xs) (without f xs))) e ∙ h ∙ ap (λ c. cond c 0 rest) d
-        ∙ sym (ap (λ c. cond c 0 (cond (g == x) 1 0 + rest)) d ∙ ap (λ c. cond c 1 0 + rest) other ∙ zero_plus rest)
-    by false true e d h =
-        let other : (g == x) ≡ false = grind (arith, nat_tests, e, d) in
-        ap (λ c. how_many (λ y. g == y) (cond (not c) (x ∷ without f xs) (without f xs))) e
-        ∙ ap (λ c. cond c 1 0 + how_many (λ y. g == y) (without f xs)) other ∙ zero_plus (how_many (λ y. g == y) (without f xs))
-        ∙ h ∙ ap (λ c. cond c 0 rest) d ∙ sym (ap (λ c. cond c 0 (cond (g == x) 1 0 + rest)) d)
-    by false false e d h =
-        ap (λ c. how_many (λ y. g == y) (cond (not c) (x ∷ without f xs) (without f xs))) e
-        ∙ ap (λ n. cond (g == x) 1 0 + n) (h ∙ ap (λ c. cond c 0 rest) d) ∙ sym (ap (λ c. cond c 0 (cond (g == x) 1 0 + rest)) d)
-
-length-without : (f : ℕ) (fs : List ℕ) → length (without f fs) + how_many (λ g. f == g) fs ≡ length fs
-length-without f [] = refl
-length-without f (x ∷ xs) = by (x == f) refl (length-without f xs)
-  where
-    rest : ℕ
-    rest = how_many (λ g. f == g) xs
-
-    by : (b : Bool) → (x == f) ≡ b → length (without f xs) + rest ≡ length xs
-        → length (cond (not (x == f)) (x ∷ without f xs) (without f xs)) + (cond (f == x) 1 0 + rest) ≡ suc (length xs)
-    by true e h =
-        let same : (f == x) ≡ true = grind (arith, nat_tests, e) in
-        ap (λ c. length (cond (not c) (x ∷ without f xs) (without f xs)) + (cond (f == x) 1 0 + rest)) e
-        ∙ ap (λ c. length (without f xs) + (cond c 1 0 + rest)) same ∙ omega (arith, h)
-    by false e h =
-        let other : (f == x) ≡ false = grind (arith, nat_tests, e) in
-        ap (λ c. length (cond (not c) (x ∷ without f xs) (without f xs)) + (cond (f == x) 1 0 + rest)) e
-        ∙ ap (λ c. suc (length (without f xs)) + (cond c 1 0 + rest)) other ∙ omega (arith, h)
-
 pub absent_without : (f g : ℕ) (fs : List ℕ) → is_in f fs ≡ false → is_in f (without g fs) ≡ false
-absent_without f g fs h = not_in f (without g fs) (many-without f g fs ∙ ap (λ n. cond (f == g) 0 n) (none_in f fs h) ∙ by (f == g))
+absent_without f g fs h = not_in f (without g fs) (count-without g f fs ∙ ap (λ n. cond (f == g) 0 n) (none_in f fs h) ∙ by (f == g))
   where
     by : (b : Bool) → ◌≡◌ {A = ℕ} (cond b 0 0) 0
     by true = refl
@@ -186,10 +139,10 @@ module _ (frees : List ℕ) (n room : ℕ) (pages : List (List ℕ)) (flags : Li
       others : (g : ℕ) (b : Bool) → (g == f) ≡ b → f < length flags
           → how_many (λ x. g == x) (without f frees) ≡ cond (get_or (slice_set flags f true) g true) 0 1
       others g true e below = let same : f ≡ g = grind (arith, nat_tests, e) in
-          many-without g f frees ∙ ap (λ b. cond b 0 (how_many (λ x. g == x) frees)) e
+          count-without f g frees ∙ ap (λ b. cond b 0 (how_many (λ x. g == x) frees)) e
           ∙ sym (ap (λ x. cond (get_or (slice_set flags f true) x true) 0 1) (sym same) ∙ ap (λ b. cond b 0 1) (get_or-set_same flags f true true below))
       others g false e below = let ne : g ≡ f → ⊥ = grind (arith, nat_tests, e) in
-          many-without g f frees ∙ ap (λ b. cond b 0 (how_many (λ x. g == x) frees)) e ∙ w.once g
+          count-without f g frees ∙ ap (λ b. cond b 0 (how_many (λ x. g == x) frees)) e ∙ w.once g
           ∙ sym (ap (λ b. cond b 0 1) (get_or-set_other flags f g true true ne))
 
   pub whole_ordered : (n' room' : ℕ) → n' ≡ length (unflagged flags) → room' ≡ room

@@ -143,7 +143,7 @@ impl Frames {
             ≡ record (shown self.old) { free = without frame self.old.free } }
     {
         self.used[frame as usize] = true;
-        self.free.retain(|other| *other != frame);
+        self.free.retain(|other| frame != *other);
     }
 
     /// How many frames there are, free or not.

@@ -9,8 +9,8 @@ use av_base::Slot;
 use std::alloc::{AllocError, Global};
 use std::marker::Model;
 
-/// The slot of each of a fixed number of frames, where it is cached at one. How many are is kept, so
-/// that no one has to count them. Only `new` takes memory.
+/// The slot of each of a fixed number of frames, where it is cached at one. How many are is kept,
+/// so that no one has to count them. Only `new` takes memory.
 #[derive(Drop)]
 pub struct Slots {
     slots: Vec<Option<Slot>>,

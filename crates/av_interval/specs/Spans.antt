@@ -1,5 +1,6 @@
 -- One tree of spans for each anon_vma, over one store of nodes.
-use Rattle.std.specs.Prelude.{◌≡◌, ℕ, ◌+◌, ◌<◌, ◌≤◌, ◌^◌, max, slice_index_or, length, IsSome, nat_eq}
+use Rattle.std.specs.Prelude.{◌≡◌, ℕ, ◌+◌, ◌<◌, ◌≤◌, ◌^◌, max, slice_index_or, length, IsSome}
+use Rattle.std.specs.Prelude.{nat_eq}
 use Rattle.std.specs.Prelude.{Option, Some, None, List}
 use Rattle.std.specs.Map.{lookup}
 use Rattle.av_arena.specs.Order.{IsRising}

@@ -120,8 +120,8 @@ impl Spans {
         }
     }
 
-    /// Gives the span of an area that is there, and begins at the index `first`, another last index.
-    /// It takes no memory.
+    /// Gives the span of an area that is there, and begins at the index `first`, another last
+    /// index. It takes no memory.
     pub fn resize(&mut self, anon: u64, first: u64, last: u64, area: u64)
         requires there { IsSome (entry_at key (key_of first area) (triples self.old anon)) }
         ensures { (a : ℕ) → triples self.new a ≡ with_at anon

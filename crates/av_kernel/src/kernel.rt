@@ -3,7 +3,8 @@
 //! A command fills a reply that the loop over the lines owns: one that is handed up is copied at
 //! each call that the compiler leaves apart, and its vectors are made anew for each line.
 
-ghost use Rattle.std.specs.Prelude.{◌≡◌, ◌⊎◌, ◌<◌, ◌≤◌, ◌^◌, IfOk, OnOk, OnErr, length, true, false};
+ghost use Rattle.std.specs.Prelude.{◌≡◌, ◌⊎◌, ◌<◌, ◌≤◌, ◌^◌, IfOk, OnOk, OnErr, length, true};
+ghost use Rattle.std.specs.Prelude.{false};
 ghost use Rattle.av_base.specs.Limits.{most_commands};
 ghost use Rattle.av_plain.specs.Device.{Device, IsSameDevice, setting_of, seen_by};
 ghost use Rattle.av_plain.specs.Report.{totals as totals_of};

@@ -1,9 +1,11 @@
 //! Worked examples for lines: what one says (and nothing else, since a line has one meaning), the
-//! texts of commands that have no line yet, what an entry's answer is, and what the row of an area is.
+//! texts of commands that have no line yet, what an entry's answer is, and what the row of an area
+//! is.
 
 ghost use Rattle.std.specs.Prelude.{◌≡◌, [], ◌∷◌, false, true, map, None, Some, codes};
 ghost use Rattle.av_trace.specs.declared.command.Command.TheVariants.{Compact, Fork, Madvise};
-ghost use Rattle.av_trace.specs.declared.command.Command.TheVariants.{Merge, Mlock, Mremap, Munlock};
+ghost use Rattle.av_trace.specs.declared.command.Command.TheVariants.{Merge, Mlock, Mremap};
+ghost use Rattle.av_trace.specs.declared.command.Command.TheVariants.{Munlock};
 ghost use Rattle.av_trace.specs.declared.mode.Mode.TheVariants.{Plain};
 ghost use Rattle.av_trace.specs.declared.row.Row.TheVariants.{Area};
 ghost use Rattle.av_trace.specs.declared.reply.Answer.TheVariants.{EntryFrame, Oom};
@@ -52,9 +54,9 @@ pub fn notes_say()
     ensures kept_merged { note_line (Kept 0 Ksm) ≡ codes "keep 0 ksm" }
 {}
 
-/// An entry's answer has the slot at which its frame is cached, or that it is merged. The numbers of
-/// an out-of-memory stand in one order, those of locked and merged frames only above 0, before the
-/// bytes that a read has shown.
+/// An entry's answer has the slot at which its frame is cached, or that it is merged. The numbers
+/// of an out-of-memory stand in one order, those of locked and merged frames only above 0, before
+/// the bytes that a read has shown.
 pub fn answers_say()
     ensures entry { answer_line
         (EntryFrame 5 false (Some (record { area = 3; page = 70 })) false)
@@ -76,7 +78,8 @@ pub fn answers_say()
 
 /// An area's row has addresses and offset in hexadecimal digits, its anon_vmas in decimal ones.
 pub fn rows_say()
-    ensures in_digits { row_line (Area 0x10000 0x11000 read_write 16 (Some 10) (9 ∷ 10 ∷ []) no_flags)
+    ensures in_digits { row_line
+        (Area 0x10000 0x11000 read_write 16 (Some 10) (9 ∷ 10 ∷ []) no_flags)
         ≡ codes "10000-11000 rw- off=10 own=10 chain=9,10" }
     ensures flagged { row_line (Area 0x7fffffffd000 0x7fffffffe000 read_write 0x7fffffffd None []
         wiped_off)

@@ -50,8 +50,8 @@ pub fn all_areas_count()
 {}
 
 /// The device doesn't hold a page at another slot than its own; and so where its frame is cached
-/// and clean. Where a frame caches the slot, that has to hold it. Without an entry, or with the zero
-/// page, it is zeros.
+/// and clean. Where a frame caches the slot, that has to hold it. Without an entry, or with the
+/// zero page, it is zeros.
 pub fn pages_are_at_their_own_slots()
     ensures page_at_next_slot { HoldWith 2 (paged_out 7 []) → ⊥ }
     ensures clean_at_next_slot { HoldWith 2 (cached_out false false) → ⊥ }

@@ -10,10 +10,10 @@ use Rattle.av_lru.specs.Links.{IsIn, AreApart, Joins, Inserts, walk, IsPath, IsR
 -- ---- lists of frames
 
 pub without_here : (f g : ℕ) (gs : List ℕ) → g ≡ f → without f (g ∷ gs) ≡ without f gs
-without_here f g gs same = cond-false _ _ _ (not_from_true _ (eq-eqb g f same))
+without_here f g gs same = cond-false _ _ _ (not_from_true _ (eq-eqb f g (sym same)))
 
 pub without_past : (f g : ℕ) (gs : List ℕ) → g ≢ f → without f (g ∷ gs) ≡ g ∷ without f gs
-without_past f g gs other = cond-true _ _ _ (not_from_false _ (ne_eqb g f other))
+without_past f g gs other = cond-true _ _ _ (not_from_false _ (ne_eqb f g (λ same. other (sym same))))
 
 pub without_absent : (f : ℕ) (fs : List ℕ) → ¬ IsIn f fs → without f fs ≡ fs
 without_absent f [] absent = refl

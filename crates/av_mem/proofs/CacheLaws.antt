@@ -1,5 +1,5 @@
 -- The view after a frame is put at a slot, and as its write begins and ends.
-use Rattle.std.proofs.Common.{◌≡◌, ℕ, ◌≤◌, true, false, List, [], ◌∷◌, ◌++◌, Option, Some, None, IfSome, sym, ap, subst, ◌∙◌}
+use Rattle.std.proofs.Common.{◌≡◌, ℕ, ◌≤◌, true, false, List, [], ◌∷◌, ◌++◌, Option, Some, None, sym, ap, subst, ◌∙◌}
 use Rattle.std.specs.Prelude.{MatchOption}
 use Rattle.av_base.specs.Words.{how_many, without}
 use Rattle.av_base.specs.declared.slot.Slot.{Slot}
@@ -18,12 +18,10 @@ use Rattle.av_mem.specs.Mem.{view}
 use Rattle.av_mem.specs.declared.mem.Mem.{Mem}
 use Rattle.av_mem.proofs.StepLaws.{SameRest, lists-without, view-by}
 
-pub start-view : (old new : Mem) (s : Slot) → SameRest old new → new.lists ≡ old.lists
+pub start-view : (old new : Mem) (f : ℕ) (s : Slot) → SameRest old new → new.lists ≡ old.lists
     → shown_swap new.swap ≡ record (shown_swap old.swap) { flight = (shown_swap old.swap).flight ++ s ∷ [] }
-    → (o : Option ℕ) → IfSome o (λ f. shown_frames new.frames ≡ with_dirty f false (shown_frames old.frames))
-    → IfSome o (λ f. view new ≡ view_start f s (view old))
-start-view old new s same lists swap None frames = tt
-start-view old new s same lists swap (Some f) frames = view-by old new (with_dirty f false (shown_frames old.frames)) old.lists
+    → shown_frames new.frames ≡ with_dirty f false (shown_frames old.frames) → view new ≡ view_start f s (view old)
+start-view old new f s same lists swap frames = view-by old new (with_dirty f false (shown_frames old.frames)) old.lists
     (record (shown_swap old.swap) { flight = (shown_swap old.swap).flight ++ s ∷ [] }) same frames lists swap
 
 pub put-view : (old new : Mem) (f : ℕ) → SameRest old new → new.lists ≡ old.lists → (o : Option Slot) → MatchOption o

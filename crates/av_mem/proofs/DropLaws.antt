@@ -1,6 +1,5 @@
 -- The view after a slot is taken out of the cache.
-use Rattle.std.proofs.Common.{◌≡◌, ℕ, ◌+◌, Bool, true, false, cond, not, ◌==◌, nat_lt, Option, Some, None, IfSome, is_some, refl, sym, ap, ◌∙◌, arith}
-use Rattle.std.specs.Prelude.{unwrap_or}
+use Rattle.std.proofs.Common.{◌≡◌, ℕ, ◌+◌, Bool, true, false, cond, not, ◌==◌, nat_lt, Option, None, is_some, refl, sym, ap, ◌∙◌, arith}
 use Rattle.std.proofs.lemmas.Bool.Decides.{nat_tests}
 use Rattle.av_base.specs.declared.slot.Slot.{Slot}
 use Rattle.av_base.specs.Words.{with_at}
@@ -91,12 +90,6 @@ kept-after f s v false = refl
 
 -- ---- in the memory system
 
-same-some : (a b : ℕ) → Some a ≡ Some b → a ≡ b
-same-some a b e = ap (λ (o : Option ℕ). unwrap_or o 0) e
-
-pub no-some : {X : Type 0} (b : ℕ) → None ≡ Some b → X
-no-some b e = cc
-
 pub not-zero : (n : ℕ) → (n ≡ 0 → ⊥) → (n == 0) ≡ false
 not-zero n h = by (n == 0) refl
   where
@@ -112,18 +105,15 @@ pub drop-by : (f : ℕ) (s : Slot) (v : View) (gone back : Bool) → after_uncac
 drop-by f s v true back = freed-after f s v back
 drop-by f s v false back = kept-after f s v back
 
-pub dropped-view : (old mid new : Mem) (s : Slot) (f : ℕ) → SameRest old mid → mid.lists ≡ old.lists
+pub dropped-view : (old mid new : Mem) (f : ℕ) (s : Slot) → SameRest old mid → mid.lists ≡ old.lists
     → shown_swap mid.swap ≡ given_back s (with_find s None (shown_swap old.swap))
-    → (o : Option ℕ) → o ≡ Some f → IfSome o (λ f. shown_frames mid.frames ≡ with_frame_slot f None (shown_frames old.frames))
+    → shown_frames mid.frames ≡ with_frame_slot f None (shown_frames old.frames)
     → (gone : Bool) → ((shown_frames mid.frames).maps f == 0) ≡ gone → view new ≡ after_uncached f gone (view mid)
-    → IfSome o (λ f. view new ≡ view_drop f s (view old))
-dropped-view old mid new s f same lists swap None is frames gone test left = no-some f is
-dropped-view old mid new s f same lists swap (Some g) is frames gone test left =
-    let one : f ≡ g = sym (same-some g f is) in
-    left ∙ ap (λ f. after_uncached f gone (view mid)) one
-    ∙ ap (after_uncached g gone) (view-by old mid (with_frame_slot g None (shown_frames old.frames)) old.lists
+    → view new ≡ view_drop f s (view old)
+dropped-view old mid new f s same lists swap frames gone test left = left
+    ∙ ap (after_uncached f gone) (view-by old mid (with_frame_slot f None (shown_frames old.frames)) old.lists
     (given_back s (with_find s None (shown_swap old.swap))) same frames lists swap
-    ∙ uncached-is (shown_frames old.frames) (parts_of old) (shown_swap old.swap) g s)
-    ∙ drop-by g s (view old) gone ((shown_swap old.swap).entries s == 0)
-    ∙ ap (λ b. dropped g s (view old) b ((shown_swap old.swap).entries s == 0))
-    (sym (sym (ap (λ (F : ShownFrames). F.maps g == 0) frames) ∙ ap (λ f. (shown_frames mid.frames).maps f == 0) (sym one) ∙ test))
+    ∙ uncached-is (shown_frames old.frames) (parts_of old) (shown_swap old.swap) f s)
+    ∙ drop-by f s (view old) gone ((shown_swap old.swap).entries s == 0)
+    ∙ ap (λ b. dropped f s (view old) b ((shown_swap old.swap).entries s == 0))
+    (sym (sym (ap (λ (F : ShownFrames). F.maps f == 0) frames) ∙ test))

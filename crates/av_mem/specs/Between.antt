@@ -31,9 +31,9 @@ HasBetween k =
 
 -- so it is whatever stood before, over this device, and over one just like it that doesn't tell its
 -- pages
-abbrev pub Does : Device → Device → Mem → (Device → Device → World → Rmap → Ledger → Type 0)
-    → Type 0
-Does d d' old IsSo = (told : Bool) (w : World) (r : Rmap) (l : Ledger)
+abbrev pub WhateverStood : Device → Device → Mem
+    → (Device → Device → World → Rmap → Ledger → Type 0) → Type 0
+WhateverStood d d' old IsSo = (told : Bool) (w : World) (r : Rmap) (l : Ledger)
     → KeepsBetween (as_told told d) old w r l → IsSo (as_told told d) (as_told told d') w r l
 
 -- these events are done while this swap area, if any, was closing: what stands is what they leave,

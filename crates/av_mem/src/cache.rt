@@ -1,12 +1,12 @@
 //! Steps of the swap cache, with frames, lists and the device.
 
-ghost use Rattle.std.specs.Prelude.{◌≡◌, ◌+◌, ◌-◌, ◌<◌, ◌≤◌, ◌^◌, [], ℕ, None, true, false};
-ghost use Rattle.std.specs.Prelude.{IfSome, IsSome};
+ghost use Rattle.std.specs.Prelude.{◌≡◌, ◌-◌, ◌<◌, ◌≤◌, ◌^◌, [], ℕ, None, true, false};
+ghost use Rattle.std.specs.Prelude.{IsSome};
 ghost use Rattle.std.specs.Option.{ForSome};
 ghost use Rattle.av_base.specs.Words.{is_in};
 ghost use Rattle.av_pagetable.specs.Entries.{entry_at};
 ghost use Rattle.av_swap_laws.specs.Steps.{view_drop, view_map, view_start};
-ghost use Rattle.av_swapcache.specs.Swap.{HasAreas, IsUncached, is_cached, is_flying};
+ghost use Rattle.av_swapcache.specs.Swap.{HasAreas, IsUncached, is_flying};
 ghost use Rattle.av_swapcache.specs.Swap.{shown as shown_swap};
 ghost use Rattle.av_spaces.specs.Kin.{info_of};
 ghost use Rattle.av_mem.specs.Cache.{Ends, Loads, Puts, home_by};
@@ -32,16 +32,16 @@ impl Mem {
         self.swap.put(&mut self.frames, frame)
     }
 
-    /// Puts the write of a cached slot last in flight. Its frame is clean then.
-    pub fn start(&mut self, slot: Slot)
+    /// Puts the write of the slot at which a frame is cached last in flight. The frame is clean
+    /// then.
+    pub fn start(&mut self, frame: u32, slot: Slot)
         requires fits { HasRoom self.old }
-        requires cached { is_cached (shown_swap self.old.swap) slot ≡ true }
+        requires cached { (view self.old).find slot ≡ Some frame }
         requires landed { is_flying (shown_swap self.old.swap) slot ≡ false }
-        ensures started { IfSome ((view self.old).find slot) (λ f.
-            view self.new ≡ view_start f slot (view self.old)) }
+        ensures started { view self.new ≡ view_start frame slot (view self.old) }
         ensures parts { KeepsParts self.old self.new }
     {
-        self.swap.start(&mut self.frames, slot);
+        self.swap.start(&mut self.frames, frame, slot);
     }
 
     /// Ends the first write in flight, if there is one, and tells its slot and frame, and whether
@@ -67,24 +67,19 @@ impl Mem {
         }
     }
 
-    /// Takes a slot out of the cache. Its frame is free where no entry names it, and the slot is
-    /// given back where none names that.
-    pub fn drop_slot(&mut self, slot: Slot)
+    /// Takes the slot at which a frame is cached out of the cache. The frame is free where no entry
+    /// names it, and the slot is given back where none names that.
+    pub fn drop_slot(&mut self, frame: u32, slot: Slot)
         requires fits { HasRoom self.old }
         requires listed { HasLists self.old }
         requires itemed { HasItems self.old }
-        requires cached { is_cached (shown_swap self.old.swap) slot ≡ true }
+        requires cached { (view self.old).find slot ≡ Some frame }
         requires landed { is_flying (shown_swap self.old.swap) slot ≡ false }
-        requires in_use { IfSome ((view self.old).find slot) (λ f.
-            is_in f (view self.old).free ≡ false) }
-        ensures dropped { IfSome ((view self.old).find slot) (λ f.
-            view self.new ≡ view_drop f slot (view self.old)) }
+        requires in_use { is_in frame (view self.old).free ≡ false }
+        ensures dropped { view self.new ≡ view_drop frame slot (view self.old) }
         ensures parts { KeepsParts self.old self.new }
     {
-        let Some(frame) = self.swap.find(slot) else {
-            unreachable!();
-        };
-        self.swap.drop_ref(&mut self.frames, slot);
+        self.swap.drop_ref(&mut self.frames, frame, slot);
         if self.frames.maps(frame) == 0 {
             self.free(frame);
         }

@@ -217,22 +217,22 @@ fn drop_orphan(mem: &mut Mem, slot: Slot, notes: &mut Notes) -> Result<(), Alloc
     ensures tables { (view mem.new).table ≡ (view mem.old).table }
     ensures rest { KeepsRest mem.old mem.new }
 {
-    if is_orphan(mem, slot) {
-        mem.drop_slot(slot);
+    let Some(frame) = mem.swap.find(slot) else {
+        return Ok(());
+    };
+    if is_orphan(mem, frame, slot) {
+        mem.drop_slot(frame, slot);
         notes.push(Note::Dropped(slot))?;
     }
     Ok(())
 }
 
-/// Whether a slot is cached and not in flight, and no entry names it or its frame.
-pub fn is_orphan(mem: &Mem, slot: Slot) -> bool
-    requires { HasRoom mem.now }
+/// Whether the slot at which a frame is cached is not in flight, and no entry names it or the
+/// frame.
+pub fn is_orphan(mem: &Mem, frame: u32, slot: Slot) -> bool
+    requires fits { HasRoom mem.now }
+    requires cached { (view mem.now).find slot ≡ Some frame }
     ensures { result ≡ is_orphan (view mem.now) slot }
 {
-    match mem.swap.find(slot) {
-        Some(frame) => {
-            mem.frames.maps(frame) == 0 && !mem.swap.in_flight(slot) && mem.swap.entries(slot) == 0
-        }
-        None => false,
-    }
+    mem.frames.maps(frame) == 0 && !mem.swap.in_flight(slot) && mem.swap.entries(slot) == 0
 }

@@ -1,6 +1,7 @@
 //! Splitting and unmapping: an area becomes two, and what lies in a range goes.
 
-ghost use Rattle.std.specs.Prelude.{◌≡◌, ℕ, ◌<◌, ◌≤◌, [], true, Some, IfSome, IsSomeAnd, OnOk, IfOk};
+ghost use Rattle.std.specs.Prelude.{◌≡◌, ℕ, ◌<◌, ◌≤◌, [], true, Some, IfSome, IsSomeAnd, OnOk};
+ghost use Rattle.std.specs.Prelude.{IfOk};
 ghost use Rattle.av_vma.specs.Areas.{area_of};
 ghost use Rattle.av_vma.specs.Index.{past_of};
 ghost use Rattle.av_vmatree.specs.Spans.{area_at, last_below, span_of};

@@ -164,7 +164,8 @@ with_first_item f r = record r {
 
 -- a frame has the item of one page more
 abbrev pub with_item_of : ℕ → Key → Rmap → Rmap
-with_item_of f k r = record r { items = with_at f (with_any_item (item_of r k) (r.items f)) r.items }
+with_item_of f k r =
+    record r { items = with_at f (with_any_item (item_of r k) (r.items f)) r.items }
 
 -- home and items go over from one frame to another
 abbrev pub with_home_moved : ℕ → ℕ → Rmap → Rmap

@@ -26,8 +26,8 @@ abbrev pub AreCovered : Ledger → Rmap → Type 0
 AreCovered l r = (k : Key) (f : ℕ) → IsOfFrame l f k → is_merged l f ≡ false
     → IsSomeAnd (r.homes f) (IsReached r k)
 
--- what is true at all times: each anon_vma that is there was made, chains rise, an area's own one is
--- in its chain, and the entries are covered
+-- what is true at all times: each anon_vma that is there was made, chains rise, an area's own one
+-- is in its chain, and the entries are covered
 pub record IsRmapSound (l : Ledger) (r : Rmap) : Type 0 where
   pub made : (v : ℕ) → IsSome (r.anons.anon v) → v < r.anons.next
   pub rising : ChainsRise r.anons

@@ -1,7 +1,8 @@
 -- Fork: a child gets of its parent's memory what the flags of its pages say, the entries of these
 -- pages, and the parent's areas one after the other, each with a chain.
 use Rattle.std.specs.Option.{option_map_or}
-use Rattle.std.specs.Prelude.{◌≡◌, ◌<◌, ◌≤◌, ◌==◌, ◌&&◌, ℕ, suc, Bool, true, false, List, [], ◌∷◌, ◌++◌}
+use Rattle.std.specs.Prelude.{◌≡◌, ◌<◌, ◌≤◌, ◌==◌, ◌&&◌, ℕ, suc, Bool, true, false, List, [], ◌∷◌}
+use Rattle.std.specs.Prelude.{◌++◌}
 use Rattle.std.specs.Prelude.{map, filter, not, Option, Some, None, IfSome, IsSomeAnd}
 use Rattle.av_base.specs.Keys.{Key}
 use Rattle.av_base.specs.Words.{how_many, is_in, with_at}

@@ -112,8 +112,8 @@ abbrev pub with_change_on : Process → ℕ → ℕ → (Page → Page) → Proc
 with_change_on q from n change page =
     if within from n page then option_map change (q page) else q page
 
--- of the n pages of p from `from` on those that are mapped are changed so; no other page is, and the
--- same processes live
+-- of the n pages of p from `from` on those that are mapped are changed so; no other page is, and
+-- the same processes live
 pub record ChangesOnly (w : World) (p from n : ℕ) (change : Page → Page) (now : World)
     : Type 0 where
   pub here : (page : ℕ) → within from n page ≡ true

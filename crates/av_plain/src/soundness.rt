@@ -22,7 +22,8 @@ pub fn soundness_stays()
 {}
 
 /// Soundness is kept by counts. In plain sentences it says this, and so that no more entries name a
-/// frame that isn't merged than processes live, and a merged one than they have pages below the top.
+/// frame that isn't merged than processes live, and a merged one than they have pages below the
+/// top.
 pub fn what_sound_says()
     ensures { (m : Setting) (w : World) (l : Ledger) → AllSound m w l → SaysSound m w l }
 {}

@@ -75,20 +75,20 @@ module _ (names names' : List ℕ) (d d₁ : Device) (old k₁ : Mem) (stays : S
 done : (names names' : List ℕ) (d d' : Device) (old new : Mem) (w : World) (r : Rmap) (l : Ledger) (notes : List Note) → Serves d None old w r l
     → Goes (view_of names d old) (view_of names' d' new) l notes → HasDone d d' old new w r l (note_events notes)
 done names names' d d' old new w r l notes serves goes =
-    let does = goes.does in
-    let stays = does.stays in
+    let happened = goes.happened in
+    let stays = happened.stays in
     let open' : closing_of new ≡ None = stays.closing ∙ serves.swap.closed in
     let w' = with_loads (setting_by d old) w l (note_events notes) in
     let r' = rmap_after_all l (note_events notes) r in
     record {
       between = subst (KeepsBetween d' new w' r') (sym (note_events-all l notes)) (record {
         sound = subst (λ m. IsSound m (after_notes l notes)) (sym stays.setting) goes.sound;
-        serves = subst (λ c. Serves d' c new w' r' (after_notes l notes)) open' (does.claims w r (closing-so d None old w r l serves));
+        serves = subst (λ c. Serves d' c new w' r' (after_notes l notes)) open' (happened.claims w r (closing-so d None old w r l serves));
       });
       free = subst (λ c. ChoosesAll (setting_by d old) c l (note_events notes) (free_of (view old)) (free_of (view new)))
-          serves.swap.closed does.chooses;
+          serves.swap.closed happened.chooses;
       same = one-device names names' d d' old new stays;
-      wrote = subst (λ ns. Wrote (pages_written ns) d.history d'.history) (sym (notes_of-note_events notes)) does.wrote;
+      wrote = subst (λ ns. Wrote (pages_written ns) d.history d'.history) (sym (notes_of-note_events notes)) happened.wrote;
       count = ap (λ (m : Setting). m.frames) stays.setting;
     }
 
@@ -109,11 +109,11 @@ pub added : (names names' : List ℕ) (d d₁ d' : Device) (old k₁ new : Mem) 
 added names names' d d₁ d' old k₁ new before now pinned Q Asked asks gives lent w r l between =
     let serves = between.serves in
     let out = gives l between.sound (w, r, closing-so d None old w r l serves) tt in
-    let is = lent out.3.does.stays.names in
+    let is = lent out.3.happened.stays.names in
     subst (λ k. HasAdded Asked d d' old k w r l before now) (sym is.1) (subst (λ x. HasAdded Asked d x old k₁ w r l before now) (sym is.0) (record {
       added = out.0;
       notes = out.1;
       asked = asks w l out.0 (subst (λ (spared : Spared). Q spared l out.0) (spares-so names d old w r l between.sound.in_order serves pinned) out.2);
       done = done names names' d d₁ old k₁ w r l out.0 serves out.3;
-      failures = out.3.does.failures;
+      failures = out.3.happened.failures;
     }))

@@ -6,21 +6,21 @@ use Rattle.av_trace.specs.declared.note.Note.TheVariants.{Failed, Written}
 use Rattle.av_plain.specs.Choice.{ListsAll}
 use Rattle.av_plain.specs.Areas.{Rmap}
 use Rattle.av_plain.specs.Device.{Device, IsSameDevice, as_told, Calls, Wrote}
-use Rattle.av_plain.specs.Ledger.{Ledger}
+use Rattle.av_plain.specs.Ledger.{Ledger, slot_of}
 use Rattle.av_plain.specs.Stands.{AnonsStand, AreasAre, AreasStand, View, free_of}
-use Rattle.av_plain.specs.Sound.{AreThere, AreasFit}
+use Rattle.av_plain.specs.Sound.{AreThere, AreasFit, IsSoundBut}
 use Rattle.av_plain.specs.World.{World}
 use Rattle.av_swap_laws.specs.Held.{IsHeld}
 use Rattle.av_swap_laws.specs.Steps.{view_done, view_fail}
-use Rattle.av_swap_laws.proofs.Cache.{once-of}
+use Rattle.av_swap_laws.proofs.Cache.{frame-slot, once-of}
 use Rattle.av_swap_laws.proofs.Over.{written-same}
 use Rattle.av_swap_laws.proofs.Whole.{done-steps, fail-steps}
 use Rattle.av_swapcache.specs.declared.swap.Finished.{Finished}
 use Rattle.av_swapcache.specs.declared.swap.Finished.TheVariants.{Done as DoneAt, Failed as FailedAt}
 use Rattle.av_evict.specs.declared.system.WriteEnd.{WriteEnd}
-use Rattle.av_evict.specs.Steps.{notes_of_end, slot_of_end}
+use Rattle.av_evict.specs.Steps.{IsFirst, notes_of_end}
 use Rattle.av_evict.specs.System.{Always, Makes, Stays, Tells, any_slot}
-use Rattle.av_mem.specs.Cache.{Ends}
+use Rattle.av_mem.specs.Cache.{Ends, GoesFirst}
 use Rattle.av_mem.specs.Mem.{Serves, held_by, setting_by, view}
 use Rattle.av_mem.specs.Steps.{KeepsParts}
 use Rattle.av_mem.specs.declared.mem.Mem.{Mem}
@@ -152,15 +152,20 @@ finish-same d d' old new None sizes more ends = record {
 finish-same d d' old new (Some (DoneAt s f)) sizes more ends = written-same d d' s ends.0 ends.1.behind_header ends.2 sizes more ends.5
 finish-same d d' old new (Some (FailedAt s f)) sizes more ends = written-same d d' s ends.2.0 ends.1.behind_header ends.2.1 sizes more ends.5
 
--- it is the first in flight
+-- it is the first in flight, with the frame that caches it
+goes-first : (d : Device) (closing : Option ℕ) (old : Mem) (w : World) (r : Rmap) (l : Ledger) (s : Slot) (f : ℕ) (page : List ℕ)
+    → GoesFirst old s f page → IsSoundBut (setting_by d old) any_slot l → Serves d closing old w r l
+    → (Some s ≡ slice_get l.flight 0) × (slot_of l f ≡ Some s)
+goes-first d closing old w r l s f page first sound h = (
+  ap (λ (s : List Slot). slice_get s 0) (sym first.first ∙ h.held.ledger.swap.flight),
+  frame-slot l (once-of (setting_by d old) any_slot l sound) f s (sym (h.held.ledger.swap.finds s) ∙ first.frame),
+)
+
 pub finish-first : (d d' : Device) (closing : Option ℕ) (old new : Mem) (w : World) (r : Rmap) (l : Ledger) (o : Option Finished)
-    → EndsOn o old new d d'
-    → Serves d closing old w r l → slot_of_end (ends_of o) ≡ slice_get l.flight 0
-finish-first d d' closing old new w r l None ends h = ap (λ (s : List Slot). slice_get s 0) (sym ends.0 ∙ h.held.ledger.swap.flight)
-finish-first d d' closing old new w r l (Some (DoneAt s f)) ends h =
-    ap (λ (s : List Slot). slice_get s 0) (sym ends.1.first ∙ h.held.ledger.swap.flight)
-finish-first d d' closing old new w r l (Some (FailedAt s f)) ends h =
-    ap (λ (s : List Slot). slice_get s 0) (sym ends.1.first ∙ h.held.ledger.swap.flight)
+    → EndsOn o old new d d' → IsSoundBut (setting_by d old) any_slot l → Serves d closing old w r l → IsFirst (ends_of o) l
+finish-first d d' closing old new w r l None ends sound h = sym h.held.ledger.swap.flight ∙ ends.0
+finish-first d d' closing old new w r l (Some (DoneAt s f)) ends sound h = goes-first d closing old w r l s f ends.0 ends.1 sound h
+finish-first d d' closing old new w r l (Some (FailedAt s f)) ends sound h = goes-first d closing old w r l s f ends.0 ends.1 sound h
 
 -- ---- for both readings of the device
 
@@ -190,6 +195,6 @@ finish-stays names d d' old new r sizes more parts ends told = step-stays names 
 
 pub first-told : (names : List ℕ) (d d' : Device) (old new : Mem) (r : Option Finished) (end : Option WriteEnd) → end ≡ ends_of r
     → EndsOn r old new d d'
-    → (told : Bool) → Tells (view_of names (as_told told d) old) (λ l. slot_of_end end ≡ slice_get l.flight 0)
-first-told names d d' old new r end is ends told = λ l sound stood. ap slot_of_end is
-    ∙ finish-first (as_told told d) (as_told told d') (closing_of old) old new stood.0 stood.1 l r (ends-told told r old new d d' ends) stood.2
+    → (told : Bool) → Tells (view_of names (as_told told d) old) (IsFirst end)
+first-told names d d' old new r end is ends told = λ l sound stood. subst (λ e. IsFirst e l) (sym is)
+    (finish-first (as_told told d) (as_told told d') (closing_of old) old new stood.0 stood.1 l r (ends-told told r old new d d' ends) sound stood.2)

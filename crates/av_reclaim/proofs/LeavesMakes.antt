@@ -69,11 +69,11 @@ start-left d k s w r l sorted serves = note-left (setting_by d k) w l (Started s
 
 pub end-left : (d : Device) (k : Mem) (o : Option WriteEnd) → AllLeft d k (notes_of_end o)
 end-left d k None = none-left d k
-end-left d k (Some end) = by end.failed end.slot
+end-left d k (Some end) = by end.failed end.frame end.slot
   where
-    by : (failed : Bool) (s : Slot) → AllLeft d k (notes_of_end (Some (record { slot = s; failed = failed })))
-    by true s w r l sorted serves = note-left (setting_by d k) w l (Failed s) sorted refl (end-locked w l true s)
-    by false s w r l sorted serves = note-left (setting_by d k) w l (Written s) sorted refl (end-locked w l false s)
+    by : (failed : Bool) (f : ℕ) (s : Slot) → AllLeft d k (notes_of_end (Some (record { frame = f; slot = s; failed = failed })))
+    by true f s w r l sorted serves = note-left (setting_by d k) w l (Failed s) sorted refl (end-locked w l true s)
+    by false f s w r l sorted serves = note-left (setting_by d k) w l (Written s) sorted refl (end-locked w l false s)
 
 pub drop-left : (d : Device) (k : Mem) (s : Slot) → AllLeft d k (Dropped s ∷ [])
 drop-left d k s w r l sorted serves = note-left (setting_by d k) w l (Dropped s) sorted refl (drop-locked w l s)
@@ -114,13 +114,13 @@ mem-leaves names d old new Ready notes parts known makes left d' = record {
 }
 
 pub unmap-leaves : {X E : Type 0} (names : List ℕ) (d : Device) (old new : Mem) (f : ℕ) (s : Slot) (result : Result X E)
-    → OnOk result (view new ≡ view_unmap f s (view old)) → OnErr result (view new ≡ view old) → (view old).slot f ≡ Some s → KeepsParts old new
-    → Knows (view_of names d old) (MayUnmap f) → locked_by old f ≡ false
+    → OnOk result (view new ≡ view_unmap f s (view old)) → OnErr result (view new ≡ view old) → KeepsParts old new
+    → Knows (view_of names d old) (MayUnmap f s) → locked_by old f ≡ false
     → (d' : Device) → Leaves (view_of names d' old) (view_of names d' new)
-unmap-leaves names d old new f s (Ok x) is none at parts known unlocked = mem-leaves names d old new (MayUnmap f) (Unmapped f ∷ []) parts known
-    (unmap-makes names d old new f s at is parts) (unmap-left d old f unlocked)
-unmap-leaves names d old new f s (Err e) is none at parts known unlocked = mem-leaves names d old new (MayUnmap f) [] parts known
-    (none-makes names d d old new (MayUnmap f) refl none parts) (none-left d old)
+unmap-leaves names d old new f s (Ok x) is none parts known unlocked = mem-leaves names d old new (MayUnmap f s) (Unmapped f ∷ []) parts known
+    (unmap-makes names d old new f s is parts) (unmap-left d old f unlocked)
+unmap-leaves names d old new f s (Err e) is none parts known unlocked = mem-leaves names d old new (MayUnmap f s) [] parts known
+    (none-makes names d d old new (MayUnmap f s) refl none parts) (none-left d old)
 
 pub finish-leaves : (names : List ℕ) (d d' : Device) (old new : Mem) (r : Option Finished) (end : Option WriteEnd) → end ≡ ends_of r
     → d'.sizes ≡ d.sizes → d.failures ≤ d'.failures → KeepsParts old new → EndsOn r old new d d' → Knows (view_of names (as_told false d) old) Always

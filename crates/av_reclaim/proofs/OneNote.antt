@@ -13,7 +13,7 @@ use Rattle.av_plain.specs.World.{World}
 use Rattle.av_plain.proofs.FreeLists.{IsLawfulEvent}
 use Rattle.av_plain.proofs.Sound.Pages.{Brings}
 use Rattle.av_swap_laws.specs.Held.{Steps}
-use Rattle.av_evict.specs.System.{Does, Stays, any_slot}
+use Rattle.av_evict.specs.System.{HasHappened, Stays, any_slot}
 use Rattle.av_mem.specs.Mem.{Serves, held_by, setting_by}
 use Rattle.av_mem.specs.Steps.{KeepsParts}
 use Rattle.av_mem.specs.declared.mem.Mem.{Mem}
@@ -64,9 +64,9 @@ step-stays names d d' old new parts same = record {
   history = same.history;
 }
 
-pub one-does : (names : List ℕ) (d d' : Device) (old new : Mem) (l : Ledger) (note : Note) → StandsBy d old l → Owes d d' old new l note
-    → StepsBy d d' old new l note → Does (view_of names d old) (view_of names d' new) l (note ∷ [])
-one-does names d d' old new l note stood owes law = record {
+pub one-happened : (names : List ℕ) (d d' : Device) (old new : Mem) (l : Ledger) (note : Note) → StandsBy d old l → Owes d d' old new l note
+    → StepsBy d d' old new l note → HasHappened (view_of names d old) (view_of names d' new) l (note ∷ [])
+one-happened names d d' old new l note stood owes law = record {
   stands = (world_with d old stood.world l note, rmap_after_note l note stood.rmap, next stood.world stood.rmap stood.serves);
   stays = step-stays names d d' old new owes.parts owes.same;
   chooses = (_, (law stood.world stood.rmap stood.serves).chosen, refl);
@@ -84,7 +84,7 @@ one-does names d d' old new l note stood owes law = record {
 -- where the note brings nothing that a page claims
 pub one-still : (names : List ℕ) (d d' : Device) (old new : Mem) (l : Ledger) (note : Note) → StandsBy d old l → Owes d d' old new l note
     → ((w : World) → world_with d old w l note ≡ w) → StepsStill d d' old new l note
-    → Does (view_of names d old) (view_of names d' new) l (note ∷ [])
-one-still names d d' old new l note stood owes still law = one-does names d d' old new l note stood owes
+    → HasHappened (view_of names d old) (view_of names d' new) l (note ∷ [])
+one-still names d d' old new l note stood owes still law = one-happened names d d' old new l note stood owes
     (λ w r c. subst (λ w'. Steps (setting_by d old) (closing_of old) (Noted note) (held_by d old w r l)
     (held_by d' new w' (rmap_after_note l note r) (after_note note l))) (sym (still w)) (law w r c))

@@ -1,7 +1,6 @@
 -- Frames that are kept or age, and slots whose writes begin or that are dropped.
-use Rattle.std.proofs.Common.{◌≡◌, ℕ, ◌+◌, ◌≤◌, ◌<◌, min, ◌^◌, ◌-◌, ◌⊎◌, inl, inr, Bool, true, false, cond, ◌==◌, ◌&&◌, ◌||◌, List, [], ◌∷◌, Option, Some, None, is_some, IfSome, option_map, refl, sym, ap, subst, ◌∙◌, arith}
+use Rattle.std.proofs.Common.{◌≡◌, ℕ, ◌+◌, ◌≤◌, ◌<◌, min, ◌^◌, ◌-◌, ◌⊎◌, inl, inr, Bool, true, false, cond, ◌==◌, ◌&&◌, ◌||◌, List, [], ◌∷◌, Option, Some, None, is_some, option_map, refl, sym, ap, subst, ◌∙◌, arith}
 use Rattle.std.proofs.lemmas.Bool.Decides.{nat_tests}
-use Rattle.std.proofs.lemmas.Bool.{false≢true}
 use Rattle.std.specs.List.{list_any}
 use Rattle.std.specs.Prelude.{is_none}
 use Rattle.av_base.specs.Words.{is_in}
@@ -12,7 +11,7 @@ use Rattle.av_trace.specs.declared.note.Note.{Note}
 use Rattle.av_trace.specs.declared.note.Note.TheVariants.{Aged, Dropped, Kept, Started, Unmapped}
 use Rattle.av_rmap.specs.Items.{is_merged as has_items}
 use Rattle.av_plain.specs.Areas.{Rmap}
-use Rattle.av_plain.specs.Device.{Device, IsSameDevice}
+use Rattle.av_plain.specs.Device.{Device}
 use Rattle.av_plain.specs.Event.{Noted, after_note}
 use Rattle.av_plain.specs.Ledger.{Cached, Ledger, cached_by, frame_at, is_cached, map_count, same_slot, slot_entries, slot_of}
 use Rattle.av_plain.specs.Sound.{IsSoundBut}
@@ -73,17 +72,10 @@ frame-found s l = by l.cache
         one true h = refl
         one false h = h
 
-some-is : {X : Type 0} (o : Option X) → is_some o ≡ true → (x : X) × (o ≡ Some x)
-some-is None h = absurd (false≢true h)
-some-is (Some x) h = (x, refl)
-
-pub frame-of : (s : Slot) (l : Ledger) → is_cached l s ≡ true → (f : ℕ) × (frame_at l s ≡ Some f)
-frame-of s l cached = some-is (frame_at l s) (frame-found s l ∙ cached)
-
--- the swap cache has it
-pub cached-there-too : (d : Device) (closing : Option ℕ) (k : Mem) (w : World) (r : Rmap) (l : Ledger) (s : Slot) → Serves d closing k w r l
-    → is_cached l s ≡ true → is_some ((view k).find s) ≡ true
-cached-there-too d closing k w r l s h cached = ap is_some (h.held.ledger.swap.finds s) ∙ frame-found s l ∙ cached
+-- the swap cache has it at the frame
+pub found-there : (d : Device) (closing : Option ℕ) (k : Mem) (w : World) (r : Rmap) (l : Ledger) (f : ℕ) (s : Slot)
+    → IsSoundBut (setting_by d k) any_slot l → Serves d closing k w r l → slot_of l f ≡ Some s → (view k).find s ≡ Some f
+found-there d closing k w r l f s sound h at = h.held.ledger.swap.finds s ∙ slot-frame l (once-of (setting_by d k) any_slot l sound) f s at
 
 -- ---- kept, or aged
 
@@ -136,9 +128,9 @@ age-makes names d old new f is parts = λ l sound stood may. one-still names d d
 
 -- ---- a write begins
 
-pub start-makes : (names : List ℕ) (d : Device) (old new : Mem) (s : Slot) → IfSome ((view old).find s) (λ f. view new ≡ view_start f s (view old))
-    → KeepsParts old new → Makes (view_of names d old) (view_of names d new) (MayStart s) (Started s ∷ [])
-start-makes names d old new s is parts = λ l sound stood may. let at = frame-of s l may.cached in
+pub start-makes : (names : List ℕ) (d : Device) (old new : Mem) (f : ℕ) (s : Slot) → view new ≡ view_start f s (view old)
+    → KeepsParts old new → Makes (view_of names d old) (view_of names d new) (MayStart f s) (Started s ∷ [])
+start-makes names d old new f s is parts = λ l sound stood may. let once = once-of (setting_by d old) any_slot l sound in
     one-still names d d old new l (Started s) (record { sound = sound; world = stood.0; rmap = stood.1; serves = stood.2 }) (record {
       parts = parts;
       same = device-itself d;
@@ -147,23 +139,23 @@ start-makes names d old new s is parts = λ l sound stood may. let at = frame-of
       still = tt;
       failures = stands-still d.failures;
       wrote = wrote-none d.history;
-    }) (λ w. same-world (is_some (setting_by d old).headers) w) (λ w r h. by-view d d old new l (Started s) (view_start at.0 s (view old)) w r
-    (subst (λ o. IfSome o (λ f. view new ≡ view_start f s (view old))) (h.held.ledger.swap.finds s ∙ at.1) is)
-    (start-steps (setting_by d old) (closing_of old) (held_by d old w r l) h.held at.0 s (once-of (setting_by d old) any_slot l sound) at.1))
+    }) (λ w. same-world (is_some (setting_by d old).headers) w) (λ w r h. by-view d d old new l (Started s) (view_start f s (view old)) w r is
+    (start-steps (setting_by d old) (closing_of old) (held_by d old w r l) h.held f s once (slot-frame l once f s may.cached)))
 
 -- ---- a slot is dropped
 
 -- what the loops know of a drop is what its law asks
-may-leave : (l : Ledger) (s : Slot) → MayDrop s l → MayLeave l s
-may-leave l s may = by (slot_entries l s == 0) refl
+may-leave : (l : Ledger) (f : ℕ) (s : Slot) → MayDrop f s l → MayLeave l s
+may-leave l f s may = by (slot_entries l s == 0) refl
   where
     by : (b : Bool) → (slot_entries l s == 0) ≡ b → MayLeave l s
     by true e = let none : slot_entries l s ≡ 0 = grind (arith, nat_tests, e) in inl none
     by false e = inr ((may.kept e).1, may.landed)
 
-pub drop-makes : (names : List ℕ) (d : Device) (old new : Mem) (s : Slot) → IfSome ((view old).find s) (λ f. view new ≡ view_drop f s (view old))
-    → KeepsParts old new → Makes (view_of names d old) (view_of names d new) (MayDrop s) (Dropped s ∷ [])
-drop-makes names d old new s is parts = λ l sound stood may. let at = frame-of s l may.cached in
+pub drop-makes : (names : List ℕ) (d : Device) (old new : Mem) (f : ℕ) (s : Slot) → view new ≡ view_drop f s (view old)
+    → KeepsParts old new → Makes (view_of names d old) (view_of names d new) (MayDrop f s) (Dropped s ∷ [])
+drop-makes names d old new f s is parts = λ l sound stood may. let once = once-of (setting_by d old) any_slot l sound in
+    let at = slot-frame l once f s may.cached in
     one-still names d d old new l (Dropped s) (record { sound = sound; world = stood.0; rmap = stood.1; serves = stood.2 }) (record {
       parts = parts;
       same = device-itself d;
@@ -172,31 +164,27 @@ drop-makes names d old new s is parts = λ l sound stood may. let at = frame-of 
       still = tt;
       failures = stands-still d.failures;
       wrote = wrote-none d.history;
-    }) (λ w. same-world (is_some (setting_by d old).headers) w) (λ w r h. by-view d d old new l (Dropped s) (view_drop at.0 s (view old)) w r
-    (subst (λ o. IfSome o (λ f. view new ≡ view_drop f s (view old))) (h.held.ledger.swap.finds s ∙ at.1) is)
-    (drop-steps (setting_by d old) (closing_of old) (held_by d old w r l) h.held at.0 s (once-of (setting_by d old) any_slot l sound) at.1
-    (cached-in_range (setting_by d old) any_slot l sound at.0 s at.1) (cached-there (setting_by d old) any_slot l sound at.0 s h.there at.1)
-    (may-leave l s may)))
+    }) (λ w. same-world (is_some (setting_by d old).headers) w) (λ w r h. by-view d d old new l (Dropped s) (view_drop f s (view old)) w r is
+    (drop-steps (setting_by d old) (closing_of old) (held_by d old w r l) h.held f s once at
+    (cached-in_range (setting_by d old) any_slot l sound f s at) (cached-there (setting_by d old) any_slot l sound f s h.there at)
+    (may-leave l f s may)))
 
 -- its frame is not free
-pub in-use : (d : Device) (closing : Option ℕ) (k : Mem) (w : World) (r : Rmap) (l : Ledger) (s : Slot) → IsSoundBut (setting_by d k) any_slot l
-    → Serves d closing k w r l → IfSome ((view k).find s) (λ f. is_in f (view k).free ≡ false)
-in-use d closing k w r l s sound h = by ((view k).find s) (sym (h.held.ledger.swap.finds s))
+pub in-use : (d : Device) (closing : Option ℕ) (k : Mem) (w : World) (r : Rmap) (l : Ledger) (f : ℕ) (s : Slot)
+    → IsSoundBut (setting_by d k) any_slot l → Serves d closing k w r l → slot_of l f ≡ Some s → is_in f (view k).free ≡ false
+in-use d closing k w r l f s sound h at =
+    h.held.ledger.frames.free f (cached-in_range (setting_by d k) any_slot l sound f s (slot-frame l (once-of (setting_by d k) any_slot l sound) f s at))
+    ∙ ap (λ o. (map_count l f == 0) && is_none o) at ∙ none (map_count l f == 0)
   where
-    by : (o : Option ℕ) → frame_at l s ≡ o → IfSome o (λ f. is_in f (view k).free ≡ false)
-    by None at = tt
-    by (Some f) at = h.held.ledger.frames.free f (cached-in_range (setting_by d k) any_slot l sound f s at)
-        ∙ ap (λ o. (map_count l f == 0) && is_none o) (frame-slot l (once-of (setting_by d k) any_slot l sound) f s at) ∙ none (map_count l f == 0)
-      where
-        none : (b : Bool) → (b && false) ≡ false
-        none true = refl
-        none false = refl
+    none : (b : Bool) → (b && false) ≡ false
+    none true = refl
+    none false = refl
 
 -- ---- a frame is unmapped
 
-pub unmap-makes : (names : List ℕ) (d : Device) (old new : Mem) (f : ℕ) (s : Slot) → (view old).slot f ≡ Some s → view new ≡ view_unmap f s (view old)
-    → KeepsParts old new → Makes (view_of names d old) (view_of names d new) (MayUnmap f) (Unmapped f ∷ [])
-unmap-makes names d old new f s at is parts = λ l sound stood may.
+pub unmap-makes : (names : List ℕ) (d : Device) (old new : Mem) (f : ℕ) (s : Slot) → view new ≡ view_unmap f s (view old)
+    → KeepsParts old new → Makes (view_of names d old) (view_of names d new) (MayUnmap f s) (Unmapped f ∷ [])
+unmap-makes names d old new f s is parts = λ l sound stood may.
     one-still names d d old new l (Unmapped f) (record { sound = sound; world = stood.0; rmap = stood.1; serves = stood.2 }) (record {
       parts = parts;
       same = device-itself d;
@@ -206,32 +194,20 @@ unmap-makes names d old new f s at is parts = λ l sound stood may.
       failures = stands-still d.failures;
       wrote = wrote-none d.history;
     }) (λ w. same-world (is_some (setting_by d old).headers) w) (λ w r h. by-view d d old new l (Unmapped f) (view_unmap f s (view old)) w r is
-    (unmap-steps (setting_by d old) (closing_of old) (held_by d old w r l) h.held f s (once-of (setting_by d old) any_slot l sound)
-    (sym (h.held.ledger.frames.slots f) ∙ at)))
+    (unmap-steps (setting_by d old) (closing_of old) (held_by d old w r l) h.held f s (once-of (setting_by d old) any_slot l sound) may.cached))
 
 -- it isn't merged, so it has no items
-pub no-items : (d : Device) (closing : Option ℕ) (k : Mem) (w : World) (r : Rmap) (l : Ledger) (f : ℕ) → IsSoundBut (setting_by d k) any_slot l
-    → Serves d closing k w r l → MayUnmap f l → has_items ((view k).items f) ≡ false
-no-items d closing k w r l f sound h may = by (slot_of l f) refl may.cached
-  where
-    by : (o : Option Slot) → slot_of l f ≡ o → is_some o ≡ true → has_items ((view k).items f) ≡ false
-    by None is some = absurd (false≢true some)
-    by (Some s) is some = let once = once-of (setting_by d k) any_slot l sound in
-        ap has_items (h.held.items f ∙ ap (λ b. cond b (r.items f) []) (cached-own l once f s (slot-frame l once f s is)))
-
--- the frame that the swap cache has at a slot
-pub slot-cached : (d : Device) (closing : Option ℕ) (k : Mem) (w : World) (r : Rmap) (l : Ledger) (f : ℕ) (s : Slot)
-    → IsSoundBut (setting_by d k) any_slot l
-    → Serves d closing k w r l → (view k).slot f ≡ Some s → is_some ((view k).find s) ≡ true
-slot-cached d closing k w r l f s sound h at = ap is_some (h.held.ledger.swap.finds s
-    ∙ slot-frame l (once-of (setting_by d k) any_slot l sound) f s (sym (h.held.ledger.frames.slots f) ∙ at))
+pub no-items : (d : Device) (closing : Option ℕ) (k : Mem) (w : World) (r : Rmap) (l : Ledger) (f : ℕ) (s : Slot)
+    → IsSoundBut (setting_by d k) any_slot l → Serves d closing k w r l → slot_of l f ≡ Some s → has_items ((view k).items f) ≡ false
+no-items d closing k w r l f s sound h at = let once = once-of (setting_by d k) any_slot l sound in
+    ap has_items (h.held.items f ∙ ap (λ b. cond b (r.items f) []) (cached-own l once f s (slot-frame l once f s at)))
 
 -- counts have room for all entries of the frame
 pub names-few : (d : Device) (closing : Option ℕ) (k : Mem) (w : World) (r : Rmap) (l : Ledger) (f : ℕ) (s : Slot)
     → IsSoundBut (setting_by d k) any_slot l
-    → Serves d closing k w r l → (view k).slot f ≡ Some s → (view k).entries s + (view k).maps f < 2 ^ 32
+    → Serves d closing k w r l → slot_of l f ≡ Some s → (view k).entries s + (view k).maps f < 2 ^ 32
 names-few d closing k w r l f s sound h at =
-    let few = together-few (setting_by d k) any_slot w l f s sound h.at_pages (sym (h.held.ledger.frames.slots f) ∙ at) in
+    let few = together-few (setting_by d k) any_slot w l f s sound h.at_pages at in
     let most = h.tidy.few in
     let entries = h.held.ledger.swap.counts s in
     let maps = h.held.ledger.frames.maps f in

@@ -1,6 +1,6 @@
 -- What the commands of reclaim, and the search for a free frame, do to the memory system and its
 -- device.
-use Rattle.std.specs.Prelude.{◌≡◌, ◌++◌, List}
+use Rattle.std.specs.Prelude.{◌≡◌, ℕ, ◌+◌, ◌≤◌, ◌++◌, List}
 use Rattle.av_io.specs.Count.{RoseBy}
 use Rattle.av_trace.specs.declared.note.Note.{Note}
 use Rattle.av_plain.specs.Areas.{Rmap}
@@ -12,6 +12,13 @@ use Rattle.av_plain.specs.World.{World}
 use Rattle.av_mem.specs.Between.{HasDone}
 use Rattle.av_mem.specs.Mem.{setting_by}
 use Rattle.av_mem.specs.declared.mem.Mem.{Mem}
+
+-- these notes were added, and the device failed as often as they tell and so many times more, at
+-- the least: among them are the writes of so many frames
+pub record HasNoted (d d' : Device) (before now added : List Note) (lost failed : ℕ) : Type 0 where
+  pub notes : now ≡ before ++ added
+  pub failures : RoseBy (fails added + lost) d.failures d'.failures
+  pub failed : failed ≤ fails added
 
 -- notes were added of which this holds, and what they tell is done; the device failed as often as
 -- they tell

@@ -35,5 +35,5 @@ view_of names d k = record {
 
 -- how the write of a slot ended
 abbrev pub end_of : Finished → WriteEnd
-end_of (Done s f) = record { slot = s; failed = false }
-end_of (Failed s f) = record { slot = s; failed = true }
+end_of (Done s f) = record { frame = f; slot = s; failed = false }
+end_of (Failed s f) = record { frame = f; slot = s; failed = true }

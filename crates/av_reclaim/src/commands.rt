@@ -8,7 +8,7 @@ ghost use Rattle.av_plain.specs.Fault.{sparing};
 ghost use Rattle.av_plain.specs.Pass.{Seeks};
 ghost use Rattle.av_plain.specs.Reclaim.{Ages, CompletesFirst, Reclaims};
 ghost use Rattle.av_evict.specs.Pass.{IsEnd, IsNext};
-ghost use Rattle.av_mem.specs.Between.{Does, IsBetween};
+ghost use Rattle.av_mem.specs.Between.{WhateverStood, IsBetween};
 ghost use Rattle.av_mem.specs.Mem.{frame_count, view};
 ghost use Rattle.av_reclaim.specs.Commands.{HasAdded};
 
@@ -29,7 +29,7 @@ pub fn reclaim<D: SwapDev>(
     notes: &mut Notes,
 ) -> Result<(), AllocError>
     requires { IsBetween (D.sizes dev.old) mem.old }
-    ensures reclaims { OnOk result (Does
+    ensures reclaims { OnOk result (WhateverStood
         (seen_by D.sizes D.pages D.failures D.history dev.old)
         (seen_by D.sizes D.pages D.failures D.history dev.new) mem.old (λ d d' w r l.
         HasAdded (λ m w l added. Reclaims m w l count (note_events added) Done [])
@@ -52,7 +52,7 @@ pub fn age<D: SwapDev>(
     notes: &mut Notes,
 ) -> Result<(), AllocError>
     requires { IsBetween (D.sizes dev.old) mem.old }
-    ensures ages { OnOk result (Does
+    ensures ages { OnOk result (WhateverStood
         (seen_by D.sizes D.pages D.failures D.history dev.old)
         (seen_by D.sizes D.pages D.failures D.history dev.new) mem.old (λ d d' w r l.
         HasAdded (λ m w l added. Ages l count (note_events added) Done [])
@@ -75,7 +75,7 @@ pub fn complete<D: SwapDev>(
     notes: &mut Notes,
 ) -> Result<(), AllocError>
     requires { IsBetween (D.sizes dev.old) mem.old }
-    ensures completes { OnOk result (Does
+    ensures completes { OnOk result (WhateverStood
         (seen_by D.sizes D.pages D.failures D.history dev.old)
         (seen_by D.sizes D.pages D.failures D.history dev.new) mem.old (λ d d' w r l.
         HasAdded (λ m w l added. CompletesFirst l count (note_events added) Done [])
@@ -98,7 +98,7 @@ pub fn seek<D: SwapDev>(
     notes: &mut Notes,
 ) -> Result<SeekEnd, AllocError>
     requires { IsBetween (D.sizes dev.old) mem.old }
-    ensures seeks { IfOk result (λ end. Does
+    ensures seeks { IfOk result (λ end. WhateverStood
         (seen_by D.sizes D.pages D.failures D.history dev.old)
         (seen_by D.sizes D.pages D.failures D.history dev.new) mem.old (λ d d' w r l.
         HasAdded (λ m w l added. Seeks m (sparing w l pinned) l added

@@ -78,8 +78,8 @@ impl<'a, D: SwapDev> System for Driver<'a, D> {
         self.mem.swap.in_flight(slot)
     }
 
-    fn is_orphan(&self, slot: Slot) -> bool {
-        is_orphan(&*self.mem, slot)
+    fn is_orphan(&self, frame: u32, slot: Slot) -> bool {
+        is_orphan(&*self.mem, frame, slot)
     }
 
     fn inactive_len(&self) -> u32 {
@@ -117,15 +117,12 @@ impl<'a, D: SwapDev> System for Driver<'a, D> {
         self.mem.put(frame)
     }
 
-    fn unmap(&mut self, frame: u32) -> Result<(), AllocError> {
-        let Some(slot) = self.mem.frames.slot(frame) else {
-            unreachable!();
-        };
+    fn unmap(&mut self, frame: u32, slot: Slot) -> Result<(), AllocError> {
         self.mem.unmap(frame, slot)
     }
 
-    fn start(&mut self, slot: Slot) {
-        self.mem.start(slot);
+    fn start(&mut self, frame: u32, slot: Slot) {
+        self.mem.start(frame, slot);
     }
 
     fn finish(&mut self) -> Option<WriteEnd> {
@@ -133,8 +130,8 @@ impl<'a, D: SwapDev> System for Driver<'a, D> {
         Some(end_of(finished))
     }
 
-    fn drop_slot(&mut self, slot: Slot) {
-        self.mem.drop_slot(slot);
+    fn drop_slot(&mut self, frame: u32, slot: Slot) {
+        self.mem.drop_slot(frame, slot);
     }
 
     fn keep_referenced(&mut self, frame: u32) -> bool {
@@ -164,10 +161,15 @@ fn end_of(finished: Finished) -> WriteEnd
     ensures { result ≡ end_of finished }
 {
     match finished {
-        Finished::Done { slot, .. } => WriteEnd {
+        Finished::Done { slot, frame } => WriteEnd {
+            frame,
             slot,
             failed: false,
         },
-        Finished::Failed { slot, .. } => WriteEnd { slot, failed: true },
+        Finished::Failed { slot, frame } => WriteEnd {
+            frame,
+            slot,
+            failed: true,
+        },
     }
 }

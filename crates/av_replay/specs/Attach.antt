@@ -1,5 +1,6 @@
 -- Attaching the swap areas that the words name, before anything is read.
-use Rattle.std.specs.Prelude.{◌≡◌, ℕ, ◌+◌, ◌<◌, ◌≤◌, List, [], ◌∷◌, ◌++◌, Option, None, Some, is_some}
+use Rattle.std.specs.Prelude.{◌≡◌, ℕ, ◌+◌, ◌<◌, ◌≤◌, List, [], ◌∷◌, ◌++◌, Option, None, Some}
+use Rattle.std.specs.Prelude.{is_some}
 use Rattle.std.specs.Prelude.{length, map, option_to_list, true, false}
 use Rattle.std.specs.List.{AllByRecursion}
 use Rattle.av_swapdev.specs.Device.{Attach, History, most_pages}

@@ -1,6 +1,7 @@
 -- Lists that hold each item equally often have equally many that pass any test.
 use Rattle.std.proofs.Common.{◌≡◌, ℕ, ◌+◌, ◌<◌, Bool, true, false, cond, List, [], ◌∷◌, length, refl, sym, ap, ◌∙◌, arith, ◌==◌, eqb-true, eq-eqb}
 use Rattle.std.proofs.lemmas.Bool.Decides.{nat_tests}
+use Rattle.av_base.proofs.Keys.{same_key-is, same_key-itself}
 use Rattle.av_base.specs.Keys.{Key, same_key}
 use Rattle.av_base.specs.Words.{how_many}
 
@@ -41,20 +42,8 @@ all-pass : {X : Type 0} (xs : List X) → how_many (λ _. true) xs ≡ length xs
 all-pass [] = refl
 all-pass (x ∷ xs) = let rest = all-pass xs in omega (arith, rest)
 
-key-itself : (k : Key) → same_key k k ≡ true
-key-itself k = grind (arith, nat_tests)
-
-key-same : (k j : Key) → same_key k j ≡ true → k ≡ j
-key-same k j h = λ i. (first i, second i)
-  where
-    first : k.0 ≡ j.0
-    first = grind (arith, nat_tests, h)
-
-    second : k.1 ≡ j.1
-    second = grind (arith, nat_tests, h)
-
 pub keys-as-long : (ks js : List Key) → ((i : Key) → how_many (same_key i) ks ≡ how_many (same_key i) js) → length ks ≡ length js
-keys-as-long ks js h = sym (all-pass ks) ∙ as-many same_key key-itself key-same (λ _. true) ks js h ∙ all-pass js
+keys-as-long ks js h = sym (all-pass ks) ∙ as-many same_key same_key-itself same_key-is (λ _. true) ks js h ∙ all-pass js
 
 pub numbers-as-many : (test : ℕ → Bool) (xs ys : List ℕ) → ((n : ℕ) → how_many (λ m. n == m) xs ≡ how_many (λ m. n == m) ys) →
     how_many test xs ≡ how_many test ys

@@ -2,6 +2,7 @@
 use Rattle.std.proofs.Common.{◌≡◌, ℕ, zero, suc, ◌+◌, ◌<◌, Bool, true, false, cond, ◌&&◌, List, [], ◌∷◌, ◌++◌, Option, Some, None, length, refl, sym, ap, subst, ◌∙◌, arith, inl, inr, ◌==◌, eq-eqb, ne_eqb}
 use Rattle.std.proofs.lemmas.Bool.{cases_eq}
 use Rattle.std.proofs.lemmas.Bool.Decides.{nat_tests}
+use Rattle.av_base.proofs.Keys.{same_key-is}
 use Rattle.av_base.specs.Keys.{Key, same_key}
 use Rattle.av_base.specs.Words.{how_many}
 use Rattle.av_chain.specs.Links.{one_if}
@@ -27,7 +28,7 @@ none : 0 < 0 → ⊥
 none h = absurd (omega arith)
 
 key_is : (k j : Key) → same_key k j ≡ true → (k.0 ≡ j.0) × (k.1 ≡ j.1)
-key_is k j h = (grind (arith, nat_tests, h), grind (arith, nat_tests, h))
+key_is k j h = let is = same_key-is k j h in (ap (λ x. x.0) is, ap (λ x. x.1) is)
 
 is_key : (k j : Key) → k.0 ≡ j.0 → k.1 ≡ j.1 → same_key k j ≡ true
 is_key k j h h' = grind (arith, nat_tests, h, h')

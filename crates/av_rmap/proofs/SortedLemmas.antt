@@ -6,9 +6,10 @@ use Rattle.std.proofs.lemmas.List.Sums.{sum_by-cons}
 use Rattle.std.proofs.lemmas.List.Sorted.{sum_by-IsPermutation}
 use Rattle.std.specs.List.{list_any, sum_by, AllByRecursion}
 use Rattle.std.specs.List.Sorted.{IsPermutation, IsSortedBy}
-use Rattle.std.specs.Ordering.{is_lt, nat_cmp, ordering_then}
+use Rattle.std.specs.Ordering.{is_lt}
 use Rattle.av_arena.proofs.Order.{AllByRecursion-map}
-use Rattle.av_base.specs.Keys.{Key, same_key}
+use Rattle.av_base.proofs.Keys.{same_key-is, same_key-itself}
+use Rattle.av_base.specs.Keys.{Key, key_cmp, same_key}
 use Rattle.av_base.specs.Words.{how_many}
 use Rattle.av_rmap.specs.Sorted.{IsBefore, AreRising}
 use Rattle.av_chain.specs.Links.{one_if}
@@ -26,7 +27,7 @@ pub many-in-any-order : {X : Type 0} (test : X → Bool) (xs ys : List X) → Is
 many-in-any-order test xs ys p = as-sum test ys ∙ sum_by-IsPermutation (λ x. cond (test x) 1 0) xs ys p ∙ sym (as-sum test xs)
 
 abbrev pub is_below : Key → Key → Bool
-is_below k j = is_lt (ordering_then (nat_cmp k.0 j.0) (nat_cmp k.1 j.1))
+is_below k j = is_lt (key_cmp k j)
 
 before-by : (k j : Key) → is_below j k ≡ false → same_key k j ≡ false → IsBefore k j
 before-by k j h ne = elim (cases_order k.0 j.0) [
@@ -64,12 +65,9 @@ sorted-rise [] sorted once = tt
 sorted-rise (k ∷ []) sorted once = (tt, tt)
 sorted-rise (k ∷ j ∷ ks) sorted once =
     let rest = sorted-rise (j ∷ ks) (tail k j ks sorted) (λ i. later i (once i)) in
-    let first = before-by k j (sorted 0 k (omega arith) (omega arith)) (apart (same_key k j) (same k) (once k)) in
+    let first = before-by k j (sorted 0 k (omega arith) (omega arith)) (apart (same_key k j) (same_key-itself k) (once k)) in
     ((first, AllByRecursion-map (IsBefore j) (IsBefore k) (λ i h. before-on k j i first h) ks rest.0), rest)
   where
-    same : (i : Key) → same_key i i ≡ true
-    same i = grind (arith, nat_tests)
-
     later : (i : Key) → how_many (same_key i) (k ∷ j ∷ ks) ≤ 1 → how_many (same_key i) (j ∷ ks) ≤ 1
     later i h = omega (arith, h)
 
@@ -107,18 +105,6 @@ before-other : (k j : Key) → IsBefore k j → same_key k j ≡ false
 before-other k j (inl h) = grind (arith, nat_tests, h)
 before-other k j (inr h) = let b = h.1 in grind (arith, nat_tests, b)
 
-same-keys : (k j : Key) → same_key k j ≡ true → k ≡ j
-same-keys k j h = λ i. (first i, second i)
-  where
-    first : k.0 ≡ j.0
-    first = grind (arith, nat_tests, h)
-
-    second : k.1 ≡ j.1
-    second = grind (arith, nat_tests, h)
-
-same-itself : (k : Key) → same_key k k ≡ true
-same-itself k = grind (arith, nat_tests)
-
 -- of two keys one is before the other
 one-before : (k j : Key) → same_key k j ≡ false → IsBefore k j ⊎ IsBefore j k
 one-before k j ne = by (is_below j k) refl
@@ -142,7 +128,7 @@ once-there k (j ∷ js) rising = by (once-there k js rising.1) (same_key k j) re
     by : how_many (same_key k) js ≡ one_if (list_any (same_key k) js) → (b : Bool) → same_key k j ≡ b →
         how_many (same_key k) (j ∷ js) ≡ one_if (list_any (same_key k) (j ∷ js))
     by rest true e =
-        let none : how_many (same_key k) js ≡ 0 = ap (λ i. how_many (same_key i) js) (same-keys k j e) ∙ none-after j js rising.0 in
+        let none : how_many (same_key k) js ≡ 0 = ap (λ i. how_many (same_key i) js) (same_key-is k j e) ∙ none-after j js rising.0 in
         ap (λ b. cond b 1 0 + how_many (same_key k) js) e ∙ omega (arith, none) ∙ sym (ap (λ b. one_if (b || list_any (same_key k) js)) e)
     by rest false e =
         ap (λ b. cond b 1 0 + how_many (same_key k) js) e ∙ omega (arith, rest) ∙ sym (ap (λ b. one_if (b || list_any (same_key k) js)) e)
@@ -153,11 +139,11 @@ rising-same [] [] rising also same = refl
 rising-same [] (j ∷ js) rising also same = absurd (there j js (sym (same j)))
   where
     there : (j : Key) (js : List Key) → how_many (same_key j) (j ∷ js) ≡ 0 → ⊥
-    there j js h = let one = ap (λ b. cond {A = ℕ} b 1 0) (same-itself j) in absurd (omega (arith, h, one))
+    there j js h = let one = ap (λ b. cond {A = ℕ} b 1 0) (same_key-itself j) in absurd (omega (arith, h, one))
 rising-same (k ∷ ks) [] rising also same = absurd (there k ks (same k))
   where
     there : (j : Key) (js : List Key) → how_many (same_key j) (j ∷ js) ≡ 0 → ⊥
-    there j js h = let one = ap (λ b. cond {A = ℕ} b 1 0) (same-itself j) in absurd (omega (arith, h, one))
+    there j js h = let one = ap (λ b. cond {A = ℕ} b 1 0) (same_key-itself j) in absurd (omega (arith, h, one))
 rising-same (k ∷ ks) (j ∷ js) rising also same =
     let first = firsts (same_key k j) refl in
     let rest = rising-same ks js rising.1 also.1 (later first) in
@@ -168,11 +154,11 @@ rising-same (k ∷ ks) (j ∷ js) rising also same =
         → how_many (same_key i) (i ∷ is) ≡ how_many (same_key i) (h ∷ hs) → ⊥
     before-none i h is hs rises before e =
         let none = none-after i (h ∷ hs) (before, AllByRecursion-map (IsBefore h) (IsBefore i) (λ g b. before-on i h g before b) hs rises.0) in
-        let one = ap (λ b. cond {A = ℕ} b 1 0) (same-itself i) in
+        let one = ap (λ b. cond {A = ℕ} b 1 0) (same_key-itself i) in
         absurd (omega (arith, none, one, e))
 
     firsts : (b : Bool) → same_key k j ≡ b → k ≡ j
-    firsts true e = same-keys k j e
+    firsts true e = same_key-is k j e
     firsts false e = elim (one-before k j e) [
       | inl before ↦ absurd (before-none k j ks js also before (same k))
       | inr after ↦ absurd (before-none j k js ks rising after (sym (same j)))

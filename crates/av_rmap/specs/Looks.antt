@@ -1,5 +1,6 @@
 -- The areas that are left to look in.
-use Rattle.std.specs.Prelude.{ℕ, nat_lt, length, drop, slice_get, ◌-◌, ◌++◌, if◌then◌else◌, List, []}
+use Rattle.std.specs.Prelude.{ℕ, nat_lt, length, drop, slice_get, ◌-◌, ◌++◌, if◌then◌else◌, List}
+use Rattle.std.specs.Prelude.{[]}
 use Rattle.av_interval.specs.Batch.{overlaps_past}
 use Rattle.av_interval.specs.declared.batch.TheConstants.{BATCH}
 use Rattle.av_interval.specs.declared.span.Span.{Span}

@@ -19,10 +19,10 @@
 //! and none where no entry names the frame.
 //!
 //! A merged frame has no home. `Items` keeps from which places its entries are found, each a root
-//! and a linear index, and how many frames are merged. `walk_merged` goes from one item to the next.
-//! Proved: where each entry is reached from an item, no item stands twice, and no chain holds the
-//! anon_vmas of two items, it finds each entry once, and takes as many steps as walks from all of
-//! its items do together. The last is so where each item is of a root, by chain order.
+//! and a linear index, and how many frames are merged. `walk_merged` goes from one item to the
+//! next. Proved: where each entry is reached from an item, no item stands twice, and no chain holds
+//! the anon_vmas of two items, it finds each entry once, and takes as many steps as walks from all
+//! of its items do together. The last is so where each item is of a root, by chain order.
 //! `clear_seen_items` takes as many, and does what `clear_seen` does wherever each entry is reached
 //! from an item.
 //!

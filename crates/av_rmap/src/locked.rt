@@ -17,9 +17,9 @@ use av_base::Steps;
 use std::sync::ledger::Ledger;
 
 /// Whether a page whose entry names the frame is locked. `homes` are the frame's items where it is
-/// merged, else its home alone. An entry is looked at only in areas that are locked, and none behind
-/// the first that answers it: at most one step for each look of a walk in such an area. It takes no
-/// memory.
+/// merged, else its home alone. An entry is looked at only in areas that are locked, and none
+/// behind the first that answers it: at most one step for each look of a walk in such an area. It
+/// takes no memory.
 pub fn any_locked<K: Look<L>, L: Ledger>(
     look: &K,
     frame: u32,

@@ -59,8 +59,8 @@ pub fn clear_seen<K: LookMut<L>, L: Ledger>(
     any_seen
 }
 
-/// The same of a merged frame, through its items. It takes as many steps as areas that are linked to
-/// an item's anon_vma hold its index, item by item.
+/// The same of a merged frame, through its items. It takes as many steps as areas that are linked
+/// to an item's anon_vma hold its index, item by item.
 pub fn clear_seen_items<K: LookMut<L>, L: Ledger>(
     look: &mut K,
     frame: u32,

@@ -100,7 +100,7 @@ module _ (command : Command) (by : IsByNotes command) where
 
   -- so it does, whatever stood
   does-added : (d d' : Device) (old new : Mem) (before now : List Note) → before ≡ [] → IsSameDevice d d' → frame_count new ≡ frame_count old
-      → between.Does d d' old (λ d d' w r l. HasAdded (AsksNotes command) d d' old new w r l before now)
+      → between.WhateverStood d d' old (λ d d' w r l. HasAdded (AsksNotes command) d d' old new w r l before now)
       → Does d d' old new command (Ok (noted Done now))
   does-added d d' old new before now fresh same count h = record {
     step = λ s keeps. added-steps d d' old new s before now keeps fresh (h true s.world (rmap_of s) s.ledger (stands-between d old s keeps));
@@ -120,7 +120,7 @@ module _ (command : Command) (by : IsByNotes command) where
   -- with the reply that was given these notes and its answer
   does-noted : (d d' : Device) (old new : Mem) (reply reply' : Reply) (now : List Note) → IsCleared reply
       → reply' ≡ record reply { answer = Done; notes = now } → IsSameDevice d d' → frame_count new ≡ frame_count old
-      → between.Does d d' old (λ d d' w r l. HasAdded (AsksNotes command) d d' old new w r l reply.notes now)
+      → between.WhateverStood d d' old (λ d d' w r l. HasAdded (AsksNotes command) d d' old new w r l reply.notes now)
       → Does d d' old new command (Ok reply')
   does-noted d d' old new reply reply' now cleared is same count h = subst (λ r. Does d d' old new command (Ok r))
       (sym (is ∙ (λ i. record { answer = Done; notes = now; rows = cleared.rows i })))
@@ -130,7 +130,7 @@ module _ (command : Command) (by : IsByNotes command) where
 pub does-counted : (command : ℕ → Command) → ((n : ℕ) → IsByNotes (command n)) → (n count : ℕ) → count ≡ n → (d d' : Device) (old new : Mem)
     (reply reply' : Reply) (now : List Note) → IsCleared reply → reply' ≡ record reply { answer = Done; notes = now } → IsSameDevice d d'
     → frame_count new ≡ frame_count old
-    → between.Does d d' old (λ d d' w r l. HasAdded (AsksNotes (command count)) d d' old new w r l reply.notes now)
+    → between.WhateverStood d d' old (λ d d' w r l. HasAdded (AsksNotes (command count)) d d' old new w r l reply.notes now)
     → Does d d' old new (command n) (Ok reply')
 does-counted command by n count so_many d d' old new reply reply' now cleared is same frames h =
     subst (λ n. Does d d' old new (command n) (Ok reply')) so_many

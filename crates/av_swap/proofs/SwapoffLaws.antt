@@ -1,6 +1,5 @@
 -- A swap area that is turned off: what was done to empty it is the step of the command, whether it went off or not.
-use Rattle.std.proofs.Common.{◌≡◌, ℕ, ◌+◌, ◌≤◌, max, Bool, true, false, cond, not, List, [], ◌++◌, Option, Some, None, Ok, Err, refl, sym, ap, subst, ◌∙◌, arith}
-use Rattle.std.proofs.lemmas.List.{append-nil}
+use Rattle.std.proofs.Common.{◌≡◌, ℕ, ◌+◌, ◌≤◌, Bool, true, false, cond, not, List, [], ◌++◌, Some, None, Ok, Err, refl, sym, ap, subst, ◌∙◌, arith}
 use Rattle.std.specs.Prelude.{MatchOption}
 use Rattle.av_io.specs.Count.{RoseBy}
 use Rattle.av_swapcache.specs.Swap.{is_on as is_shown_on, shown as shown_swap}
@@ -14,20 +13,20 @@ use Rattle.av_vma.specs.Pages.{Lengths}
 use Rattle.av_plain.specs.Areas.{Anons, Areas, Rmap, chain_length, next_areas, rmap_after_all}
 use Rattle.av_plain.specs.Choice.{ChoosesAll, Free}
 use Rattle.av_plain.specs.Device.{Device, IsSameDevice, as_told, device_by, Wrote}
-use Rattle.av_plain.specs.Event.{Event, after_all, note_events, notes_of}
+use Rattle.av_plain.specs.Event.{Event, after_all}
 use Rattle.av_plain.specs.Ledger.{Ledger, Setting}
 use Rattle.av_plain.specs.Load.{with_loads}
 use Rattle.av_plain.specs.Pass.{fails, pages_written}
 use Rattle.av_plain.specs.Refusal.{Refuses, refusal, tests}
 use Rattle.av_plain.specs.Report.{ShowsAreas}
 use Rattle.av_plain.specs.Step.{Follows, causes, next}
-use Rattle.av_plain.specs.Swapoff.{close_answer, turn_off_events}
+use Rattle.av_plain.specs.Swapoff.{close_answer}
 use Rattle.av_plain.specs.Transcript.{State, rmap_of}
 use Rattle.av_plain.specs.World.{World}
 use Rattle.av_plain.proofs.Transcript.{next-plain}
 use Rattle.av_mem.specs.declared.mem.Mem.{Mem}
 use Rattle.av_mem.specs.Between as between
-use Rattle.av_mem.specs.Mem.{IsSteadyAt, Keeps, frame_count, setting_by}
+use Rattle.av_mem.specs.Mem.{Keeps, frame_count, setting_by}
 use Rattle.av_mem.proofs.KeepsLaws.{keeps-whenever, serves-keeps, state_by}
 use Rattle.av_swapoff.specs.Command.{HasTurnedOff, swapoff_events}
 use Rattle.av_swapoff.specs.Empty.{close_of, failed_by, lost_by}
@@ -97,7 +96,7 @@ module _ (area : ℕ) where
       let w : World = with_loads m s.world s.ledger events in
       let after : State = state_by new w r l in
       let kept : Keeps d' new after = serves-keeps d' new w r l h.done.between.sound h.done.between.serves in
-      let notes : now ≡ h.added = h.notes ∙ ap (λ ns. ns ++ h.added) fresh in
+      let notes : now ≡ h.added = h.noted.notes ∙ ap (λ ns. ns ++ h.added) fresh in
       record {
         next = after;
         step = record {
@@ -122,14 +121,14 @@ module _ (area : ℕ) where
         same = h.done.same;
         wrote = subst (λ ns. Wrote (pages_written ns) d.history d'.history) (swapoff-notes area h.added end ∙ sym notes) h.done.wrote;
         failures = subst (λ ns. RoseBy (causes (noted (answer_by end) ns)) d.failures d'.failures) (sym notes)
-            (rose-by end h.added d.failures d'.failures h.failed h.failures);
+            (rose-by end h.added d.failures d'.failures h.noted.failed h.noted.failures);
       }
 
   -- so it does, whatever stood
   turned-does : (d d' : Device) (old new : Mem) (before now : List Note) (end : EmptyEnd) → before ≡ []
       → is_shown_on (shown_swap old.swap) area ≡ true
       → IsSameDevice d d' → frame_count new ≡ frame_count old
-      → between.Does d d' old (λ d d' w r l. HasTurnedOff d d' old new w r l area before now end)
+      → between.WhateverStood d d' old (λ d d' w r l. HasTurnedOff d d' old new w r l area before now end)
       → Does d d' old new (Swapoff area) (Ok (noted (answer_by end) now))
   turned-does d d' old new before now end fresh on same count h = record {
     step = λ s keeps. turned-steps d d' old new s before now end keeps fresh on (h true s.world (rmap_of s) s.ledger (stands-between d old s keeps));
@@ -150,7 +149,7 @@ module _ (area : ℕ) where
   pub swapoff-does : (d d' : Device) (old new : Mem) (reply reply' : Reply) (now : List Note) (end : EmptyEnd) (answer : Answer) → IsCleared reply
       → reply' ≡ record reply { answer = answer; notes = now } → answer ≡ answer_by end → is_shown_on (shown_swap old.swap) area ≡ true
       → IsSameDevice d d' → frame_count new ≡ frame_count old
-      → between.Does d d' old (λ d d' w r l. HasTurnedOff d d' old new w r l area reply.notes now end)
+      → between.WhateverStood d d' old (λ d d' w r l. HasTurnedOff d d' old new w r l area reply.notes now end)
       → Does d d' old new (Swapoff area) (Ok reply')
   swapoff-does d d' old new reply reply' now end answer cleared is answered on same count h = subst (λ r. Does d d' old new (Swapoff area) (Ok r))
       (sym (is ∙ (λ i. record { answer = answered i; notes = now; rows = cleared.rows i })))

@@ -7,8 +7,8 @@ use Rattle.av_plain.specs.Ledger.{Ledger, in_flight, is_free, is_stale, map_coun
 use Rattle.av_plain.specs.Ledger.{slot_of}
 use Rattle.av_plain.specs.Sound.{holders, mergings, slots}
 
--- each slot is cached once at most, and so is each frame, or it is merged once; and an entry names a
--- merged frame
+-- each slot is cached once at most, and so is each frame, or it is merged once; and an entry names
+-- a merged frame
 pub record AreOnce (l : Ledger) : Type 0 where
   pub slots_once : (s : Slot) → slots l s ≤ 1
   pub frames_once : (f : ℕ) → holders l f + mergings l f ≤ 1
@@ -39,8 +39,8 @@ LosesUse l g = (map_count l g ≡ 1) × (slot_of l g ≡ None)
 abbrev pub MayLeave : Ledger → Slot → Type 0
 MayLeave l s = (slot_entries l s ≡ 0) ⊎ ((is_stale l s ≡ false) × (in_flight l s ≡ false))
 
--- as many entries name each frame and slot; cache, flight, lists, merged frames and swap areas are as
--- they were
+-- as many entries name each frame and slot; cache, flight, lists, merged frames and swap areas are
+-- as they were
 pub record IsAlike (l new : Ledger) : Type 0 where
   pub maps : (f : ℕ) → map_count new f ≡ map_count l f
   pub names : (s : Slot) → slot_entries new s ≡ slot_entries l s

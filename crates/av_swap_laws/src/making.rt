@@ -58,8 +58,8 @@ pub fn frames_are_copied()
         }) }
 {}
 
-/// A page gets a copy of its frame, of which it was the last use: so it is with a merged frame. That
-/// frame is free then, in front of all others.
+/// A page gets a copy of its frame, of which it was the last use: so it is with a merged frame.
+/// That frame is free then, in front of all others.
 pub fn last_copies_free_frames()
     ensures { (m : Setting) (closing : Option ℕ) (old : Held) → IsHeld m old → (p a f : ℕ)
         (left : List ℕ) (write : Bool) → T (is_sorted key_cmp old.ledger.entries)

@@ -11,7 +11,7 @@ ghost use Rattle.av_swapcache.specs.Calls.{Answers, Finishes, IsLoaded, IsPut};
 ghost use Rattle.av_swapcache.specs.Swap.{shown, fresh, all_free, all_slots, IsFit, GivesFirst};
 ghost use Rattle.av_swapcache.specs.Swap.{HasAreas, IsCachedAs, IsPage, IsUncached, can_give};
 ghost use Rattle.av_swapcache.specs.Swap.{count_of, with_renamed};
-ghost use Rattle.av_swapcache.specs.Swap.{is_cached, is_flying, is_full, is_on, header_at, free_of};
+ghost use Rattle.av_swapcache.specs.Swap.{is_flying, is_full, is_on, header_at, free_of};
 ghost use Rattle.av_swapcache.specs.Swap.{outranks, is_closing, with_closing, with_entries};
 ghost use Rattle.av_swapcache.specs.Swap.{with_find, given_back, after_off};
 ghost use Rattle.av_swapdev.specs.Device.{most_areas};
@@ -230,19 +230,16 @@ impl Swap {
         Ok(())
     }
 
-    /// A cached slot is so no longer, nor is its frame (Linux's `delete_from_swap_cache`); the slot
-    /// is given back where no entry names it. The frame's dirty bit stays, and it isn't freed.
-    pub fn drop_ref(&mut self, frames: &mut Frames, slot: Slot)
+    /// A slot that is cached at a frame is so no longer (Linux's `delete_from_swap_cache`); it is
+    /// given back where no entry names it. The frame's dirty bit stays, and it isn't freed.
+    pub fn drop_ref(&mut self, frames: &mut Frames, frame: u32, slot: Slot)
         requires fits { (shown self.old).frames ≡ (frames_shown frames.old).count }
-        requires cached { is_cached (shown self.old) slot ≡ true }
+        requires cached { (shown self.old).find slot ≡ Some frame }
         requires not_flying { is_flying (shown self.old) slot ≡ false }
         ensures swap { shown self.new ≡ given_back slot (with_find slot None (shown self.old)) }
-        ensures frame { IfSome ((shown self.old).find slot) (λ f. frames_shown frames.new
-            ≡ with_frame_slot f None (frames_shown frames.old)) }
+        ensures frame { frames_shown frames.new
+            ≡ with_frame_slot frame None (frames_shown frames.old) }
     {
-        let Some(frame) = self.areas.find(slot) else {
-            unreachable!();
-        };
         let Some(area) = self.areas.of_mut(slot.area) else {
             unreachable!();
         };
@@ -271,19 +268,16 @@ impl Swap {
         self.writing[from as usize] = false;
     }
 
-    /// Puts a cached slot last in flight. Its frame is clean then.
-    pub fn start(&mut self, frames: &mut Frames, slot: Slot)
+    /// Puts a slot that is cached at a frame last in flight. The frame is clean then.
+    pub fn start(&mut self, frames: &mut Frames, frame: u32, slot: Slot)
         requires fits { (shown self.old).frames ≡ (frames_shown frames.old).count }
-        requires cached { is_cached (shown self.old) slot ≡ true }
+        requires cached { (shown self.old).find slot ≡ Some frame }
         requires not_flying { is_flying (shown self.old) slot ≡ false }
         ensures swap { shown self.new
             ≡ record (shown self.old) { flight = (shown self.old).flight ++ slot ∷ [] } }
-        ensures frame { IfSome ((shown self.old).find slot) (λ f. frames_shown frames.new
-            ≡ with_dirty f false (frames_shown frames.old)) }
+        ensures frame { frames_shown frames.new
+            ≡ with_dirty frame false (frames_shown frames.old) }
     {
-        let Some(frame) = self.areas.find(slot) else {
-            unreachable!();
-        };
         self.writing[frame as usize] = true;
         self.flight.push_back_reserved(slot);
         frames.set_dirty(frame, false);

@@ -6,7 +6,8 @@ ghost use Rattle.av_base.specs.Page.{page_size};
 ghost use Rattle.av_base.specs.Words.{with_at};
 ghost use Rattle.av_io.specs.Count.{Rose};
 ghost use Rattle.av_swapdev.specs.Device.{HasPage, Holds, IsWritten, IsSpoiled, IsRenewed};
-ghost use Rattle.av_swapdev.specs.Device.{History, after_attach, after_write, most_areas, most_pages};
+ghost use Rattle.av_swapdev.specs.Device.{History, after_attach, after_write, most_areas};
+ghost use Rattle.av_swapdev.specs.Device.{most_pages};
 
 use av_base::PAGE_SIZE;
 use av_io::Failed;

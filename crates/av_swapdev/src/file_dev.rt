@@ -123,26 +123,22 @@ impl<H: SwapFiles + Drop> SwapDev for FileDev<H> {
 
     fn attach(&mut self, area: u8, name: &str) -> Result<u32, AttachErr>
         requires { area < most_areas }
-        ensures size { IfOk result (λ n. ⟦<FileDev<H> as SwapDev>⟧.sizes self.new ≡ with_at area
-            (Some n) (⟦<FileDev<H> as SwapDev>⟧.sizes self.old)) }
+        ensures size { IfOk result (λ n. sizes_of self.new.areas.items
+            ≡ with_at area (Some n) (sizes_of self.old.areas.items)) }
         ensures most { IfOk result (λ n. n ≤ most_pages) }
-        ensures renewed { OnOk result (IsRenewed area (⟦<FileDev<H> as SwapDev>⟧.pages self.old)
-            (⟦<FileDev<H> as SwapDev>⟧.pages self.new)) }
-        ensures same_sizes { OnErr result (⟦<FileDev<H> as SwapDev>⟧.sizes self.new ≡
-            ⟦<FileDev<H> as SwapDev>⟧.sizes self.old) }
-        ensures same_pages { OnErr result (⟦<FileDev<H> as SwapDev>⟧.pages self.new ≡
-            ⟦<FileDev<H> as SwapDev>⟧.pages self.old) }
-        ensures never_falls { ⟦<FileDev<H> as SwapDev>⟧.failures self.old
-            ≤ ⟦<FileDev<H> as SwapDev>⟧.failures self.new }
-        ensures cause { IsErrOf result AttachErr.Failed → Rose (⟦<FileDev<H> as SwapDev>⟧.failures
-            self.old) (⟦<FileDev<H> as SwapDev>⟧.failures self.new) }
-        ensures unfailed { OnOk result (⟦<FileDev<H> as SwapDev>⟧.failures self.new
-            ≡ ⟦<FileDev<H> as SwapDev>⟧.failures self.old) }
+        ensures renewed { OnOk result (IsRenewed area None None) }
+        ensures same_sizes { OnErr result (sizes_of self.new.areas.items
+            ≡ sizes_of self.old.areas.items) }
+        ensures same_pages { OnErr result (⟦<FileDev<H> as SwapDev>⟧.pages self.new
+            ≡ ⟦<FileDev<H> as SwapDev>⟧.pages self.old) }
+        ensures never_falls { self.old.failures ≤ self.new.failures }
+        ensures cause { IsErrOf result AttachErr.Failed
+            → Rose self.old.failures self.new.failures }
+        ensures unfailed { OnOk result (self.new.failures ≡ self.old.failures) }
         ensures unfailed_memory { IsErrOf result AttachErr.Memory
-            → ⟦<FileDev<H> as SwapDev>⟧.failures self.new
-            ≡ ⟦<FileDev<H> as SwapDev>⟧.failures self.old }
-        ensures asked { ⟦<FileDev<H> as SwapDev>⟧.history self.new
-            ≡ after_attach area name.now (is_ok result) (⟦<FileDev<H> as SwapDev>⟧.history self.old) }
+            → self.new.failures ≡ self.old.failures }
+        ensures asked { self.new.log.history
+            ≡ after_attach area name.now (is_ok result) self.old.log.history }
         // Beside what the trait says: one file is opened, whose answer this is; it is the area's
         // file then, with as many pages as its bytes fill.
         ensures answer { H.view self.new.files ≡ after_open result (H.view self.old.files) }
@@ -157,23 +153,15 @@ impl<H: SwapFiles + Drop> SwapDev for FileDev<H> {
             → self.new.failures ≡ one_more self.old.failures }
     {
         let opened = self.files.open(name);
-        self.log = self.log.then(&Call::Attach {
-            area,
-            name,
-            well: opened.is_ok(),
-        });
-        match opened {
-            Ok(file) => {
-                let pages = pages_of(file.len());
-                self.areas[area as usize] = Some(Attached { file, pages });
-                Ok(pages)
-            }
-            Err(AttachErr::Failed) => {
-                count(&mut self.failures);
-                Err(AttachErr::Failed)
-            }
-            Err(AttachErr::Memory) => Err(AttachErr::Memory),
+        let well = opened.is_ok();
+        self.log = self.log.then(&Call::Attach { area, name, well });
+        if let Err(AttachErr::Failed) = opened {
+            count(&mut self.failures);
         }
+        let file = opened?;
+        let pages = pages_of(file.len());
+        self.areas[area as usize] = Some(Attached { file, pages });
+        Ok(pages)
     }
 
     fn read(&mut self, area: u8, page: u32, into: &mut [u8]) -> Result<(), Failed>

@@ -148,7 +148,8 @@ impl SwapDev for MemDev {
             (⟦<MemDev as SwapDev>⟧.failures self.new)) }
         ensures unfailed { OnOk result (⟦<MemDev as SwapDev>⟧.failures self.new
             ≡ ⟦<MemDev as SwapDev>⟧.failures self.old) }
-        ensures asked { ⟦<MemDev as SwapDev>⟧.history self.new ≡ ⟦<MemDev as SwapDev>⟧.history self.old }
+        ensures asked { ⟦<MemDev as SwapDev>⟧.history self.new
+            ≡ ⟦<MemDev as SwapDev>⟧.history self.old }
         // Beside what the trait says: exactly the calls that are listed fail.
         ensures calls { IsNextCall self.old.failures self.new.failures (is_err result) }
     {

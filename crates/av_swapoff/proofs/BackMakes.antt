@@ -32,7 +32,7 @@ use Rattle.av_mem.proofs.ComingBack.{back-at, back-loaded, back-mapped, back-use
 use Rattle.av_mem.proofs.KeepsLaws.{serves-whenever}
 use Rattle.av_reclaim.specs.Driver.{closing_of, view_of}
 use Rattle.av_reclaim.proofs.FinishMakes.{none-moved}
-use Rattle.av_reclaim.proofs.OneNote.{one-does, one-still, world_with}
+use Rattle.av_reclaim.proofs.OneNote.{one-happened, one-still, world_with}
 use Rattle.av_reclaim.proofs.ReadLaws.{free-first}
 use Rattle.av_reclaim.proofs.StepMakes.{by-view, frame-found, same-world, stands-still}
 use Rattle.av_swapoff.specs.System.{MayLoad, MayMap, load_notes}
@@ -86,7 +86,7 @@ loaded-makes : (names : List ℕ) (d : Device) (old new : Mem) (q : Key) (s : Sl
     → IfSome d.pages (λ told. (i : ℕ) → i < page_size → slice_index load.page i ≡ slice_index (told s.area s.page) i) → KeepsParts old new
     → Makes (view_of names d old) (view_of names d new) (MayLoad (setting_by d old) s q) (Loaded s f ∷ [])
 loaded-makes names d old new q s f home homed pages at is load got parts = λ l sound stood may.
-    one-does names d d old new l (Loaded s f) (record { sound = sound; world = stood.0; rmap = stood.1; serves = stood.2 }) (record {
+    one-happened names d d old new l (Loaded s f) (record { sound = sound; world = stood.0; rmap = stood.1; serves = stood.2 }) (record {
       parts = parts;
       same = device-itself d;
       lawful = (named-slot l q s may.named, tt);

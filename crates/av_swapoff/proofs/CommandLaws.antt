@@ -29,8 +29,8 @@ pub has-emptied : (names names' : List ℕ) (d d₁ d' : Device) (old k₁ new :
 has-emptied names names' d d₁ d' old k₁ new area before now end gives lent w r l keeps =
     let serves = keeps.serves in
     let out = gives l keeps.sound (w, r, closing-so d (Some area) old w r l serves) tt in
-    let does = out.3.does in
-    let stays = does.stays in
+    let happened = out.3.happened in
+    let stays = happened.stays in
     let is = lent stays.names in
     let closing' : closing_of k₁ ≡ Some area = stays.closing ∙ serves.swap.closed in
     let w' = with_loads (setting_by d old) w l (note_events out.0) in
@@ -38,17 +38,15 @@ has-emptied names names' d d₁ d' old k₁ new area before now end gives lent w
     subst (λ k. HasEmptied d d' old k w r l area before now end) (sym is.1)
     (subst (λ x. HasEmptied d x old k₁ w r l area before now end) (sym is.0) (record {
       added = out.0;
-      notes = out.1;
+      noted = record { notes = out.1; failures = out.2.1.rose; failed = out.2.1.failed };
       empties = out.2.0 w r (closing-so d (Some area) old w r l serves);
       closing = record {
         sound = subst (λ m. IsSound m (after_notes l out.0)) (sym stays.setting) out.3.sound;
-        serves = subst (λ c. Serves d₁ c k₁ w' r' (after_notes l out.0)) closing' (does.claims w r (closing-so d (Some area) old w r l serves));
+        serves = subst (λ c. Serves d₁ c k₁ w' r' (after_notes l out.0)) closing' (happened.claims w r (closing-so d (Some area) old w r l serves));
       };
       free = subst (λ c. ChoosesAll (setting_by d old) c l (note_events out.0) (free_of (view old)) (free_of (view k₁)))
-          serves.swap.closed does.chooses;
+          serves.swap.closed happened.chooses;
       same = one-device names names' d d₁ old k₁ stays;
       count = ap (λ (m : Setting). m.frames) stays.setting;
-      wrote = does.wrote;
-      failures = out.2.1.rose;
-      failed = out.2.1.failed;
+      wrote = happened.wrote;
     }))

@@ -398,10 +398,10 @@ pub emptying-step : (a b c : SystemView) (n0 n1 n2 : List Note) (area page : ℕ
 emptying-step a b c n0 n1 n2 area page users user is closing tells t gives l sound stands may =
     let i = t l sound stands may in
     let l1 = after_notes l i.gained in
-    let stays = i.goes.does.stays in
+    let stays = i.goes.happened.stays in
     let s1 : IsSound b.setting l1 = subst (λ m. IsSound m l1) (sym stays.setting) i.goes.sound in
     let at = page-may a.setting area page users user l1 is i.may in
-    let x = gives l1 s1 i.goes.does.stands at in
+    let x = gives l1 s1 i.goes.happened.stands at in
     let did = while-closing b a.setting area stays.setting (stays.closing ∙ closing) (slot_at area page) None l1 x.0 x.2.0 in
     let d = emptied-slot a.setting b.locked area page users user l1 x.0 i.goes.sound i.may at i.none did in
     let same : after_notes l (i.gained ++ x.0) ≡ after_notes l1 x.0 = after_notes-append l i.gained x.0 in
@@ -462,10 +462,10 @@ pub emptying-stop : (a b c : SystemView) (n0 n1 n2 : List Note) (area page : ℕ
 emptying-stop a b c n0 n1 n2 area page users user end is closing tells t gives l sound stands may =
     let i = t l sound stands may in
     let l1 = after_notes l i.gained in
-    let stays = i.goes.does.stays in
+    let stays = i.goes.happened.stays in
     let s1 : IsSound b.setting l1 = subst (λ m. IsSound m l1) (sym stays.setting) i.goes.sound in
     let at = page-may a.setting area page users user l1 is i.may in
-    let x = gives l1 s1 i.goes.does.stands at in
+    let x = gives l1 s1 i.goes.happened.stands at in
     let did = while-closing b a.setting area stays.setting (stays.closing ∙ closing) (slot_at area page) (Some end) l1 x.0 x.2.0 in
     let first = first-in_use a.setting area page l1 i.none did.0 (i.may.within page did.0) in (
       i.gained ++ x.0,
@@ -478,7 +478,7 @@ emptying-stop a b c n0 n1 n2 area page users user end is closing tells t gives l
             record { pages = whole.0; empties = whole.1 },
         record {
           failed = more-fails i.gained x.0 (failed_by end) (stuck-failed a.setting (slot_at area page) (spares_area b.locked area) end l1 x.0 did.1);
-          rose = rose-both i.gained x.0 (lost_by end) a.failures b.failures c.failures i.goes.does.failures x.2.1;
+          rose = rose-both i.gained x.0 (lost_by end) a.failures b.failures c.failures i.goes.happened.failures x.2.1;
         },
       ),
       goes-then a b c l i.gained x.0 i.goes x.3,
@@ -498,7 +498,7 @@ emptying-end a b n0 n1 area page users t over l sound stands may =
               pages = whole.0;
               empties = subst (λ z. plain.Empties a.setting w area l whole.0 z plain.Closed) (append-nil i.gained) whole.1;
             },
-        record { failed = omega arith; rose = rose-plain (fails i.gained) a.failures b.failures i.goes.does.failures },
+        record { failed = omega arith; rose = rose-plain (fails i.gained) a.failures b.failures i.goes.happened.failures },
       ),
       i.goes,
     )
@@ -575,7 +575,7 @@ pub emptied-all : (a b c : SystemView) (area : ℕ) (users : List (Option Key)) 
 emptied-all a b c area users end l ns ms done rest = (
   λ w r claimed.
       let loaded = with_loads a.setting w l (note_events ns) in
-      let each = rest.0 loaded _ (done.goes.does.claims w r claimed) in
+      let each = rest.0 loaded _ (done.goes.happened.claims w r claimed) in
       record {
         done = ns;
         pages = each.pages;
@@ -584,11 +584,11 @@ emptied-all a b c area users end l ns ms done rest = (
         completes = done.completes;
         empties = empties-over a.setting loaded w (locked-loads a.setting w l (note_events ns)) area (after_notes l ns) each.pages ms
             (close_of end)
-            (subst (λ m. plain.Empties m loaded area (after_notes l ns) each.pages ms (close_of end)) done.goes.does.stays.setting each.empties);
+            (subst (λ m. plain.Empties m loaded area (after_notes l ns) each.pages ms (close_of end)) done.goes.happened.stays.setting each.empties);
       },
   record {
     failed = more-fails ns ms (failed_by end) rest.1.failed;
-    rose = rose-both ns ms (lost_by end) a.failures b.failures c.failures done.goes.does.failures rest.1.rose;
+    rose = rose-both ns ms (lost_by end) a.failures b.failures c.failures done.goes.happened.failures rest.1.rose;
   },
 )
 
@@ -607,7 +607,7 @@ pub completed : (a b : SystemView) (area : ℕ) (users : List (Option Key)) (l :
     Goes a b l ns → AreUsers b.setting area users (after_notes l ns) → IsCompleted a b area users l ns
 completed a b area users l ns sound completes goes are = record {
   completes = completes;
-  may = users-may b.setting area users (after_notes l ns) (subst (λ m. IsSound m (after_notes l ns)) (sym goes.does.stays.setting) goes.sound)
+  may = users-may b.setting area users (after_notes l ns) (subst (λ m. IsSound m (after_notes l ns)) (sym goes.happened.stays.setting) goes.sound)
       (completed-landed a.setting l ns sound completes) are;
   goes = goes;
 }

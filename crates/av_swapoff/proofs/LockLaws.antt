@@ -34,6 +34,6 @@ TellsLocked k = Tells k (λ l. (w : World) (r : Rmap) → k.claims w r l → k.l
 pub locked-then : (a b : SystemView) (l : Ledger) (ns : List Note) → TellsLocked b → Goes a b l ns → (w : World) (r : Rmap) → a.claims w r l →
     b.locked ≡ is_locked w (after_notes l ns)
 locked-then a b l ns tells goes w r claimed =
-    tells (after_notes l ns) (subst (λ m. IsSoundBut m any_slot (after_notes l ns)) (sym goes.does.stays.setting) (loose a.setting _ _ goes.sound))
-    goes.does.stands _ _ (goes.does.claims w r claimed)
+    tells (after_notes l ns) (subst (λ m. IsSoundBut m any_slot (after_notes l ns)) (sym goes.happened.stays.setting) (loose a.setting _ _ goes.sound))
+    goes.happened.stands _ _ (goes.happened.claims w r claimed)
     ∙ locked-loads a.setting w l (note_events ns) (after_notes l ns)

@@ -30,8 +30,8 @@ use Rattle.av_plain.proofs.Sound.Pass.{Passed, seeks-kept}
 use Rattle.av_evict.specs.Steps.{MayDrop}
 use Rattle.av_evict.specs.System.{Adds, Gives, Goes, IsAt, SystemView, spares}
 use Rattle.av_evict.proofs.PassLaws.{none-flies}
-use Rattle.av_evict.proofs.StepLaws.{pair-cached}
-use Rattle.av_evict.proofs.SystemLaws.{does-none, goes-then}
+use Rattle.av_evict.proofs.StepLaws.{pair-slot_of}
+use Rattle.av_evict.proofs.SystemLaws.{happened-none, goes-then}
 use Rattle.av_swapoff.specs.Slot.{AreApart, Fetches, FetchesBy, IsIn, IsLoaded, IsSought, MapsBack, MayFetch, MayMapAll, fetched_of, mapped_notes, unread_of}
 use Rattle.av_swapoff.specs.System.{MayLoad, MayMap}
 use Rattle.av_swapoff.specs.declared.slot.FetchEnd.{FetchEnd}
@@ -110,7 +110,7 @@ pub mapping-start : (a : SystemView) (n : List Note) (s : Slot) (f : ℕ) (ks : 
 mapping-start a n s f ks l sound stands may = record {
   gained = [];
   added = sym (append-nil n);
-  goes = record { sound = sound; does = does-none a l stands };
+  goes = record { sound = sound; happened = happened-none a l stands };
   more = refl;
   may = may;
 }
@@ -120,8 +120,8 @@ pub mapping-at : (a b : SystemView) (n0 n1 : List Note) (s : Slot) (f : ℕ) (al
 mapping-at a b n0 n1 s f all k left at mid =
     let i = mid at.0 at.1 at.2 at.3 in (
       after_notes at.0 i.gained,
-      subst (λ m. IsSound m (after_notes at.0 i.gained)) (sym i.goes.does.stays.setting) i.goes.sound,
-      i.goes.does.stands,
+      subst (λ m. IsSound m (after_notes at.0 i.gained)) (sym i.goes.happened.stays.setting) i.goes.sound,
+      i.goes.happened.stands,
       head-may_map (after_notes at.0 i.gained) s f k left i.may,
     )
 
@@ -131,8 +131,8 @@ pub mapping-step : (a b c : SystemView) (n0 n1 n2 : List Note) (s : Slot) (f : �
 mapping-step a b c n0 n1 n2 s f all k left mid gives l sound stands may =
     let i = mid l sound stands may in
     let l1 = after_notes l i.gained in
-    let s1 : IsSound b.setting l1 = subst (λ m. IsSound m l1) (sym i.goes.does.stays.setting) i.goes.sound in
-    let x = gives l1 s1 i.goes.does.stands (head-may_map l1 s f k left i.may) in
+    let s1 : IsSound b.setting l1 = subst (λ m. IsSound m l1) (sym i.goes.happened.stays.setting) i.goes.sound in
+    let x = gives l1 s1 i.goes.happened.stands (head-may_map l1 s f k left i.may) in
     record {
       gained = i.gained ++ x.0;
       added = x.1 ∙ ap (λ z. z ++ x.0) i.added ∙ append_assoc n0 i.gained x.0;
@@ -212,9 +212,9 @@ mapped-keys m l s f sound at = mapped-all m l s f (keys_of_slot l s) sound (keys
 
 pub mapped-may_drop : (m : Setting) (l : Ledger) (s : Slot) (f : ℕ) (ns : List Note) → IsSound m l → IsIn s f l →
     ns ≡ mapped_notes f (keys_of_slot l s) →
-    MayDrop s (after_notes l ns)
-mapped-may_drop m l s f ns sound at is = subst (λ x. MayDrop s (after_notes l x)) (sym is) (record {
-  cached = ap (list_any (λ (c : Cached). same_slot s c.slot)) a.cache ∙ pair-cached l s f (frame_at-some f s l.cache at.cached);
+    MayDrop f s (after_notes l ns)
+mapped-may_drop m l s f ns sound at is = subst (λ x. MayDrop f s (after_notes l x)) (sym is) (record {
+  cached = ap (λ cs. slot_of (record l { cache = cs }) f) a.cache ∙ pair-slot_of m l s f sound (frame_at-some f s l.cache at.cached);
   landed = ap (list_any (same_slot s)) (a.flight ∙ at.landed);
   kept = λ named. absurd (clash _ none named);
 })

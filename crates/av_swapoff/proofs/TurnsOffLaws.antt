@@ -266,7 +266,7 @@ has-turned-off d d' old k' swap0 swap area before now end close finish w r l bet
     let done = ends d d' (with_swap old swap0) k' w r l area before now end keeps h swap finish in
     record {
       added = h.added;
-      notes = h.notes;
+      noted = h.noted;
       turns_off = turned-off d d' (with_swap old swap0) k' w r l area before now end keeps h;
       done = record {
         between = record { sound = sound-then d d' (with_swap old swap0) k' w r l area before now end keeps h; serves = done.0 };
@@ -277,8 +277,6 @@ has-turned-off d d' old k' swap0 swap area before now end close finish w r l bet
         wrote = subst (λ ns. Wrote (pages_written ns) d.history d'.history) (sym (swapoff-notes area h.added end)) h.wrote;
         count = h.count;
       };
-      failures = h.failures;
-      failed = h.failed;
     }
 
 -- ---- the end

@@ -1,6 +1,5 @@
 -- A swap area goes off, or not.
-use Rattle.std.specs.Prelude.{◌≡◌, ℕ, ◌+◌, ◌≤◌, Bool, List, [], ◌++◌, None, Some}
-use Rattle.av_io.specs.Count.{RoseBy}
+use Rattle.std.specs.Prelude.{◌≡◌, ℕ, ◌+◌, Bool, List, [], ◌++◌, None, Some}
 use Rattle.av_trace.specs.declared.note.Note.{Note}
 use Rattle.av_plain.specs.Areas.{Rmap, rmap_after_all}
 use Rattle.av_plain.specs.Choice.{ChoosesAll}
@@ -8,7 +7,7 @@ use Rattle.av_plain.specs.Device.{Device, IsSameDevice, as_told, Wrote}
 use Rattle.av_plain.specs.Event.{Event, after_notes, note_events}
 use Rattle.av_plain.specs.Ledger.{Ledger}
 use Rattle.av_plain.specs.Load.{with_loads}
-use Rattle.av_plain.specs.Pass.{fails, pages_written}
+use Rattle.av_plain.specs.Pass.{pages_written}
 use Rattle.av_plain.specs.Sound.{IsSound}
 use Rattle.av_plain.specs.Stands.{free_of}
 use Rattle.av_plain.specs.Swapoff.{TurnsOff, close_answer, turn_off_events}
@@ -40,12 +39,12 @@ abbrev pub DoesClosing : ℕ → Device → Device → Mem
 DoesClosing area d d' old IsSo = (told : Bool) (w : World) (r : Rmap) (l : Ledger)
     → KeepsClosing (as_told told d) area old w r l → IsSo (as_told told d) (as_told told d') w r l
 
--- notes were added, the area was emptied by them to this end, and that is done; the device was asked
--- to write what the notes tell, and failed at least as often as they and the end tell
+-- notes were added, the area was emptied by them to this end, and that is done; the device was
+-- asked to write what the notes tell, and failed at least as often as they and the end tell
 pub record HasEmptied (d d' : Device) (old new : Mem) (w : World) (r : Rmap) (l : Ledger)
     (area : ℕ) (before now : List Note) (end : EmptyEnd) : Type 0 where
   pub added : List Note
-  pub notes : now ≡ before ++ added
+  pub noted : HasNoted d d' before now added (lost_by end) (failed_by end)
   pub empties : EmptiesAll (setting_by d old) w area end l added
   pub closing : KeepsClosing d' area new (with_loads (setting_by d old) w l (note_events added))
       (rmap_after_all l (note_events added) r) (after_notes l added)
@@ -54,8 +53,6 @@ pub record HasEmptied (d d' : Device) (old new : Mem) (w : World) (r : Rmap) (l 
   pub same : IsSameDevice d d'
   pub count : frame_count new ≡ frame_count old
   pub wrote : Wrote (pages_written added) d.history d'.history
-  pub failures : RoseBy (fails added + lost_by end) d.failures d'.failures
-  pub failed : failed_by end ≤ fails added
 
 -- ---- it goes off, or not
 
@@ -74,9 +71,7 @@ swapoff_events area added end = note_events added ++ turn_off_events area (close
 pub record HasTurnedOff (d d' : Device) (old new : Mem) (w : World) (r : Rmap) (l : Ledger)
     (area : ℕ) (before now : List Note) (end : EmptyEnd) : Type 0 where
   pub added : List Note
-  pub notes : now ≡ before ++ added
+  pub noted : HasNoted d d' before now added (lost_by end) (failed_by end)
   pub turns_off : TurnsOff (setting_by d old) w l area (swapoff_events area added end)
       (close_answer (close_of end)) []
   pub done : HasDoneWhile (Some area) d d' old new w r l (swapoff_events area added end)
-  pub failures : RoseBy (fails added + lost_by end) d.failures d'.failures
-  pub failed : failed_by end ≤ fails added

@@ -29,10 +29,6 @@ pub record AreUsers (m : Setting) (area : ℕ) (users : List (Option Key)) (l : 
 
 -- ---- when a step may be taken
 
--- the frame caches the slot
-abbrev pub IsCachedAt : Slot → ℕ → Ledger → Type 0
-IsCachedAt s f l = frame_at l s ≡ Some f
-
 -- the entry of the key names the slot, which the frame caches
 pub record MayMap (s : Slot) (f : ℕ) (k : Key) (l : Ledger) : Type 0 where
   pub named : entry l k ≡ Some (InSlot s)

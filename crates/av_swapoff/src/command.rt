@@ -4,7 +4,7 @@ ghost use Rattle.std.specs.Prelude.{◌≡◌, IfOk, Some, false, true};
 ghost use Rattle.av_base.specs.declared.slot.Slot.{Slot};
 ghost use Rattle.av_plain.specs.Device.{IsSameDevice, as_told, seen_by};
 ghost use Rattle.av_swapcache.specs.Swap.{count_of, is_on, shown};
-ghost use Rattle.av_mem.specs.Between.{Does, IsBetween};
+ghost use Rattle.av_mem.specs.Between.{WhateverStood, IsBetween};
 ghost use Rattle.av_mem.specs.Mem.{frame_count};
 ghost use Rattle.av_swapoff.specs.Command.{
   DoesClosing,
@@ -35,7 +35,7 @@ pub fn swapoff<D: SwapDev>(
 ) -> Result<EmptyEnd, AllocError>
     requires between { IsBetween (D.sizes dev.old) mem.old }
     requires on { is_on (shown mem.old.swap) area ≡ true }
-    ensures turned { IfOk result (λ end. Does
+    ensures turned { IfOk result (λ end. WhateverStood
         (seen_by D.sizes D.pages D.failures D.history dev.old)
         (seen_by D.sizes D.pages D.failures D.history dev.new) mem.old (λ d d' w r l.
         HasTurnedOff d d' mem.old mem.new w r l area notes.old notes.new end)) }

@@ -12,8 +12,8 @@ use crate::empty::EmptyEnd;
 use crate::steps::{load, map};
 use crate::system::SlotSystem;
 use av_base::Slot;
-use av_evict::{SeekEnd, seek};
-use av_trace::{Note, Notes, OutOf};
+use av_evict::{SeekEnd, drop_slot, seek};
+use av_trace::{Notes, OutOf};
 use std::alloc::{AllocError, Global};
 
 /// What was done for the page of a slot.
@@ -105,8 +105,7 @@ fn map_back<S: SlotSystem>(
 {
     let keys = system.namers(alloc, slot, frame)?;
     map_all(system, slot, frame, &keys, notes)?;
-    system.drop_slot(slot);
-    notes.push(Note::Dropped(slot))?;
+    drop_slot(system, frame, slot, notes)?;
     Ok(())
 }
 

@@ -1,6 +1,6 @@
 //! A memory system that can also bring the pages of slots back to their entries.
 
-ghost use Rattle.std.specs.Prelude.{◌≡◌, ◌∷◌, ◌<◌, ◌^◌, [], length, nat_lt, None, IfOk, IfSome};
+ghost use Rattle.std.specs.Prelude.{◌≡◌, ◌∷◌, ◌<◌, ◌^◌, [], length, nat_lt, None, Some, IfOk, IfSome};
 ghost use Rattle.std.specs.Prelude.{Bool, true, false};
 ghost use Rattle.std.specs.List.{AllByRecursion};
 ghost use Rattle.av_base.specs.Limits.{top_page};
@@ -9,7 +9,7 @@ ghost use Rattle.av_io.specs.Count.{Rose};
 ghost use Rattle.av_trace.specs.declared.note.Note.TheVariants.{Mapped};
 ghost use Rattle.av_plain.specs.Ledger.{frame_at, is_free, keys_of_slot, slot_count};
 ghost use Rattle.av_evict.specs.System.{Always, Knows, Makes, Stays, Tells};
-ghost use Rattle.av_swapoff.specs.System.{AreUsers, IsCachedAt, MayLoad, MayMap, load_notes};
+ghost use Rattle.av_swapoff.specs.System.{AreUsers, MayLoad, MayMap, load_notes};
 
 use av_base::Slot;
 use av_evict::System;
@@ -36,7 +36,7 @@ pub trait SlotSystem: System {
 
     /// Process and page of each entry that names a cached slot, by process and then by page.
     fn namers(&self, alloc: Global, slot: Slot, frame: u32) -> Result<Vec<(u16, u64)>, AllocError>
-        requires { Knows (Self.view self.now false) (IsCachedAt slot frame) }
+        requires { Knows (Self.view self.now false) (λ l. frame_at l slot ≡ Some frame) }
         ensures keys { IfOk result (λ keys. (told : Bool) → Tells (Self.view self.now told)
             (λ l. keys.items ≡ keys_of_slot l slot)) }
         ensures below { IfOk result (λ keys. AllByRecursion (λ key. key.1 < top_page) keys.items) };

@@ -27,10 +27,11 @@ fn write<D: SwapDev>(
     ensures kept { AreKept (shown swap.old) (shown swap.new) }
     ensures same_sizes { D.sizes dev.new ≡ D.sizes dev.old }
 {
-    if swap.frames() != frames.count() || swap.find(slot).is_none() || swap.in_flight(slot) {
+    if swap.frames() != frames.count() || swap.in_flight(slot) {
         return None;
     }
-    swap.start(frames, slot);
+    let frame = swap.find(slot)?;
+    swap.start(frames, frame, slot);
     swap.finish(frames, dev)
 }
 
@@ -39,10 +40,11 @@ fn drop_slot(swap: &mut Swap, frames: &mut Frames, slot: Slot) -> Option<bool>
     ensures same_on { (shown swap.new).on ≡ (shown swap.old).on }
     ensures spare { (f : ℕ) → IsUncached (shown swap.old) f → IsUncached (shown swap.new) f }
 {
-    if swap.frames() != frames.count() || swap.find(slot).is_none() || swap.in_flight(slot) {
+    if swap.frames() != frames.count() || swap.in_flight(slot) {
         return None;
     }
-    swap.drop_ref(frames, slot);
+    let frame = swap.find(slot)?;
+    swap.drop_ref(frames, frame, slot);
     Some(swap.is_in_use(slot))
 }
 
@@ -132,10 +134,10 @@ fn flies_over(swap: &mut Swap, frames: &mut Frames) -> bool
     let Some(slot) = swap.put(frames, 0) else {
         return false;
     };
-    if swap.find(slot).is_none() || swap.in_flight(slot) {
+    if swap.find(slot) != Some(0) || swap.in_flight(slot) {
         return false;
     }
-    swap.start(frames, slot);
+    swap.start(frames, 0, slot);
     goes_over(swap, frames) && swap.in_flight(slot)
 }
 

@@ -20,7 +20,7 @@ keep-requires-clause-used g c =
     let f = c.args.frame in
     let s = c.args.slot in
     gives-at _ _ _ _ (IsSentIdle f s) (IsUsed f) (Adds (Started s ∷ [])) c.requires
-    (gives-as _ _ _ _ (MayStart s) (IsSentIdle f s) (Adds (Started s ∷ [])) (Adds (Started s ∷ [])) (c.in_ok-start.ensures.gives false)
+    (gives-as _ _ _ _ (MayStart f s) (IsSentIdle f s) (Adds (Started s ∷ [])) (Adds (Started s ∷ [])) (c.in_ok-start.ensures.gives false)
     (λ l sound stands at. idle-may_start l f s at) (λ l ns sound stands at is. is))
     (λ l ns sound at is after. idle-started l f s ns at is)
 
@@ -30,7 +30,7 @@ returns-then-dirty-clause-gives g c = λ told.
     let s = c.args.slot in
     gives-then _ _ _ _ _ _ (IsSentIdle f s) (IsUsed f) (λ l ns. (true ≡ is_stale l s) × (ns ≡ Started s ∷ [])) (Adds (Kept f WriteStarted ∷ []))
     (GoesOut f s)
-    (gives-as _ _ _ _ (MayStart s) (IsSentIdle f s) (Adds (Started s ∷ [])) (λ l ns. (true ≡ is_stale l s) × (ns ≡ Started s ∷ []))
+    (gives-as _ _ _ _ (MayStart f s) (IsSentIdle f s) (Adds (Started s ∷ [])) (λ l ns. (true ≡ is_stale l s) × (ns ≡ Started s ∷ []))
     (c.in_ok-start.ensures.gives told)
     (λ l sound stands at. idle-may_start l f s at)
     (λ l ns sound stands at is. (sym c.if-dirty.true ∙ c.is_dirty-dirty.ensures told l (loose _ _ l sound) stands s at.cached, is)))
@@ -44,7 +44,7 @@ drop_slot-requires g c =
       at.0,
       at.1,
       at.2,
-      idle-may_drop _ at.0 c.args.frame c.args.slot at.1 at.3
+      idle-may_drop at.0 c.args.frame c.args.slot at.3
           (sym c.if-dirty.false ∙ c.is_dirty-dirty.ensures false at.0 (loose _ _ at.0 at.1) at.2 c.args.slot at.3.cached),
     )
 
@@ -53,8 +53,8 @@ returns-clause-gives g c = λ told.
     let k = g.S.System.view c.args.system.now told in
     let f = c.args.frame in
     let s = c.args.slot in
-    gives-as _ _ _ _ (MayDrop s) (IsSentIdle f s) (Adds (Dropped s ∷ [])) (GoesOut f s) (c.in_ok-drop_slot.ensures.gives told)
-    (λ l sound stands at. idle-may_drop k.setting l f s sound at
+    gives-as _ _ _ _ (MayDrop f s) (IsSentIdle f s) (Adds (Dropped s ∷ [])) (GoesOut f s) (c.in_ok-drop_slot.ensures.gives told)
+    (λ l sound stands at. idle-may_drop l f s at
     (sym c.if-dirty.false ∙ c.is_dirty-dirty.ensures told l (loose _ _ l sound) stands s at.cached))
     (λ l ns sound stands at is. begun-clean l f s ns
     (sym c.if-dirty.false ∙ c.is_dirty-dirty.ensures told l (loose _ _ l sound) stands s at.cached) is)

@@ -5,7 +5,7 @@ use Rattle.av_plain.specs.Pass.{IsPass, out_of}
 use Rattle.av_evict.specs.Pass.{IsEnd, IsPassed}
 use Rattle.av_evict.specs.System.{Always, spares}
 use Rattle.av_evict.specs.declared.pass.SeekEnd.TheVariants.{Frame, Out}
-use Rattle.av_evict.proofs.OutLaws.{vain-out}
+use Rattle.av_evict.proofs.ShortageLaws.{vain-out}
 use Rattle.av_evict.proofs.SystemLaws.{at-knows, gives-at, gives-so, leaves-spares}
 use Rattle.av_evict.proofs.pass.direct.Goals as goal
 
@@ -19,8 +19,8 @@ returns-in-Some-clause-pass g c = λ told.
     (c.in_ok-pass.ensures.gives told)
     (λ l ns sound stands passed goes after. (
       passed.pass,
-      subst (λ m. (f < m.frames) × (is_free (after_notes l ns) f ≡ true)) goes.does.stays.setting
-          (c.in-Some.ensures.free told (after_notes l ns) after goes.does.stands),
+      subst (λ m. (f < m.frames) × (is_free (after_notes l ns) f ≡ true)) goes.happened.stays.setting
+          (c.in-Some.ensures.free told (after_notes l ns) after goes.happened.stands),
     ))
 
 pub out_of-requires : goal.out_of-requires
@@ -39,12 +39,12 @@ returns-in-None-clause-pass g c = λ told.
     (λ l ns. IsPass k.setting (spares k p) l ns × IsEnd k.setting (spares k p) (Out out) l ns)
     (c.in_ok-pass.ensures.gives told)
     (λ l ns sound stands passed goes after.
-    let none = subst (λ m. has_free m (after_notes l ns) ≡ false) goes.does.stays.setting
-    (c.in-None.ensures.free told (after_notes l ns) after goes.does.stands)
+    let none = subst (λ m. has_free m (after_notes l ns) ≡ false) goes.happened.stays.setting
+    (c.in-None.ensures.free told (after_notes l ns) after goes.happened.stands)
     in (
       passed.pass,
       vain-out k.setting (spares k p) l ns out sound (passed.vain none) none
-          (c.out_of.ensures told (after_notes l ns) after goes.does.stands
-          ∙ ap (λ m. out_of m (spares new p) (after_notes l ns)) goes.does.stays.setting
+          (c.out_of.ensures told (after_notes l ns) after goes.happened.stands
+          ∙ ap (λ m. out_of m (spares new p) (after_notes l ns)) goes.happened.stays.setting
           ∙ ap (λ x. out_of k.setting x (after_notes l ns)) (leaves-spares k new p (c.in_ok-pass.ensures.stays told))),
     ))

@@ -26,7 +26,7 @@ returns-then-has_free-clause-gives g c = λ told.
     gives-so _ _ _ _ Always (CompletesOf n) (IsPassed k.setting (spares k c.args.pinned)) (c.in_ok-complete.ensures.gives told)
     (λ l ns sound stands is goes after. passed-early k.setting (spares k c.args.pinned) l ns
     (completes-all l n ns (c.flight_len-flying.ensures told l (loose _ _ l sound) stands) is)
-    (ap (λ m. has_free m (after_notes l ns)) (sym goes.does.stays.setting) ∙ sym (c.has_free.ensures told (after_notes l ns) after goes.does.stands)
+    (ap (λ m. has_free m (after_notes l ns)) (sym goes.happened.stays.setting) ∙ sym (c.has_free.ensures told (after_notes l ns) after goes.happened.stands)
     ∙ c.if-has_free.true))
 
 pub returns-clause-gives : goal.returns-clause-gives
@@ -39,10 +39,10 @@ returns-clause-gives g c = λ told.
     (gives-so _ _ _ _ Always (CompletesOf n) (IsFlown k.setting (spares k c.args.pinned) mid.setting (spares mid c.args.pinned)) (c.in_ok-complete.ensures.gives told)
     (λ l ns sound stands is goes after. record {
       completes = completes-all l n ns (c.flight_len-flying.ensures told l (loose _ _ l sound) stands) is;
-      full = ap (λ m. has_free m (after_notes l ns)) (sym goes.does.stays.setting)
-          ∙ sym (c.has_free.ensures told (after_notes l ns) after goes.does.stands)
+      full = ap (λ m. has_free m (after_notes l ns)) (sym goes.happened.stays.setting)
+          ∙ sym (c.has_free.ensures told (after_notes l ns) after goes.happened.stands)
           ∙ c.if-has_free.false;
-      setting = goes.does.stays.setting;
+      setting = goes.happened.stays.setting;
       spared = leaves-spares k mid c.args.pinned (c.in_ok-complete.ensures.stays told);
     })) (c.in_ok-turns_if_any.ensures.gives told)
     (λ l ns sound ready flown after. completed-landed k.setting l ns sound flown.completes)

@@ -5,8 +5,8 @@ use Rattle.av_plain.specs.Event.{after_note}
 use Rattle.av_plain.specs.Pass.{end_note}
 use Rattle.av_evict.specs.Steps.{EndsFirst}
 use Rattle.av_evict.specs.System.{Adds, Always}
-use Rattle.av_evict.proofs.StepLaws.{ended-loose, ends-first, first-none, orphan-may_drop, orphan-notes}
-use Rattle.av_evict.proofs.SystemLaws.{at-knows, does-then, gives-as, loose, makes-gives}
+use Rattle.av_evict.proofs.StepLaws.{ended-cached, ended-loose, ends-first, orphan-may_drop, orphan-notes}
+use Rattle.av_evict.proofs.SystemLaws.{at-knows, happened-then, gives-as, loose, makes-gives}
 use Rattle.av_evict.proofs.steps.finish_first.Goals as goal
 
 pub finish-requires : goal.finish-requires
@@ -17,18 +17,24 @@ returns-in_default-clause-gives g c = λ told.
     gives-as _ _ c.args.notes.now c.args.notes.now Always Always (Adds []) (EndsFirst None)
     (makes-gives _ _ _ _ Always [] (c.in_default.ensures.ends told) (sym (append-nil _)) (λ l sound stands ready. sound))
     (λ l sound stands ready. ready)
-    (λ l ns sound stands ready is. (first-none l.flight (c.in_default.ensures.first told l (loose _ _ l sound) stands), is))
+    (λ l ns sound stands ready is. (c.in_default.ensures.first told l (loose _ _ l sound) stands, is))
 
 pub is_orphan-requires : goal.is_orphan-requires
 is_orphan-requires g c =
+    let f = c.in-Some.end.frame in
     let s = c.in-Some.end.slot in
     let failed = c.in-Some.end.failed in
     let l = c.requires.0 in
-    let ends = c.in-Some.ensures.ends false l (loose _ _ l c.requires.1) c.requires.2 tt in
-    (after_note (end_note failed s) l, ended-loose _ _ l s failed c.requires.1 ends, ends.stands, tt)
+    let ends = c.in-Some.ensures.ends false l (loose _ _ l c.requires.1) c.requires.2 tt in (
+      after_note (end_note failed s) l,
+      ended-loose _ _ l s failed c.requires.1 ends,
+      ends.stands,
+      ended-cached _ l f s failed c.requires.1 (c.in-Some.ensures.first false l (loose _ _ l c.requires.1) c.requires.2).1,
+    )
 
 pub drop_slot-requires : goal.drop_slot-requires
 drop_slot-requires g c =
+    let f = c.in-Some.end.frame in
     let s = c.in-Some.end.slot in
     let failed = c.in-Some.end.failed in
     let l = c.requires.0 in
@@ -37,11 +43,13 @@ drop_slot-requires g c =
       after_note (end_note failed s) l,
       mid,
       ends.stands,
-      orphan-may_drop _ s (sym (c.is_orphan.ensures false _ mid ends.stands) ∙ c.if-is_orphan.true),
+      orphan-may_drop _ f s (ended-cached _ l f s failed c.requires.1 (c.in-Some.ensures.first false l (loose _ _ l c.requires.1) c.requires.2).1)
+          (sym (c.is_orphan.ensures false _ mid ends.stands) ∙ c.if-is_orphan.true),
     )
 
 pub returns-else-is_orphan-clause-gives : goal.returns-else-is_orphan-clause-gives
 returns-else-is_orphan-clause-gives g c = λ told l sound stands ready.
+    let f = c.in-Some.end.frame in
     let s = c.in-Some.end.slot in
     let failed = c.in-Some.end.failed in
     let ends = c.in-Some.ensures.ends told l (loose _ _ l sound) stands tt in
@@ -52,14 +60,15 @@ returns-else-is_orphan-clause-gives g c = λ told l sound stands ready.
 
 pub returns-in_ok-push-2-clause-gives : goal.returns-in_ok-push-2-clause-gives
 returns-in_ok-push-2-clause-gives g c = λ told l sound stands ready.
+    let f = c.in-Some.end.frame in
     let s = c.in-Some.end.slot in
     let failed = c.in-Some.end.failed in
     let ends = c.in-Some.ensures.ends told l (loose _ _ l sound) stands tt in
     let mid = ended-loose _ _ l s failed sound ends in
     let orphan = sym (c.is_orphan.ensures told _ mid ends.stands) ∙ c.if-is_orphan.true in
-    let drops = c.drop_slot.ensures.makes told _ mid ends.stands (orphan-may_drop _ s orphan) in
+    let drops = c.drop_slot.ensures.makes told _ mid ends.stands (orphan-may_drop _ f s (ended-cached _ l f s failed sound (c.in-Some.ensures.first told l (loose _ _ l sound) stands).1) orphan) in
     ends-first _ _ c.args.notes.now _ l c.in-Some.end (end_note failed s ∷ Dropped s ∷ []) sound
     (c.in-Some.ensures.first told l (loose _ _ l sound) stands)
     (c.in_ok-push-2.ensures.ok ∙ ap (λ ns. ns ++ Dropped s ∷ []) (c.in_ok-push.ensures.ok ∙ ap (λ n. c.args.notes.now ++ n ∷ []) c.end_note.ensures)
     ∙ append_assoc c.args.notes.now (end_note failed s ∷ []) (Dropped s ∷ []))
-    (orphan-notes l s failed true (sym orphan)) (does-then _ _ _ l (end_note failed s ∷ []) (Dropped s ∷ []) ends drops)
+    (orphan-notes l s failed true (sym orphan)) (happened-then _ _ _ l (end_note failed s ∷ []) (Dropped s ∷ []) ends drops)

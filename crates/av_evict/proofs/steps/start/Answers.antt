@@ -7,5 +7,5 @@ use Rattle.av_evict.proofs.steps.start.Goals as goal
 
 pub returns-clause-gives : goal.returns-clause-gives
 returns-clause-gives g c =
-    λ told. makes-gives _ _ _ _ (MayStart c.args.slot) (Started c.args.slot ∷ []) (c.start.ensures.makes told) c.in_ok-push.ensures.ok
-    (λ l sound stands may. start-sound _ l c.args.slot sound may)
+    λ told. makes-gives _ _ _ _ (MayStart c.args.frame c.args.slot) (Started c.args.slot ∷ []) (c.start.ensures.makes told) c.in_ok-push.ensures.ok
+    (λ l sound stands may. start-sound _ l c.args.frame c.args.slot sound may)

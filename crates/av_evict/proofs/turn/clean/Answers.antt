@@ -2,16 +2,16 @@ use Rattle.std.proofs.Common.{◌∷◌, [], ◌∙◌, sym, false}
 use Rattle.av_trace.specs.declared.note.Note.TheVariants.{Started}
 use Rattle.av_plain.specs.Pass.{end_note}
 use Rattle.av_evict.specs.System.{Adds}
-use Rattle.av_evict.specs.Turn.{IsCleaned, IsSentTo, MayWrite}
+use Rattle.av_evict.specs.Turn.{IsCleaned, IsSentTo}
 use Rattle.av_evict.proofs.SystemLaws.{gives-as, gives-none, loose}
-use Rattle.av_evict.proofs.TurnLaws.{cleaned-none, cleaned-some, sent-below, sent-may_write}
+use Rattle.av_evict.proofs.TurnLaws.{cleaned-none, cleaned-some, sent-below}
 use Rattle.av_evict.proofs.turn.clean.Goals as goal
 
 pub is_dirty-requires : goal.is_dirty-requires
 is_dirty-requires g c = let at = c.requires in sent-below _ at.0 c.args.frame c.args.slot at.1 at.3
 
 pub write-requires : goal.write-requires
-write-requires g c = let at = c.requires in (at.0, at.1, at.2, sent-may_write at.0 c.args.frame c.args.slot at.3)
+write-requires g c = c.requires
 
 pub returns-then-not-is_dirty-clause-gives : goal.returns-then-not-is_dirty-clause-gives
 returns-then-not-is_dirty-clause-gives g c = λ told.
@@ -24,7 +24,7 @@ returns-clause-gives g c = λ told.
     let s = c.args.slot in
     let f = c.args.frame in
     let failed = c.in_ok-failed.failed in
-    gives-as _ _ _ _ (MayWrite s) (IsSentTo f s) (Adds (Started s ∷ end_note failed s ∷ [])) (IsCleaned s failed) (c.in_ok-failed.ensures.gives told)
-    (λ l sound stands at. sent-may_write l f s at)
+    gives-as _ _ _ _ (IsSentTo f s) (IsSentTo f s) (Adds (Started s ∷ end_note failed s ∷ [])) (IsCleaned s failed) (c.in_ok-failed.ensures.gives told)
+    (λ l sound stands at. at)
     (λ l ns sound stands at is. cleaned-some l s failed ns
     (sym c.if-not-is_dirty.false ∙ c.is_dirty.ensures told l (loose _ _ l sound) stands s at.cached) is)

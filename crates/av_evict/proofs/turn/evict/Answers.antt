@@ -12,7 +12,7 @@ drop_slot-requires g c =
     let k = g.S.System.view c.args.system.now false in
     let s = c.args.slot in
     let f = c.args.frame in
-    gives-at _ _ _ _ (IsSentTo f s) (MayDrop s) (IsCleaned s false) c.requires (rw c.if-failed.false at (c.in_ok-failed.ensures.gives false))
+    gives-at _ _ _ _ (IsSentTo f s) (MayDrop f s) (IsCleaned s false) c.requires (rw c.if-failed.false at (c.in_ok-failed.ensures.gives false))
     (λ l ns sound at clean after. cleaned-may_drop k.setting l f s ns at clean after)
 
 pub returns-then-failed-clause-gives : goal.returns-then-failed-clause-gives
@@ -23,7 +23,7 @@ returns-clause-gives g c = λ told.
     let k = g.S.System.view c.args.system.now told in
     let s = c.args.slot in
     let f = c.args.frame in
-    gives-then _ _ _ _ _ _ (IsSentTo f s) (MayDrop s) (IsCleaned s false) (Adds (Dropped s ∷ [])) (IsEvicted s true)
+    gives-then _ _ _ _ _ _ (IsSentTo f s) (MayDrop f s) (IsCleaned s false) (Adds (Dropped s ∷ [])) (IsEvicted s true)
     (rw c.if-failed.false at (c.in_ok-failed.ensures.gives told)) (c.in_ok-drop_slot.ensures.gives told)
     (λ l ns sound at clean after. cleaned-may_drop k.setting l f s ns at clean after)
     (λ l ns ms sound at clean is. evicted-some l s ns ms clean is)

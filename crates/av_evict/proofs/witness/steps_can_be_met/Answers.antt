@@ -10,7 +10,7 @@ use Rattle.av_plain.specs.Load.{after_loads, with_loads}
 use Rattle.av_plain.specs.Device.{Calls, WroteSome}
 use Rattle.av_plain.specs.Pass.{fails, pages_written}
 use Rattle.av_plain.specs.World.{World}
-use Rattle.av_evict.specs.System.{Does}
+use Rattle.av_evict.specs.System.{HasHappened}
 use Rattle.av_evict.specs.Witness.{IsStep, TakesNext, only_view, setting_told}
 use Rattle.av_evict.proofs.LockedLaws.{age-locked, drop-locked, end-locked, keep-locked, put-locked, start-locked, unmap-locked}
 use Rattle.av_evict.proofs.witness.steps_can_be_met.Goals as goal
@@ -36,7 +36,7 @@ calls_after calls note = (calls.0 + fails (note ∷ []), record calls.1 { writte
 met : (m : Setting) (closing : Option ℕ) (first : Option (ℕ → List ℕ)) (free : Free) (calls : Calls) (w : World) (r : Rmap) (l : Ledger)
     (note : Note) →
     (next : TakesNext m closing l free note) →
-    Does (only_view m closing first free calls w r l)
+    HasHappened (only_view m closing first free calls w r l)
     (only_view m closing first (free_after m closing free l note next) (calls_after calls note) (with_loads m w l (note_events (note ∷ [])))
     (rmap_after_all l (note_events (note ∷ [])) r) (after_note note l)) l (note ∷ [])
 met m closing first free calls w r l note next = record {
@@ -59,7 +59,7 @@ met m closing first free calls w r l note next = record {
 met_told : (m : Setting) (closing : Option ℕ) (first : Option (ℕ → List ℕ)) (free : Free) (calls : Calls) (w : World) (r : Rmap) (l : Ledger)
     (note : Note) →
     (next : TakesNext m closing l free note) → (told : Bool) →
-    Does (only_view (setting_told told m) closing (if told then first else None) free calls w r l)
+    HasHappened (only_view (setting_told told m) closing (if told then first else None) free calls w r l)
     (only_view (setting_told told m) closing (if told then first else None) (free_after m closing free l note next) (calls_after calls note)
     (with_loads (setting_told told m) w l (note_events (note ∷ []))) (rmap_after_all l (note_events (note ∷ [])) r) (after_note note l))
     l (note ∷ [])
@@ -118,10 +118,10 @@ returns c = λ m closing first free calls w r l note next. (
   calls_after calls note,
   λ told. with_loads (setting_told told m) w l (note_events (note ∷ [])),
   rmap_after_all l (note_events (note ∷ [])) r,
-  λ told. let does = met_told m closing first free calls w r l note next told in (
-    does,
+  λ told. let happened = met_told m closing first free calls w r l note next told in (
+    happened,
     λ step. record {
-      stays = does.stays;
+      stays = happened.stays;
       locked = ap (λ x. is_locked x (after_note note l)) (step-world (setting_told told m) w l note step) ∙ step-locked w l note step;
     },
   ),

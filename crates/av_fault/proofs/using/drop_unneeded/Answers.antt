@@ -1,7 +1,5 @@
-use Rattle.std.proofs.Common.{◌≡◌, ◌<◌, ◌==◌, not, ◌&&◌, false, IfSome, is_some, sym, ap, subst, ◌∙◌, arith}
-use Rattle.av_base.specs.Words.{is_in}
+use Rattle.std.proofs.Common.{◌<◌, ◌==◌, not, ◌&&◌, false, sym, ap, subst, ◌∙◌, arith}
 use Rattle.av_swapcache.specs.Swap.{is_flying, shown}
-use Rattle.av_swap_laws.specs.Steps.{view_drop}
 use Rattle.av_mem.specs.Mem.{view}
 use Rattle.av_fault.proofs.DropLaws.{drop-find, dropped-entries, has-dropped, in-use, needed-dropped, not-both, uncached-dropped}
 use Rattle.av_fault.proofs.using.drop_unneeded.Goals as goal
@@ -25,43 +23,23 @@ returns-then-in_flight-clause-dropped c = λ d w r l h.
 pub drop_slot-requires-clause-cached : goal.drop_slot-requires-clause-cached
 drop_slot-requires-clause-cached c =
     let b = c.requires.between in
-    ap is_some (drop-find b.0 c.args.mem.now b.1 b.2 b.3 b.4 c.args.frame c.in-Some.slot (sym c.slot.ensures ∙ c.in-Some.is))
+    drop-find b.0 c.args.mem.now b.1 b.2 b.3 b.4 c.args.frame c.in-Some.slot (sym c.slot.ensures ∙ c.in-Some.is)
 
 pub drop_slot-requires-clause-in_use : goal.drop_slot-requires-clause-in_use
 drop_slot-requires-clause-in_use c =
     let b = c.requires.between in
-    let old = c.args.mem.now in
-    let at = sym c.slot.ensures ∙ c.in-Some.is in
-    subst (λ o. IfSome o (λ f. is_in f (view old).free ≡ false)) (sym (drop-find b.0 old b.1 b.2 b.3 b.4 c.args.frame c.in-Some.slot at))
-    (in-use b.0 old b.1 b.2 b.3 b.4 c.args.frame c.in-Some.slot at c.requires.in_use)
+    in-use b.0 c.args.mem.now b.1 b.2 b.3 b.4 c.args.frame c.in-Some.slot (sym c.slot.ensures ∙ c.in-Some.is) c.requires.in_use
 
 pub returns-in_err-push-clause-entries : goal.returns-in_err-push-clause-entries
 returns-in_err-push-clause-entries c =
-    let b = c.requires.between in
-    let old = c.args.mem.now in
-    let s = c.in-Some.slot in
-    let at = sym c.slot.ensures ∙ c.in-Some.is in
-    dropped-entries old c.drop_slot.new.self c.args.frame s
-    (subst (λ o. IfSome o (λ f. view c.drop_slot.new.self ≡ view_drop f s (view old))) (drop-find b.0 old b.1 b.2 b.3 b.4 c.args.frame s at)
-    c.drop_slot.ensures.dropped)
+    dropped-entries c.args.mem.now c.drop_slot.new.self c.args.frame c.in-Some.slot c.drop_slot.ensures.dropped
 
 pub returns-clause-dropped : goal.returns-clause-dropped
 returns-clause-dropped c = λ d w r l h.
-    let old = c.args.mem.now in
-    let s = c.in-Some.slot in
     let at = sym c.slot.ensures ∙ c.in-Some.is in
-    has-dropped d old w r l h c.args.frame s at c.drop_slot.new.self c.drop_slot.ensures.parts
-    (subst (λ o. IfSome o (λ f. view c.drop_slot.new.self ≡ view_drop f s (view old))) (drop-find d old w r l h c.args.frame s at)
-    c.drop_slot.ensures.dropped)
+    has-dropped d c.args.mem.now w r l h c.args.frame c.in-Some.slot at c.drop_slot.new.self c.drop_slot.ensures.parts c.drop_slot.ensures.dropped
     (sym c.in_flight.ensures ∙ c.if-in_flight.false) (sym c.entries.ensures ∙ omega (arith, c.if-entries-gt0.false)) c.args.notes.now c.push.new.self
     c.in_ok-push.ensures.ok
 
 pub returns-clause-entries : goal.returns-clause-entries
-returns-clause-entries c =
-    let b = c.requires.between in
-    let old = c.args.mem.now in
-    let s = c.in-Some.slot in
-    let at = sym c.slot.ensures ∙ c.in-Some.is in
-    dropped-entries old c.drop_slot.new.self c.args.frame s
-    (subst (λ o. IfSome o (λ f. view c.drop_slot.new.self ≡ view_drop f s (view old))) (drop-find b.0 old b.1 b.2 b.3 b.4 c.args.frame s at)
-    c.drop_slot.ensures.dropped)
+returns-clause-entries c = dropped-entries c.args.mem.now c.drop_slot.new.self c.args.frame c.in-Some.slot c.drop_slot.ensures.dropped

@@ -26,7 +26,7 @@ empty_each-requires-clause-may g c =
     (λ l ns sound stands is goes after. completed k mid area us l ns sound
     (completes-all l n ns (c.flight_len-flying.ensures false l (loose _ _ l sound) stands) is) goes
     (subst (λ us. AreUsers mid.setting area us (after_notes l ns)) (sym c.deref.ensures.value)
-    (c.in_ok-users.ensures.users false (after_notes l ns) after goes.does.stands))))
+    (c.in_ok-users.ensures.users false (after_notes l ns) after goes.happened.stands))))
     (λ l ns sound ready q after. q.may)
 
 pub returns-clause-gives : goal.returns-clause-gives
@@ -44,7 +44,7 @@ returns-clause-gives g c = λ told.
     (λ l ns sound stands is goes after. completed k mid area us l ns sound
     (completes-all l n ns (c.flight_len-flying.ensures told l (loose _ _ l sound) stands) is) goes
     (subst (λ us. AreUsers mid.setting area us (after_notes l ns)) (sym c.deref.ensures.value)
-    (c.in_ok-users.ensures.users told (after_notes l ns) after goes.does.stands))))
+    (c.in_ok-users.ensures.users told (after_notes l ns) after goes.happened.stands))))
     (c.in_ok-end.ensures.gives told)
     (λ l ns sound ready q after. q.may)
     (λ l ns ms sound ready q rest. emptied-all k mid new area us end l ns ms q rest)

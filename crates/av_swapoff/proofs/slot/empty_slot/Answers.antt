@@ -31,4 +31,4 @@ returns-in_ok-map_back-in-In-clause-gives g c = λ told.
     (rw c.in-In.is at (c.in_ok-fetched.ensures.gives told)) (c.in_ok-map_back-in-In.ensures.gives told)
     (λ l ns sound may q after. fetched-in k.setting (spares k None) l s u f ns sound may q.0)
     (λ l ns ms sound may q back. emptied-both k.setting (spares k None) l s f ns ms q.0 back))
-    (λ l ns sound stands q goes after. (q, rose-plain (fails ns) k.failures new.failures goes.does.failures))
+    (λ l ns sound stands q goes after. (q, rose-plain (fails ns) k.failures new.failures goes.happened.failures))

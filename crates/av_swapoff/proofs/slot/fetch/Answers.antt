@@ -25,8 +25,8 @@ load-requires g c =
     (λ l ns sound stands q goes after. record {
       sought = record { absent = sym (c.in_default.ensures false l (loose _ _ l sound) stands); seeks = q.0 };
       free = has_free-some k.setting (after_notes l ns) f q.1.0 q.1.1;
-      same = goes.does.stays.setting;
-      rose = goes.does.failures;
+      same = goes.happened.stays.setting;
+      rose = goes.happened.failures;
     }))
     (λ l sound stands may. tt) (λ l ns sound stands may q. q))
     (λ l ns sound may q after. missing-may_load k mid l s u ns sound may q)
@@ -48,13 +48,13 @@ returns-in_ok-loaded-in-Frame-clause-gives g c = λ told.
     (λ l ns sound stands q goes after. record {
       sought = record { absent = sym (c.in_default.ensures told l (loose _ _ l sound) stands); seeks = q.0 };
       free = has_free-some k.setting (after_notes l ns) f q.1.0 q.1.1;
-      same = goes.does.stays.setting;
-      rose = goes.does.failures;
+      same = goes.happened.stays.setting;
+      rose = goes.happened.failures;
     }))
     (λ l sound stands may. tt) (λ l ns sound stands may q. q))
     (gives-so _ _ _ _ (MayLoad mid.setting s u) (IsLoaded mid.setting s loaded) (IsLoadedBy mid new s loaded)
     (c.in_ok-loaded-in-Frame.ensures.gives told)
-    (λ l ns sound stands q goes after. record { is = q; rose = goes.does.failures }))
+    (λ l ns sound stands q goes after. record { is = q; rose = goes.happened.failures }))
     (λ l ns sound may q after. missing-may_load k mid l s u ns sound may q)
     (λ l ns ms sound may q is. fetched-missing k mid new l s loaded fetched ns ms c.fetched_by.ensures
     (λ none. c.in_ok-loaded-in-Frame.ensures.cause none told) q is)

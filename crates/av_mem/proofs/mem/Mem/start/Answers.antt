@@ -7,4 +7,4 @@ pub returns-clause-started : goal.returns-clause-started
 returns-clause-started c =
     let old : Mem = c.args.self.now in
     let new : Mem = record old { frames = c.start.new.frames; swap = c.start.new.self } in
-    start-view old new c.args.slot (record { items = refl; tables = refl; spaces = refl; anons = refl }) refl c.start.ensures.swap _ c.start.ensures.frame
+    start-view old new c.args.frame c.args.slot (record { items = refl; tables = refl; spaces = refl; anons = refl }) refl c.start.ensures.swap c.start.ensures.frame

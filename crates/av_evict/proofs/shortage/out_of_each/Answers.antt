@@ -4,7 +4,7 @@ use Rattle.av_plain.specs.Pass.{has_turn, is_pinned, is_spared}
 use Rattle.av_evict.specs.System.{spares}
 use Rattle.av_evict.proofs.SeekLaws.{range-first}
 use Rattle.av_evict.proofs.StandingLaws.{counts-of, counts-once}
-use Rattle.av_evict.proofs.out.out_of_each.Goals as goal
+use Rattle.av_evict.proofs.shortage.out_of_each.Goals as goal
 
 pub loop-frame-preserved : goal.loop-frame-preserved
 loop-frame-preserved g c =

@@ -4,7 +4,7 @@ use Rattle.av_base.specs.Words.{how_many}
 use Rattle.av_plain.specs.Ledger.{is_merged, slot_of}
 use Rattle.av_plain.specs.Pass.{has_turn, is_pinned, is_spared}
 use Rattle.av_evict.specs.System.{Tells, spares}
-use Rattle.av_evict.proofs.out.out_of_each.Given as goal
+use Rattle.av_evict.proofs.shortage.out_of_each.Given as goal
 
 abbrev pub invariant-loop-frame : goal.invariant-loop-frame
 invariant-loop-frame g l = record {

@@ -3,7 +3,7 @@ use Rattle.av_trace.specs.declared.reply.OutOf.{OutOf}
 use Rattle.av_evict.specs.Standing.{pinned_adds}
 use Rattle.av_evict.specs.System.{spares}
 use Rattle.av_evict.proofs.CountLaws.{are-counts, counts-are}
-use Rattle.av_evict.proofs.out.out_of_counts.Goals as goal
+use Rattle.av_evict.proofs.shortage.out_of_counts.Goals as goal
 
 pub overflow_sub-unmerged : goal.overflow_sub-unmerged
 overflow_sub-unmerged g c =
