@@ -70,7 +70,7 @@ pub trait System {
         requires stands { Knows (view self.now false) Always }
         ensures { (told : Bool) → result ≡ (view self.now told).locked frame };
 
-    /// Whether any area is locked. Where none is, no frame is.
+    /// Whether a frame may be locked: where this says no, none is.
     fn any_locked(&self) -> bool
         requires { Knows (view self.now false) Always }
         ensures { (told : Bool) → result ≡ false → (f : ℕ) → (view self.now told).locked f

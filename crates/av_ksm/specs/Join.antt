@@ -1,5 +1,6 @@
 -- What it makes of the view that a frame is merged, and that a page joins it.
-use Rattle.std.specs.Prelude.{◌≡◌, ℕ, ◌+◌, ◌-◌, ◌==◌, if◌then◌else◌, Bool, false, Option, Some, None}
+use Rattle.std.specs.Prelude.{◌≡◌, ℕ, ◌+◌, ◌-◌, ◌==◌, if◌then◌else◌, Bool, false, Option, Some}
+use Rattle.std.specs.Prelude.{None}
 use Rattle.av_base.specs.Items.{Item}
 use Rattle.av_base.specs.Keys.{Key}
 use Rattle.av_base.specs.Words.{with_at}

@@ -29,8 +29,8 @@ impl Mem {
         self.items.is_merged(frame)
     }
 
-    /// Whether a page whose entry names the frame is locked. It looks at no area where no area is
-    /// locked.
+    /// Whether a page whose entry names the frame is locked. Where no area is locked it is meant to
+    /// look at none; nobody counts its looks.
     pub fn is_locked(&self, frame: u32) -> bool
         requires anons { AnonsFit self.now.spaces self.now.anons }
         requires itemed { HasItems self.now }
@@ -43,7 +43,7 @@ impl Mem {
         self.spaces.by_number().any_locked() && self.has_locked::<Brand>(frame, Blank::new(1))
     }
 
-    // The same. Nobody counts the looks.
+    // The same.
     fn has_locked<L: Ledger>(&self, frame: u32, blank: Blank) -> bool
         requires name { blank.name ≡ L.name }
         requires parts { blank.parts ≡ L.parts }

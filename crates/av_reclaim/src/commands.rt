@@ -1,6 +1,6 @@
 //! The commands of reclaim, and the search for a free frame, over the memory system and its device.
 
-ghost use Rattle.std.specs.Prelude.{◌≡◌, IfOk, None, OnOk, []};
+ghost use Rattle.std.specs.Prelude.{◌≡◌, IfOk, None, []};
 ghost use Rattle.av_trace.specs.declared.reply.Answer.TheVariants.{Done};
 ghost use Rattle.av_plain.specs.Device.{IsSameDevice, seen_by};
 ghost use Rattle.av_plain.specs.Event.{note_events};
@@ -8,9 +8,9 @@ ghost use Rattle.av_plain.specs.Fault.{sparing};
 ghost use Rattle.av_plain.specs.Pass.{Seeks};
 ghost use Rattle.av_plain.specs.Reclaim.{Ages, CompletesFirst, Reclaims};
 ghost use Rattle.av_evict.specs.Pass.{IsEnd, IsNext};
-ghost use Rattle.av_mem.specs.Between.{WhateverStood, IsBetween};
+ghost use Rattle.av_mem.specs.Between.{IsBetween, WhateverStood};
 ghost use Rattle.av_mem.specs.Mem.{frame_count, view};
-ghost use Rattle.av_reclaim.specs.Commands.{HasAdded};
+ghost use Rattle.av_reclaim.specs.Commands.{AddsNotes, HasAdded};
 
 use crate::driver::Driver;
 use av_evict::SeekEnd;
@@ -29,14 +29,9 @@ pub fn reclaim<D: SwapDev>(
     notes: &mut Notes,
 ) -> Result<(), AllocError>
     requires { IsBetween (D.sizes dev.old) mem.old }
-    ensures reclaims { OnOk result (WhateverStood
-        (seen_by D.sizes D.pages D.failures D.history dev.old)
-        (seen_by D.sizes D.pages D.failures D.history dev.new) mem.old (λ d d' w r l.
-        HasAdded (λ m w l added. Reclaims m w l count (note_events added) Done [])
-        d d' mem.old mem.new w r l notes.old notes.new)) }
-    ensures same { IsSameDevice (seen_by D.sizes D.pages D.failures D.history dev.old)
-        (seen_by D.sizes D.pages D.failures D.history dev.new) }
-    ensures count { frame_count mem.new ≡ frame_count mem.old }
+    ensures { let d = seen_by D.sizes D.pages D.failures D.history in AddsNotes
+        (λ m w l added. Reclaims m w l count (note_events added) Done [])
+        (d dev.old) (d dev.new) mem.old mem.new notes.old notes.new result }
 {
     let mut driver = Driver { mem, dev };
     av_evict::reclaim(&mut driver, count, notes)?;
@@ -52,14 +47,9 @@ pub fn age<D: SwapDev>(
     notes: &mut Notes,
 ) -> Result<(), AllocError>
     requires { IsBetween (D.sizes dev.old) mem.old }
-    ensures ages { OnOk result (WhateverStood
-        (seen_by D.sizes D.pages D.failures D.history dev.old)
-        (seen_by D.sizes D.pages D.failures D.history dev.new) mem.old (λ d d' w r l.
-        HasAdded (λ m w l added. Ages l count (note_events added) Done [])
-        d d' mem.old mem.new w r l notes.old notes.new)) }
-    ensures same { IsSameDevice (seen_by D.sizes D.pages D.failures D.history dev.old)
-        (seen_by D.sizes D.pages D.failures D.history dev.new) }
-    ensures count { frame_count mem.new ≡ frame_count mem.old }
+    ensures { let d = seen_by D.sizes D.pages D.failures D.history in AddsNotes
+        (λ m w l added. Ages l count (note_events added) Done [])
+        (d dev.old) (d dev.new) mem.old mem.new notes.old notes.new result }
 {
     let mut driver = Driver { mem, dev };
     av_evict::age(&mut driver, count, notes)?;
@@ -75,14 +65,9 @@ pub fn complete<D: SwapDev>(
     notes: &mut Notes,
 ) -> Result<(), AllocError>
     requires { IsBetween (D.sizes dev.old) mem.old }
-    ensures completes { OnOk result (WhateverStood
-        (seen_by D.sizes D.pages D.failures D.history dev.old)
-        (seen_by D.sizes D.pages D.failures D.history dev.new) mem.old (λ d d' w r l.
-        HasAdded (λ m w l added. CompletesFirst l count (note_events added) Done [])
-        d d' mem.old mem.new w r l notes.old notes.new)) }
-    ensures same { IsSameDevice (seen_by D.sizes D.pages D.failures D.history dev.old)
-        (seen_by D.sizes D.pages D.failures D.history dev.new) }
-    ensures count { frame_count mem.new ≡ frame_count mem.old }
+    ensures { let d = seen_by D.sizes D.pages D.failures D.history in AddsNotes
+        (λ m w l added. CompletesFirst l count (note_events added) Done [])
+        (d dev.old) (d dev.new) mem.old mem.new notes.old notes.new result }
 {
     let mut driver = Driver { mem, dev };
     av_evict::complete(&mut driver, count, notes)?;

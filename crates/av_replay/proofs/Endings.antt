@@ -15,7 +15,7 @@ use Rattle.av_ports.specs.declared.run_err.RunErr.{RunErr}
 use Rattle.av_ports.specs.declared.run_err.RunErr.TheVariants as errors
 use Rattle.av_ports.specs.Ports.{PortsView, OnlySink, undone, AreFlushed, AreUnfailed, ReadsOn, IsAtEnd, IsReadFault}
 use Rattle.av_ports.specs.Line.{IsLine}
-use Rattle.av_replay.specs.Turn.{Begins, Commands, IsEnding, TakesLine, Waits, CutsShort, IsUnflushed, Halts, DoesNext, FindsEnd, Finishes, pages_of_run}
+use Rattle.av_replay.specs.Turn.{Begins, Commands, HandsDeviceNext, IsEnding, TakesLine, Waits, CutsShort, IsUnflushed, Halts, DoesNext, FindsEnd, Finishes, pages_of_run}
 use Rattle.av_replay.specs.Replay.{most_lines, all_lines, Transcribes, Run, done_lines, Replays, IsHandedBack, StopsAt, MayGoOn, IsCutOff, Ends, status_at, Headline, can_go_on, kernel_at, FailsOnlyAt, FailsUntold, IsFlushed, DoesTrace, FlushesLast}
 use Rattle.av_ports.proofs.Bytes.{Took-none, Took-ahead, Gained-none}
 use Rattle.av_ports.proofs.Times.{failed_since, read_fault_since, flushed_none, only_sink}
@@ -24,6 +24,11 @@ use Rattle.av_replay.proofs.Runs.{rose_none, rose_on, Past, whole, SoFar, longer
 use Rattle.av_plain.proofs.Wrote.{device-itself, device-on, wrote-none, wrote-same, wrote-then}
 use Rattle.av_base.specs.declared.slot.Slot.{Slot}
 use Rattle.av_swapdev.specs.Device.{History}
+
+-- where memory wasn't wanting all was told
+pub only_told : {status : Status} {P : Type 0} {ps : List Slot} → status ≢ statuses.Memory → (ps ≡ []) ⊎ ((status ≡ statuses.Memory) × P) → ps ≡ []
+only_told not (inl told) = told
+only_told not (inr wanting) = absurd (not wanting.0)
 
 -- ---- what the end of a turn leaves
 
@@ -45,7 +50,7 @@ headline n status rest old new kernel run written leaves ends = record {
   written = written;
   replays = leaves.replays;
   ends = ends;
-  told = λ any. leaves.told;
+  told = inl leaves.told;
   handed_back = hands_if (can_go_on status) (λ k. IsHandedBack k new.device n run) kernel leaves.left;
 }
 
@@ -67,6 +72,7 @@ begun_of ahead rest now new reads = record {
   same = reads.same;
   held = reads.held;
   device = still now.device new.device reads.device;
+  used = inl reads.device;
   near = reads.near;
 }
 
@@ -286,18 +292,44 @@ read_fault n past ahead rest old now new k k' so_far few may waits part failed =
       read_fault_since old.source now.source new.source so_far.unfailed.source so_far.stays_open failed,
     )
 
-memory : (n : ℕ) (past : Past) (ahead rest : List ℕ) (old now new : PortsView) (k k' : Machine) → SoFar n past ahead old now k
-    → length past.lines < most_lines →
-    Begins ahead rest now new ⊎ CutsShort ahead now new k k' → Headline n statuses.Memory old new None
-memory n past ahead rest old now new k k' so_far few (inl reads) = record {
+-- where the device is as it was
+begun_still : (ahead rest : List ℕ) (now new : PortsView) → Begins ahead rest now new → new.device ≡ now.device → Begins ahead rest now new
+begun_still ahead rest now new begun same = record {
+  same = begun.same;
+  held = begun.held;
+  device = still now.device new.device same;
+  used = begun.used;
+  near = begun.near;
+}
+
+-- memory was wanting for a line that was begun
+memory_begun : (n : ℕ) (past : Past) (ahead rest : List ℕ) (old now new : PortsView) (k : Machine) → SoFar n past ahead old now k
+    → length past.lines < most_lines → Begins ahead rest now new → (new.device ≡ now.device) ⊎ HandsDeviceNext rest new.source
+    → Headline n statuses.Memory old new None
+unfolding waited begun_still still
+memory_begun n past ahead rest old now new k so_far few begun (inl same) = record {
   run = whole past;
   rest = rest;
   written = text_of_run past.transcript;
-  replays = waited n past ahead rest old now new k so_far (omega arith) reads;
+  replays = waited n past ahead rest old now new k so_far (omega arith) (begun_still ahead rest now new begun same);
   ends = inl refl;
-  told = λ other. absurd (other refl);
+  told = inl refl;
   handed_back = tt;
 }
+memory_begun n past ahead rest old now new k so_far few begun (inr hands) = record {
+  run = whole past;
+  rest = rest;
+  written = text_of_run past.transcript;
+  replays = waited n past ahead rest old now new k so_far (omega arith) begun;
+  ends = inl refl;
+  told = inr (refl, hands);
+  handed_back = tt;
+}
+
+memory : (n : ℕ) (past : Past) (ahead rest : List ℕ) (old now new : PortsView) (k k' : Machine) → SoFar n past ahead old now k
+    → length past.lines < most_lines →
+    Begins ahead rest now new ⊎ CutsShort ahead now new k k' → Headline n statuses.Memory old new None
+memory n past ahead rest old now new k k' so_far few (inl begun) = memory_begun n past ahead rest old now new k so_far few begun begun.used
 memory n past ahead rest old now new k k' so_far few (inr cut) =
     let c = cuts n past ahead old now new k k' so_far few cut in
     headline n statuses.Memory c.rest old new k' c.run c.written c.leaves (inr c.cut)
@@ -377,7 +409,7 @@ nothing_done n ports = record {
       device = device-itself ports.device;
     };
     ends = inl refl;
-    told = λ other. refl;
+    told = inl refl;
     handed_back = tt;
   };
   unfailed = (refl, inl refl);
@@ -460,7 +492,7 @@ module _ (n : ℕ) (old now : PortsView) (kernel : Machine) (sink : SinkView) wh
             written = written;
             replays = replays_flush run rest written keeps.held replays;
             ends = (inr (record { untold = untold.0; whole = whole; status = status; stops = stops }), untold.1);
-            told = λ any. told;
+            told = inl told;
             handed_back = left;
           };
           unfailed = was.source;
@@ -499,16 +531,16 @@ module _ (n : ℕ) (old now : PortsView) (kernel : Machine) (sink : SinkView) wh
   replayed statuses.Done last (inl f) h was memory so none =
       named statuses.Done last f.0 (served was so statuses.Done f.1 h h.ends (unfailed was so f.1) (handed_on old now sink so f.1))
   replayed statuses.Done last (inr f) h was memory so none =
-      named statuses.WriteFault last f.0 (unflushed was so statuses.Done h.run h.rest h.written h.replays (h.told (λ e. cc)) h.handed_back h.ends.0 h.ends.1 f.1)
+      named statuses.WriteFault last f.0 (unflushed was so statuses.Done h.run h.rest h.written h.replays (only_told (λ e. cc) h.told) h.handed_back h.ends.0 h.ends.1 f.1)
   replayed (statuses.BadLine number) last (inl f) h was memory so none = named (statuses.BadLine number) last f.0
       (served was so (statuses.BadLine number) f.1 h h.ends (unfailed was so f.1) (handed_on old now sink so f.1))
   replayed (statuses.BadLine number) last (inr f) h was memory so none =
       named statuses.WriteFault last f.0
-      (unflushed was so (statuses.BadLine number) h.run h.rest h.written h.replays (h.told (λ e. cc)) h.handed_back h.ends.0 h.ends.1 f.1)
+      (unflushed was so (statuses.BadLine number) h.run h.rest h.written h.replays (only_told (λ e. cc) h.told) h.handed_back h.ends.0 h.ends.1 f.1)
   replayed statuses.TooMany last (inl f) h was memory so none =
       named statuses.TooMany last f.0 (served was so statuses.TooMany f.1 h h.ends (unfailed was so f.1) (handed_on old now sink so f.1))
   replayed statuses.TooMany last (inr f) h was memory so none =
-      named statuses.WriteFault last f.0 (unflushed was so statuses.TooMany h.run h.rest h.written h.replays (h.told (λ e. cc)) h.handed_back h.ends.0 h.ends.1 f.1)
+      named statuses.WriteFault last f.0 (unflushed was so statuses.TooMany h.run h.rest h.written h.replays (only_told (λ e. cc) h.told) h.handed_back h.ends.0 h.ends.1 f.1)
   replayed statuses.Usage last f h was memory so none = absurd h.ends.0
   replayed statuses.AttachFault last f h was memory so none = absurd h.ends.0
   replayed statuses.ReadFault last f h was memory so none =

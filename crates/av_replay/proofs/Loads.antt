@@ -1,5 +1,5 @@
 -- What a replay of a load says of it.
-use Rattle.std.proofs.Common.{◌≡◌, ◌≢◌, ℕ, ◌+◌, ◌<◌, ◌≤◌, List, [], ◌++◌, Option, Some, None, length, false, true, refl, sym, ap, subst, ◌∙◌, arith, inl, inr}
+use Rattle.std.proofs.Common.{◌≡◌, ◌≢◌, ◌⊎◌, ℕ, ◌+◌, ◌<◌, ◌≤◌, List, [], ◌++◌, Option, Some, None, length, false, true, refl, sym, ap, subst, ◌∙◌, arith, inl, inr}
 use Rattle.std.specs.Prelude.{IfSome, unwrap_or}
 use Rattle.std.proofs.lemmas.Bool.{false≢true}
 use Rattle.av_io.specs.Count.{one_more}
@@ -16,21 +16,23 @@ use Rattle.av_replay.specs.Over.{RunsOverAreas, ReplaysOver, WorksOver}
 use Rattle.av_ports.specs.Line.{IsLine}
 use Rattle.av_ports.specs.Ports.{IsAtEnd, PortsView}
 use Rattle.av_replay.specs.Replay.{Ends, Headline, IsHandedBack, Run, all_lines, can_go_on, kernel_at}
-use Rattle.av_replay.specs.Summary.{EndsText, EndsWork, SumsUp, Works, summary_of, summary_text}
+use Rattle.av_replay.specs.Summary.{EndsText, EndsWork, HandsDeviceFirst, SumsUp, Works, summary_of, summary_text}
+use Rattle.av_replay.specs.Turn.{HandsDevice, HandsDeviceNext}
 use Rattle.av_replay.specs.Trace.{IsDoneOrMemory}
 use Rattle.av_words.specs.Words.{most_load, most_names}
 use Rattle.av_replay.specs.Work.{load_lines}
-use Rattle.av_replay.proofs.Endings.{hands_if}
-use Rattle.av_replay.proofs.LoadFront.{front}
+use Rattle.av_replay.proofs.Endings.{hands_if, only_told}
+use Rattle.av_replay.proofs.LoadFront.{Front, front}
 use Rattle.av_replay.proofs.LoadLines.{is-trace, load-count, load-lines}
-use Rattle.av_replay.proofs.Traces.{complete}
+use Rattle.av_replay.proofs.Traces.{IsFirst, complete}
+use Rattle.av_base.specs.declared.slot.Slot.{Slot}
 
 -- some lines of a load were done, all of them unless memory was wanting, and the kernel stands for what they leave
 pub record Loaded (n : ℕ) (lines : List (List ℕ)) (status : Status) (device device' : Device) (kernel : Option Machine) : Type 0 where
   pub run : Run
   pub others : List (List ℕ)
   pub works : Works n lines device device' run others
-  pub told : status ≢ statuses.Memory → works.untold ≡ []
+  pub told : (works.untold ≡ []) ⊎ ((status ≡ statuses.Memory) × HandsDeviceFirst others)
   pub ends : IsDoneOrMemory status
   pub all : status ≡ statuses.Done → others ≡ []
   pub handed_back : IfSome kernel (λ k. IsHandedBack k device' n run)
@@ -44,6 +46,17 @@ ended-last (Some line) rest source is = (is.0, is.1, is.2, is.3.ended)
 -- a count that stands at nothing did not rise
 unrisen : (a b : ℕ) → a ≡ 0 → b ≡ 0 → b ≡ one_more a → ⊥
 unrisen a b none still rose = omega (arith, none, still, rose)
+
+hands_first : (line : List ℕ) (lines : List (List ℕ)) → IsFirst line lines → HandsDevice line → HandsDeviceFirst lines
+hands_first line lines first hands = subst HandsDeviceFirst (sym first.are) hands
+
+-- the line that stands next is the first that wasn't done
+told_so : {load done : List (List ℕ)} {ps : List Slot} (status : Status) (rest : List ℕ) (source : SourceView) (left' : Option (List ℕ))
+    (f : Front load done rest left') → source.left ≡ left' → (ps ≡ []) ⊎ ((status ≡ statuses.Memory) × HandsDeviceNext rest source)
+    → (ps ≡ []) ⊎ ((status ≡ statuses.Memory) × HandsDeviceFirst f.others)
+told_so status rest source left' f left (inl told) = inl told
+told_so status rest source left' f left (inr (memory, line, is, hands, stands)) =
+    inr (memory, hands_first line f.others (f.next line source left is stands) hands)
 
 pub loaded : (n areas seed lines : ℕ) (status : Status) (old new : PortsView) (kernel : Option Machine) → areas ≤ most_names → lines ≤ most_load →
     old.source.left ≡ Some (all_lines (load_lines areas seed lines)) → old.source.failures ≡ 0 → new.source.failures ≡ 0 → old.sink.failures ≡ 0 →
@@ -66,7 +79,7 @@ loaded n areas seed lines status old new kernel few short left source source' si
         asked = r.asked;
         device = r.device;
       };
-      told = h.told;
+      told = told_so status h.rest new.source new.source.left f refl h.told;
       ends = complete n status old new kernel h (all_lines ls) left (is-trace areas seed lines few short)
           (λ rose. unrisen old.source.failures new.source.failures source source' rose)
           (λ failed. unrisen old.sink.failures new.sink.failures sink sink' failed.failures);
@@ -86,14 +99,18 @@ pub loaded-over : (n seed lines : ℕ) (names : List (List ℕ)) (status : Statu
     old.source.left ≡ Some (all_lines (load_lines (length names) seed lines)) → old.source.failures ≡ 0 → new.source.failures ≡ 0 → old.sink.failures ≡ 0 →
     new.sink.failures ≡ 0 → ReplaysOver n names status old new kernel →
     RunsOverAreas names status old.device (λ attached. Loaded n (load_lines (length names) seed lines) status attached new.device kernel)
+    (λ attached. (new.device ≡ attached) × (kernel ≡ None))
 loaded-over n seed lines names status old new kernel few short left source source' sink sink' over = record {
   pages = over.pages;
   few = over.few;
-  all = over.all;
   attached = over.attached;
   attaches = over.attaches;
   failed = over.failed;
   tries = over.tries;
+  all = elim over.all [
+    | inl all ↦ inl all
+    | inr wanting ↦ inr (wanting.0, ap (λ (p : PortsView). p.device) wanting.1.0, wanting.1.1)
+  ];
   does = loaded n (length names) seed lines status (record old { device = over.attached }) new kernel few short left source source' sink sink'
       over.does.headline;
 }
@@ -114,16 +131,17 @@ stopped status stops done = absurd (false≢true (stops ∙ ap can_go_on done))
 -- memory was wanting before every line was done, and nothing is written
 pub wanting : (n seed lines : ℕ) (names : List (List ℕ)) (status : Status) (sink : SinkView) (device device' : Device) (kernel : Option Machine)
     → status ≢ statuses.Done →
-    RunsOverAreas names status device (λ attached. Loaded n (load_lines (length names) seed lines) status attached device' kernel) →
+    RunsOverAreas names status device (λ attached. Loaded n (load_lines (length names) seed lines) status attached device' kernel)
+    (λ attached. (device' ≡ attached) × (kernel ≡ None)) →
     WorksOver seed lines n names status sink sink device device' kernel
 wanting n seed lines names status sink device device' kernel not over = record {
   pages = over.pages;
   few = over.few;
-  all = over.all;
   attached = over.attached;
   attaches = over.attaches;
   failed = over.failed;
   tries = over.tries;
+  all = elim over.all [ inl all ↦ inl all | inr wanting ↦ inr (wanting.0, refl, wanting.1) ];
   does = record {
     run = over.does.run;
     others = over.does.others;
@@ -149,7 +167,8 @@ never-attaches status old new text (inr ends) fault = absurd (subst (λ (s : Sta
 -- every line was done, and then this summary was written
 pub summed : (n seed lines total : ℕ) (names : List (List ℕ)) (status last : Status) (old new : SinkView) (device device' device'' : Device) (kernel : Machine) →
     status ≡ statuses.Done → total ≡ length names + 2 + lines → device'' ≡ device' →
-    RunsOverAreas names status device (λ attached. Loaded n (load_lines (length names) seed lines) status attached device' (Some kernel)) →
+    RunsOverAreas names status device (λ attached. Loaded n (load_lines (length names) seed lines) status attached device' (Some kernel))
+    (λ attached. (device' ≡ attached) × (Some kernel ≡ None)) →
     ((s : State) → Stands kernel device' s →
     SumsUp last old new (summary_text total kernel.tally (totals (setting_of kernel.frames device') s.world s.ledger))) →
     WorksOver seed lines n names last old new device device'' (kernel_at last kernel)
@@ -164,16 +183,16 @@ summed n seed lines total names status last old new device device' device'' kern
     subst (λ (d : Device). WorksOver seed lines n names last old new device d (kernel_at last kernel)) (sym same) (record {
       pages = over.pages;
       few = over.few;
-      all = λ _. over.all (λ memory. absurd (done-is-no-memory status done memory));
       attached = over.attached;
       attaches = over.attaches;
       failed = over.failed;
       tries = over.tries;
+      all = elim over.all [ inl all ↦ inl all | inr stays ↦ absurd (done-is-no-memory status done stays.0) ];
       does = record {
         run = run;
         others = over.does.others;
         works = over.does.works;
-        told = λ any. over.does.told (done-is-no-memory status done);
+        told = inl (only_told (done-is-no-memory status done) over.does.told);
         ends = ends-work last old new over.does.others _ (over.does.all done)
             (subst (λ (text : List ℕ). SumsUp last old new text) is (sums run.state left.stands));
         handed_back = hands_if (can_go_on last) (λ k. IsHandedBack k device' n run) kernel left;

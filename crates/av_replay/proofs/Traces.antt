@@ -12,7 +12,7 @@ use Rattle.av_replay.specs.declared.status.Status.{Status}
 use Rattle.av_replay.specs.declared.status.Status.TheVariants as statuses
 use Rattle.av_io.specs.Source.{SourceView, Took, HasEnded}
 use Rattle.av_ports.specs.Line.{IsLine, IsNoNewline, HasNoNewline}
-use Rattle.av_replay.specs.Turn.{IsBad}
+use Rattle.av_replay.specs.Turn.{IsBad, StandsNext}
 use Rattle.av_ports.specs.Ports.{PortsView, IsAtEnd}
 use Rattle.av_plain.specs.Transcript.{text_of_run}
 use Rattle.av_replay.specs.Replay.{most_lines, all_lines, done_lines, Transcribes, Replays, Run, Headline}
@@ -101,6 +101,25 @@ pub ended_is_nil : (left' : Option (List ℕ)) (more : List ℕ) → left' ≡ S
 ended_is_nil None more e ended = absurd cc
 ended_is_nil (Some rest) more e ended = sym (same_Some _ _ e) ∙ ended
 
+-- the first of some lines
+pub record IsFirst (line : List ℕ) (lines : List (List ℕ)) : Type 0 where
+  pub others : List (List ℕ)
+  pub are : lines ≡ line ∷ others
+
+-- the line that stands next is the first of those that are left
+pub line_next : (line rest more : List ℕ) (source : SourceView) → source.left ≡ Some more → IsLine line → StandsNext line rest source
+    → IsFirst line (lines_of (rest ++ more))
+line_next line rest more source left is (inl newline) = record {
+  others = lines_of (newline.0 ++ more);
+  are = ap (λ (r : List ℕ). lines_of (r ++ more)) newline.1 ∙ ap lines_of (append_assoc line (10 ∷ newline.0) more)
+      ∙ lines_of-line line (newline.0 ++ more) is.one;
+}
+line_next line rest more source left is (inr last) = record {
+  others = [];
+  are = ap lines_of (ap (λ (m : List ℕ). rest ++ m) (ended_is_nil source.left more left last.2.ended) ∙ append-nil rest ∙ last.0)
+      ∙ lines_of-last line is.one last.1;
+}
+
 -- the first of some lines, which isn't good
 pub record FirstIsBad (lines : List (List ℕ)) : Type 0 where
   pub line : List ℕ
@@ -116,20 +135,9 @@ bad_next rest more source left (inl long) =
     ∙ append_assoc front (drop 8449 rest) more in
     let f = starts_long front (drop 8449 rest ++ more) long.one (omega (arith, len)) in
     record { line = f.line; others = f.others; are = ap lines_of parts ∙ f.are; bad = λ good. omega (arith, good.is_line.short, f.long, len) }
-bad_next rest more source left (inr (line, is, nothing, inl newline)) = record {
-  line = line;
-  others = lines_of (newline.0 ++ more);
-  are = ap (λ (r : List ℕ). lines_of (r ++ more)) newline.1 ∙ ap lines_of (append_assoc line (10 ∷ newline.0) more)
-      ∙ lines_of-line line (newline.0 ++ more) is.one;
-  bad = λ good. nothing good.said good.says;
-}
-bad_next rest more source left (inr (line, is, nothing, inr last)) = record {
-  line = line;
-  others = [];
-  are = ap lines_of (ap (λ (m : List ℕ). rest ++ m) (ended_is_nil source.left more left last.2.ended) ∙ append-nil rest ∙ last.0)
-      ∙ lines_of-last line is.one last.1;
-  bad = λ good. nothing good.said good.says;
-}
+bad_next rest more source left (inr (line, is, nothing, stands)) =
+    let next = line_next line rest more source left is stands in
+    record { line = line; others = next.others; are = next.are; bad = λ good. nothing good.said good.says }
 
 pub not_bad : (lines : List (List ℕ)) (rest content : List ℕ) (source : SourceView) → AllByRecursion IsLine lines →
     Took (Some content) source.left (all_lines lines ++ rest) → All IsGood (lines_of content) → IsBad rest source → ⊥

@@ -1,5 +1,5 @@
 -- A line that a turn takes, and why a turn halts.
-use Rattle.std.proofs.Common.{◌≡◌, ℕ, ◌+◌, ◌<◌, List, [], ◌∷◌, ◌++◌, length, take, drop, Option, refl, sym, ap, subst, ◌∙◌, append_assoc, append-nil, arith, inl, inr, length-drop}
+use Rattle.std.proofs.Common.{◌≡◌, ℕ, ◌+◌, ◌<◌, List, [], ◌∷◌, ◌++◌, ◌⊎◌, length, take, drop, Option, Some, Bool, true, false, refl, sym, ap, subst, ◌∙◌, append_assoc, append-nil, arith, inl, inr, length-drop}
 use Rattle.std.specs.Prelude.{option_map}
 use Rattle.std.proofs.lemmas.List.{take_all, drop_all}
 use Rattle.av_kernel.specs.Machine.{Machine}
@@ -10,11 +10,30 @@ use Rattle.av_ports.specs.declared.line.Line.{Line}
 use Rattle.av_ports.specs.declared.run_err.RunErr.{RunErr}
 use Rattle.av_ports.specs.declared.run_err.RunErr.TheVariants as errors
 use Rattle.av_ports.specs.Ports.{PortsView, AreUnfailed, IsAtEnd, ReadsOn, Writes}
-use Rattle.av_replay.specs.Turn.{Begins, LeavesSource}
+use Rattle.std.proofs.lemmas.Bool.{cases_Bool}
+use Rattle.av_trace.specs.Line.{Says}
+use Rattle.av_trace.specs.declared.command.Command.{Command}
+use Rattle.av_kernel.specs.Step.{has_device}
+use Rattle.av_replay.specs.KernelPorts.{OnlyDevice}
+use Rattle.av_replay.specs.Turn.{Begins, HandsDeviceNext, LeavesDevice, LeavesSource}
 use Rattle.av_ports.specs.Line.{IsLine, HasLine, IsNext, StopsReading}
-use Rattle.av_replay.specs.Turn.{DoesLine, IsCut, IsNotAnswered, StandsNext, IsEnding, TakesLine, CutsShort, Halts}
+use Rattle.av_replay.specs.Turn.{DoesLine, IsCut, IsNotAnswered, IsNotDone, StandsNext, IsEnding, TakesLine, CutsShort, Halts}
 use Rattle.av_ports.proofs.Bytes.{in_front-then}
 use Rattle.av_ports.proofs.Times.{failed_since}
+
+-- a line that isn't done leaves the device, unless it hands it to its command
+pub handed_or_left : (line : List ℕ) (command : Command) (old new : PortsView) → Says line (Some command)
+    → (has_device command ≡ false → new.device ≡ old.device) → LeavesDevice line old new
+handed_or_left line command old new says left =
+    elim (cases_Bool (has_device command)) [ inl handed ↦ inr (command, says, handed) | inr not ↦ inl (left not) ]
+
+-- a line that wasn't done has no text
+pub not_answered : (error : RunErr) (line : List ℕ) (old new : PortsView) (k k' : Machine) → OnlyDevice old new → IsNotDone error line old new k k'
+    → IsNotAnswered error line old new k k'
+not_answered errors.BadLine line old new k k' only not = not
+not_answered errors.Memory line old new k k' only not = inl (only.sink, not)
+not_answered errors.Read line old new k k' only not = absurd not
+not_answered errors.Write line old new k k' only not = absurd not
 
 -- how the line in front ends
 pub record EndsBy (line : Line) (ahead ending : List ℕ) (source : SourceView) : Type 0 where
@@ -77,11 +96,18 @@ module _ (ahead mid : List ℕ) (old now new : PortsView) (k k' : Machine) (line
     takes = takes ending cut.text (take cut.size cut.text) by cut.does cut.writes;
   }
 
-  begins : new.sink ≡ now.sink → Begins ahead mid old new
-  begins e = record {
+  -- the device is as it was, unless the line hands it to its command
+  used_by : (ending : List ℕ) → EndsBy line mid ending new.source → LeavesDevice (take line.size mid) now new
+      → (new.device ≡ old.device) ⊎ HandsDeviceNext mid new.source
+  used_by ending by (inl same) = inl (same ∙ reads.device)
+  used_by ending by (inr hands) = inr (take line.size mid, by.is_line, hands, by.next)
+
+  begins : new.sink ≡ now.sink → (new.device ≡ old.device) ⊎ HandsDeviceNext mid new.source → Begins ahead mid old new
+  begins e used = record {
     same = ap (λ (s : SourceView). in_front mid s.left) leaves.source ∙ reads.same;
     held = ap (λ (s : SinkView). s.held) e ∙ reads.held;
     device = subst (λ (d : Device). IsSameDevice d new.device) reads.device leaves.device;
+    used = used;
     near = reads.near;
   }
 
@@ -89,7 +115,7 @@ module _ (ahead mid : List ℕ) (old now new : PortsView) (k k' : Machine) (line
       IsNotAnswered error (take line.size mid) now new k k' → Halts error ahead mid old new k k'
   halts_by ending errors.BadLine was by not =
       (record { reads = subst (ReadsOn ahead mid old) (sym not.2) reads; kernel = not.1 }, inr (take line.size mid, by.is_line, not.0, by.next))
-  halts_by ending errors.Memory was by (inl same) = inl (begins same)
+  halts_by ending errors.Memory was by (inl same) = inl (begins same.0 (used_by ending by same.1))
   halts_by ending errors.Memory was by (inr cut) = inr (cuts ending by cut)
   halts_by ending errors.Write was by not = (inl (cuts ending by not.0), failed_since old.sink now.sink new.sink was.sink not.1)
   halts_by ending errors.Read was by not = absurd not

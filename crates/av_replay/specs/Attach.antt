@@ -1,7 +1,6 @@
 -- Attaching the swap areas that the words name, before anything is read.
 use Rattle.std.specs.Prelude.{◌≡◌, ℕ, ◌+◌, ◌<◌, ◌≤◌, List, [], ◌∷◌, ◌++◌, Option, None, Some}
-use Rattle.std.specs.Prelude.{is_some}
-use Rattle.std.specs.Prelude.{length, map, option_to_list, true, false}
+use Rattle.std.specs.Prelude.{is_some, length, map, option_to_list, true, false}
 use Rattle.std.specs.List.{AllByRecursion}
 use Rattle.av_swapdev.specs.Device.{Attach, History, most_pages}
 use Rattle.av_plain.specs.Device.{Device}
@@ -31,7 +30,8 @@ not_attached area failed =
     map (λ name. record { area = area; name = name; well = false }) (option_to_list failed)
 
 -- The first names were attached as the areas 0, 1, .., in their order and once each, so many of
--- them well; with the next one that failed, if it did. Nothing else was asked.
+-- them well; with the next one that failed, if it did. Nothing else was attached, and nothing
+-- written.
 pub record Tries (names : List (List ℕ)) (count : ℕ) (failed : Option (List ℕ)) (old new : History)
     : Type 0 where
   pub well : List (List ℕ)

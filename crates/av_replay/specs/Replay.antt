@@ -1,7 +1,7 @@
 -- What a replay leaves, by its status.
 use Rattle.std.specs.Prelude.{◌≡◌, ℕ, ◌+◌, ◌^◌, ◌<◌, ◌≤◌, List, [], ◌∷◌, ◌++◌, ◌⊎◌, Bool, false}
 use Rattle.std.specs.Prelude.{true, if◌then◌else◌, length, take, Option, Some, None, IfSome}
-use Rattle.std.specs.Prelude.{unwrap_or, ◌≢◌}
+use Rattle.std.specs.Prelude.{unwrap_or}
 use Rattle.std.specs.List.{flat_map, AllByRecursion}
 use Rattle.std.specs.Option.{option_to_list}
 use Rattle.av_trace.specs.Print.{text_of}
@@ -20,7 +20,7 @@ use Rattle.av_ports.specs.declared.run_err.RunErr.TheVariants as errors
 use Rattle.av_ports.specs.Ports.{PortsView, room, AreFlushed, AreUnfailed, IsAtEnd, IsReadFault}
 use Rattle.av_ports.specs.Line.{IsLine}
 use Rattle.av_replay.specs.KernelPorts.{IsAttached}
-use Rattle.av_replay.specs.Turn.{tally_of, Commands, IsBad, pages_of_run}
+use Rattle.av_replay.specs.Turn.{tally_of, Commands, HandsDeviceNext, IsBad, pages_of_run}
 use Rattle.av_base.specs.declared.slot.Slot.{Slot}
 
 -- ---- the lines that were done, and their transcript
@@ -169,8 +169,9 @@ Ends statuses.Memory old new run rest written =
 Ends status old new run rest written =
     StopsAt status new run rest × (written ≡ text_of_run run.transcript)
 
--- The headline, for a status at which the trace was begun. Only a command in which memory was
--- wanting may have had pages written that nothing tells of.
+-- The headline, for a status at which the trace was begun. Pages that nothing tells of may have
+-- been written only where memory was wanting for a line that hands the device to its command: it
+-- stands next, behind those that were done.
 pub record Headline (frames : ℕ) (status : Status) (old new : PortsView) (kernel : Option Machine)
     : Type 0 where
   pub run : Run
@@ -178,7 +179,7 @@ pub record Headline (frames : ℕ) (status : Status) (old new : PortsView) (kern
   pub written : List ℕ
   pub replays : Replays frames old new run rest written
   pub ends : Ends status old new run rest written
-  pub told : status ≢ statuses.Memory → replays.untold ≡ []
+  pub told : (replays.untold ≡ []) ⊎ ((status ≡ statuses.Memory) × HandsDeviceNext rest new.source)
   pub handed_back : IfSome kernel (λ k. IsHandedBack k new.device frames run)
 
 -- ---- calls of the source and the sink

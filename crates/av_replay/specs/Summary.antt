@@ -1,6 +1,6 @@
 -- The summary of `work`, and what a load leaves.
 use Rattle.std.specs.Prelude.{◌≡◌, ℕ, ◌<◌, List, [], ◌∷◌, ◌++◌, ◌⊎◌, codes, length, take, Option}
-use Rattle.std.specs.Prelude.{IfSome, ◌≢◌}
+use Rattle.std.specs.Prelude.{IfSome}
 use Rattle.std.specs.Fmt.{decimal}
 use Rattle.av_text.specs.Word.{line}
 use Rattle.av_trace.specs.Print.{text_of, whole_line}
@@ -17,7 +17,7 @@ use Rattle.av_io.specs.Count.{RoseBy, one_more}
 use Rattle.av_io.specs.Sink.{SinkView, Gained, HasFailed}
 use Rattle.av_replay.specs.declared.status.Status.{Status}
 use Rattle.av_replay.specs.declared.status.Status.TheVariants as statuses
-use Rattle.av_replay.specs.Turn.{tally_of, pages_of_run}
+use Rattle.av_replay.specs.Turn.{tally_of, HandsDevice, pages_of_run}
 use Rattle.av_replay.specs.Replay.{Transcribes, Run, done_lines, IsHandedBack, FailsUntold}
 use Rattle.av_base.specs.declared.slot.Slot.{Slot}
 
@@ -99,13 +99,20 @@ abbrev pub EndsWork : Status → SinkView → SinkView → List (List ℕ) → L
 EndsWork status old new others text =
     ((status ≡ statuses.Memory) × (new ≡ old)) ⊎ ((others ≡ []) × EndsText status old new text)
 
+-- the first of some lines hands the device to its command
+abbrev pub HandsDeviceFirst : List (List ℕ) → Type 0
+HandsDeviceFirst [] = ⊥
+HandsDeviceFirst (line ∷ lines) = HandsDevice line
+
 -- What a run says of a load of these lines that was begun: which were done, what was written, and
--- what the kernel handed back stands for, whose counts those of the summary are.
+-- what the kernel handed back stands for, whose counts those of the summary are. Pages that nothing
+-- tells of may have been written only where memory was wanting for a line that hands the device to
+-- its command.
 pub record DoesLoad (frames : ℕ) (lines : List (List ℕ)) (status : Status) (old new : SinkView)
     (device device' : Device) (kernel : Option Machine) : Type 0 where
   pub run : Run
   pub others : List (List ℕ)
   pub works : Works frames lines device device' run others
-  pub told : status ≢ statuses.Memory → works.untold ≡ []
+  pub told : (works.untold ≡ []) ⊎ ((status ≡ statuses.Memory) × HandsDeviceFirst others)
   pub ends : EndsWork status old new others (summary_of frames device' lines run)
   pub handed_back : IfSome kernel (λ k. IsHandedBack k device' frames run)

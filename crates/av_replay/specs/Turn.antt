@@ -1,12 +1,13 @@
 -- One turn of the loop over the lines.
 use Rattle.std.specs.Prelude.{◌≡◌, ℕ, ◌+◌, ◌<◌, ◌≤◌, List, [], ◌∷◌, ◌++◌, ◌⊎◌, length, take, Option}
-use Rattle.std.specs.Prelude.{None, flat_map, option_map, Bool, true, false, Result, Ok, Err}
+use Rattle.std.specs.Prelude.{Some, None, flat_map, option_map, Bool, true, false, Result, Ok, Err}
 use Rattle.std.specs.Option.{option_to_list}
 use Rattle.av_trace.specs.declared.command.Command.{Command}
 use Rattle.av_trace.specs.Line.{Says}
 use Rattle.av_plain.specs.Transcript.{Exchange, State, IsRun, causes_of, text_of_run}
 use Rattle.av_kernel.specs.Machine.{Machine}
 use Rattle.av_kernel.specs.Kernel.{Stands}
+use Rattle.av_kernel.specs.Step.{has_device}
 use Rattle.av_kernel.specs.Tally.{tally_with}
 use Rattle.av_kernel.specs.declared.tally.Tally.{Tally}
 use Rattle.av_plain.specs.Device.{Device, IsSameDevice, setting_of, Wrote}
@@ -32,6 +33,10 @@ Commands line did = Says line (option_map (λ e. e.command) did)
 -- the line is outside the grammar
 abbrev pub SaysNothing : List ℕ → Type 0
 SaysNothing line = (said : Option Command) → Says line said → ⊥
+
+-- the line commands something that is handed the device
+abbrev pub HandsDevice : List ℕ → Type 0
+HandsDevice line = (command : Command) × Says line (Some command) × (has_device command ≡ true)
 
 -- these replies, counted onto others
 abbrev pub tally_of : List Exchange → Tally → Tally
@@ -69,10 +74,14 @@ pub record DoesLine (line : List ℕ) (device device' : Device) (old new : Machi
   pub answers : (s : State) → Stands old device s → Answers line device device' s old new text
   pub steps : new.steps ≤ old.steps + 1
 
+-- a line that isn't done leaves the device, unless it hands it to its command
+abbrev pub LeavesDevice : List ℕ → PortsView → PortsView → Type 0
+LeavesDevice line old new = (new.device ≡ old.device) ⊎ HandsDevice line
+
 -- why a line is not done
 abbrev pub IsNotDone : RunErr → List ℕ → PortsView → PortsView → Machine → Machine → Type 0
 IsNotDone errors.BadLine line old new k k' = SaysNothing line × (k' ≡ k) × (new ≡ old)
-IsNotDone errors.Memory line old new k k' = Unit {0}
+IsNotDone errors.Memory line old new k k' = LeavesDevice line old new
 IsNotDone errors.Read line old new k k' = ⊥
 IsNotDone errors.Write line old new k k' = ⊥
 
@@ -90,7 +99,7 @@ abbrev pub IsNotAnswered :
 IsNotAnswered errors.BadLine line old new k k' =
     SaysNothing line × (k' ≡ k) × (new ≡ old)
 IsNotAnswered errors.Memory line old new k k' =
-    (new.sink ≡ old.sink) ⊎ IsCut line old new k k'
+    ((new.sink ≡ old.sink) × LeavesDevice line old new) ⊎ IsCut line old new k k'
 IsNotAnswered errors.Write line old new k k' =
     IsCut line old new k k' × HasFailed old.sink new.sink
 IsNotAnswered errors.Read line old new k k' = ⊥
@@ -102,18 +111,25 @@ pub record LeavesSource (old new : PortsView) : Type 0 where
   pub source : new.source ≡ old.source
   pub device : IsSameDevice old.device new.device
 
--- a line was begun of what was read, and none done: the device may have been used
-pub record Begins (ahead ahead' : List ℕ) (old new : PortsView) : Type 0 where
-  pub same : undone ahead' new ≡ undone ahead old
-  pub held : new.sink.held ≡ old.sink.held
-  pub device : IsSameDevice old.device new.device
-  pub near : length ahead' ≤ room
-
 -- the line in front of what was read, which ends at its newline or with the input
 abbrev pub StandsNext : List ℕ → List ℕ → SourceView → Type 0
 StandsNext line bytes source =
     ((more : List ℕ) × (bytes ≡ line ++ 10 ∷ more))
     ⊎ ((bytes ≡ line) × (0 < length line) × IsAtEnd source)
+
+-- the next line commands something that is handed the device
+abbrev pub HandsDeviceNext : List ℕ → SourceView → Type 0
+HandsDeviceNext bytes source =
+    (line : List ℕ) × IsLine line × HandsDevice line × StandsNext line bytes source
+
+-- a line was begun of what was read, and none done: the device may have been used for it, if it is
+-- one that is handed the device
+pub record Begins (ahead ahead' : List ℕ) (old new : PortsView) : Type 0 where
+  pub same : undone ahead' new ≡ undone ahead old
+  pub held : new.sink.held ≡ old.sink.held
+  pub device : IsSameDevice old.device new.device
+  pub used : (new.device ≡ old.device) ⊎ HandsDeviceNext ahead' new.source
+  pub near : length ahead' ≤ room
 
 -- the next line is not to be done: it is outside the grammar, or too long
 abbrev pub IsBad : List ℕ → SourceView → Type 0

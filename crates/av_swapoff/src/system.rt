@@ -1,6 +1,7 @@
 //! A memory system that can also bring the pages of slots back to their entries.
 
-ghost use Rattle.std.specs.Prelude.{◌≡◌, ◌∷◌, ◌<◌, ◌^◌, [], length, nat_lt, None, Some, IfOk, IfSome};
+ghost use Rattle.std.specs.Prelude.{◌≡◌, ◌∷◌, ◌<◌, ◌^◌, [], length, nat_lt, None, Some, IfOk};
+ghost use Rattle.std.specs.Prelude.{IfSome};
 ghost use Rattle.std.specs.Prelude.{Bool, true, false};
 ghost use Rattle.std.specs.List.{AllByRecursion};
 ghost use Rattle.av_base.specs.Limits.{top_page};

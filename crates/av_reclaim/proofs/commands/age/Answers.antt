@@ -11,20 +11,19 @@ pub age-requires : goal.age-requires
 age-requires g c = is-at [] (seen_by g.D.SwapDev.sizes g.D.SwapDev.pages g.D.SwapDev.failures g.D.SwapDev.history c.args.dev.now)
     c.args.mem.now c.requires
 
-pub returns-clause-ages : goal.returns-clause-ages
-returns-clause-ages g c = λ told. added _ _ _ _ _ _ _ _ _ _ None
-    (λ spared l notes. notes ≡ map Aged (from_tail c.args.count l.active))
-    (λ m w l added. Ages l c.args.count (note_events added) Done [])
-    (λ w l notes asked. (refl, ap note_events asked, refl)) (c.in_ok-age.ensures.gives told) (λ e. (search rules, search rules))
+pub returns : goal.returns
+returns g c = record {
+  adds = λ told. added _ _ _ _ _ _ _ _ _ _ None
+      (λ spared l notes. notes ≡ map Aged (from_tail c.args.count l.active))
+      (λ m w l added. Ages l c.args.count (note_events added) Done [])
+      (λ w l notes asked. (refl, ap note_events asked, refl)) (c.in_ok-age.ensures.gives told) (λ e. (search rules, search rules));
+  same = same-lent _ _ _ _ _ _ (c.in_ok-age.ensures.stays true).stays _ (λ e. search rules);
+  count = count-lent _ _ _ _ _ _ (c.in_ok-age.ensures.stays true).stays _ (λ e. search rules);
+}
 
-pub returns-clause-same : goal.returns-clause-same
-returns-clause-same g c = same-lent _ _ _ _ _ _ (c.in_ok-age.ensures.stays true).stays _ (λ e. search rules)
-
-pub returns-clause-count : goal.returns-clause-count
-returns-clause-count g c = count-lent _ _ _ _ _ _ (c.in_ok-age.ensures.stays true).stays _ (λ e. search rules)
-
-pub returns-in_err-age-clause-same : goal.returns-in_err-age-clause-same
-returns-in_err-age-clause-same g c = same-lent _ _ _ _ _ _ (c.in_err-age.ensures.stays true).stays _ (λ e. search rules)
-
-pub returns-in_err-age-clause-count : goal.returns-in_err-age-clause-count
-returns-in_err-age-clause-count g c = count-lent _ _ _ _ _ _ (c.in_err-age.ensures.stays true).stays _ (λ e. search rules)
+pub returns-in_err-age : goal.returns-in_err-age
+returns-in_err-age g c = record {
+  adds = tt;
+  same = same-lent _ _ _ _ _ _ (c.in_err-age.ensures.stays true).stays _ (λ e. search rules);
+  count = count-lent _ _ _ _ _ _ (c.in_err-age.ensures.stays true).stays _ (λ e. search rules);
+}

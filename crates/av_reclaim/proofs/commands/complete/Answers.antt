@@ -13,20 +13,19 @@ complete-requires g c =
     is-at [] (seen_by g.D.SwapDev.sizes g.D.SwapDev.pages g.D.SwapDev.failures g.D.SwapDev.history c.args.dev.now)
     c.args.mem.now c.requires
 
-pub returns-clause-completes : goal.returns-clause-completes
-returns-clause-completes g c = λ told. added _ _ _ _ _ _ _ _ _ _ None
-    (λ spared l notes. Completes l (take c.args.count l.flight) notes)
-    (λ m w l added. CompletesFirst l c.args.count (note_events added) Done [])
-    (λ w l notes asked. (notes, asked, refl, refl, refl)) (c.in_ok-complete.ensures.gives told) (λ e. (search rules, search rules))
+pub returns : goal.returns
+returns g c = record {
+  adds = λ told. added _ _ _ _ _ _ _ _ _ _ None
+      (λ spared l notes. Completes l (take c.args.count l.flight) notes)
+      (λ m w l added. CompletesFirst l c.args.count (note_events added) Done [])
+      (λ w l notes asked. (notes, asked, refl, refl, refl)) (c.in_ok-complete.ensures.gives told) (λ e. (search rules, search rules));
+  same = same-lent _ _ _ _ _ _ (c.in_ok-complete.ensures.stays true).stays _ (λ e. search rules);
+  count = count-lent _ _ _ _ _ _ (c.in_ok-complete.ensures.stays true).stays _ (λ e. search rules);
+}
 
-pub returns-clause-same : goal.returns-clause-same
-returns-clause-same g c = same-lent _ _ _ _ _ _ (c.in_ok-complete.ensures.stays true).stays _ (λ e. search rules)
-
-pub returns-clause-count : goal.returns-clause-count
-returns-clause-count g c = count-lent _ _ _ _ _ _ (c.in_ok-complete.ensures.stays true).stays _ (λ e. search rules)
-
-pub returns-in_err-complete-clause-same : goal.returns-in_err-complete-clause-same
-returns-in_err-complete-clause-same g c = same-lent _ _ _ _ _ _ (c.in_err-complete.ensures.stays true).stays _ (λ e. search rules)
-
-pub returns-in_err-complete-clause-count : goal.returns-in_err-complete-clause-count
-returns-in_err-complete-clause-count g c = count-lent _ _ _ _ _ _ (c.in_err-complete.ensures.stays true).stays _ (λ e. search rules)
+pub returns-in_err-complete : goal.returns-in_err-complete
+returns-in_err-complete g c = record {
+  adds = tt;
+  same = same-lent _ _ _ _ _ _ (c.in_err-complete.ensures.stays true).stays _ (λ e. search rules);
+  count = count-lent _ _ _ _ _ _ (c.in_err-complete.ensures.stays true).stays _ (λ e. search rules);
+}

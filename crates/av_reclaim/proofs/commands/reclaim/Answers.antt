@@ -12,20 +12,19 @@ reclaim-requires g c =
     is-at [] (seen_by g.D.SwapDev.sizes g.D.SwapDev.pages g.D.SwapDev.failures g.D.SwapDev.history c.args.dev.now)
     c.args.mem.now c.requires
 
-pub returns-clause-reclaims : goal.returns-clause-reclaims
-returns-clause-reclaims g c = λ told. added _ _ _ _ _ _ _ _ _ _ None
-    (λ spared l notes. Outcomes (setting_by (as_told told (seen_by g.D.SwapDev.sizes g.D.SwapDev.pages g.D.SwapDev.failures g.D.SwapDev.history c.args.dev.now)) c.args.mem.now) spared l (from_tail c.args.count l.inactive) notes)
-    (λ m w l added. Reclaims m w l c.args.count (note_events added) Done [])
-    (λ w l notes asked. (notes, asked, refl, refl, refl)) (c.in_ok-reclaim.ensures.gives told) (λ e. (search rules, search rules))
+pub returns : goal.returns
+returns g c = record {
+  adds = λ told. added _ _ _ _ _ _ _ _ _ _ None
+      (λ spared l notes. Outcomes (setting_by (as_told told (seen_by g.D.SwapDev.sizes g.D.SwapDev.pages g.D.SwapDev.failures g.D.SwapDev.history c.args.dev.now)) c.args.mem.now) spared l (from_tail c.args.count l.inactive) notes)
+      (λ m w l added. Reclaims m w l c.args.count (note_events added) Done [])
+      (λ w l notes asked. (notes, asked, refl, refl, refl)) (c.in_ok-reclaim.ensures.gives told) (λ e. (search rules, search rules));
+  same = same-lent _ _ _ _ _ _ (c.in_ok-reclaim.ensures.stays true).stays _ (λ e. search rules);
+  count = count-lent _ _ _ _ _ _ (c.in_ok-reclaim.ensures.stays true).stays _ (λ e. search rules);
+}
 
-pub returns-clause-same : goal.returns-clause-same
-returns-clause-same g c = same-lent _ _ _ _ _ _ (c.in_ok-reclaim.ensures.stays true).stays _ (λ e. search rules)
-
-pub returns-clause-count : goal.returns-clause-count
-returns-clause-count g c = count-lent _ _ _ _ _ _ (c.in_ok-reclaim.ensures.stays true).stays _ (λ e. search rules)
-
-pub returns-in_err-reclaim-clause-same : goal.returns-in_err-reclaim-clause-same
-returns-in_err-reclaim-clause-same g c = same-lent _ _ _ _ _ _ (c.in_err-reclaim.ensures.stays true).stays _ (λ e. search rules)
-
-pub returns-in_err-reclaim-clause-count : goal.returns-in_err-reclaim-clause-count
-returns-in_err-reclaim-clause-count g c = count-lent _ _ _ _ _ _ (c.in_err-reclaim.ensures.stays true).stays _ (λ e. search rules)
+pub returns-in_err-reclaim : goal.returns-in_err-reclaim
+returns-in_err-reclaim g c = record {
+  adds = tt;
+  same = same-lent _ _ _ _ _ _ (c.in_err-reclaim.ensures.stays true).stays _ (λ e. search rules);
+  count = count-lent _ _ _ _ _ _ (c.in_err-reclaim.ensures.stays true).stays _ (λ e. search rules);
+}

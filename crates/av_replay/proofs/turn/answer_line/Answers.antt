@@ -7,6 +7,8 @@ use Rattle.av_ports.specs.Ports.{OnlySink, PortsView, Writes}
 use Rattle.av_replay.specs.KernelPorts.{OnlyDevice}
 use Rattle.av_replay.specs.Turn.{LeavesSource}
 use Rattle.av_replay.specs.Turn.{DoesLine, IsCut}
+use Rattle.std.proofs.lemmas.Result.{err_from_is_err_and}
+use Rattle.av_replay.proofs.Turns.{not_answered}
 use Rattle.av_replay.proofs.turn.answer_line.Goals as goal
 
 -- the line was done over the device, and then its text was written, which leaves the device
@@ -55,3 +57,9 @@ returns-in-Err-Memory-clause-err g c = inr
     c.args.kernel.now c.do_line.new.kernel
     c.do_line.new.scratch.text c.write_all.ensures.only c.do_line.ensures.only c.in_ok-do_line.ensures.ok c.as_slice.result.now c.as_slice.ensures
     c.in-Err-Memory.ensures.err)
+
+pub returns-in_err-do_line-clause-err : goal.returns-in_err-do_line-clause-err
+returns-in_err-do_line-clause-err g c =
+    let p = err_from_is_err_and c.from_residual-in_err-do_line.result c.from_residual-in_err-do_line.ensures.1 in
+    rw (p.1, p.2) (not_answered c.in_err-do_line.field-0.0 c.args.line.now (g.P.Ports.view c.args.ports.now) (g.P.Ports.view c.do_line.new.ports)
+    c.args.kernel.now c.do_line.new.kernel c.do_line.ensures.only c.in_err-do_line.ensures.err)

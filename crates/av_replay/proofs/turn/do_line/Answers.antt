@@ -1,4 +1,6 @@
-use Rattle.std.proofs.Common.{Some, append-nil, refl, arith}
+use Rattle.std.proofs.Common.{Some, append-nil, inl, inr, refl, arith}
+use Rattle.std.proofs.lemmas.Result.{err_from_is_err_and}
+use Rattle.av_replay.proofs.Turns.{handed_or_left}
 use Rattle.av_replay.proofs.turn.do_line.Goals as goal
 
 -- what a line says is of the grammar
@@ -31,3 +33,23 @@ returns-clause-ok g c =
           };
       steps = omega (arith, counted.steps);
     }
+
+-- memory was wanting for the line
+pub returns-in-Err-Memory-clause-err : goal.returns-in-Err-Memory-clause-err
+returns-in-Err-Memory-clause-err g c = inl refl
+
+-- or in its command
+pub returns-in_err-answer-clause-err : goal.returns-in_err-answer-clause-err
+returns-in_err-answer-clause-err g c =
+    let p = err_from_is_err_and c.from_residual-in_err-answer.result c.from_residual-in_err-answer.ensures in
+    let says = rw c.in-Some.is at c.in-Ok.ensures.found in
+    rw (p.1, p.2) (handed_or_left c.args.line.now c.in-Some.command (g.P.Ports.view c.args.ports.now) (g.P.Ports.view c.answer.new.ports) says
+    (λ not. c.answer.ensures.leaves_device (inr not)))
+
+-- or for its text
+pub returns-in_err-reply_text-clause-err : goal.returns-in_err-reply_text-clause-err
+returns-in_err-reply_text-clause-err g c =
+    let p = err_from_is_err_and c.from_residual-in_err-reply_text.result c.from_residual-in_err-reply_text.ensures in
+    let says = rw c.in-Some.is at c.in-Ok.ensures.found in
+    rw (p.1, p.2) (handed_or_left c.args.line.now c.in-Some.command (g.P.Ports.view c.args.ports.now) (g.P.Ports.view c.answer.new.ports) says
+    (λ not. c.answer.ensures.leaves_device (inr not)))

@@ -11,7 +11,7 @@ pub returns : goal.returns
 returns g c = does-counted (λ n. Age n)
     (λ n. record { tested = λ m w l. refl; plain = refl; closing = refl; world = λ w. refl; areas = λ long on w. refl; shows = λ on anons. tt })
     c.args.frames _ (omega (arith, c.from.ensures)) _ _ c.args.mem.now c.age.new.mem c.args.reply.now c.answer_with.new.reply c.age.new.notes
-    c.requires.cleared c.answer_with.ensures c.age.ensures.same c.age.ensures.count c.in_ok-age.ensures.ages
+    c.requires.cleared c.answer_with.ensures c.age.ensures.same c.age.ensures.count c.in_ok-age.ensures.adds
 
 pub returns-in_err-age : goal.returns-in_err-age
 returns-in_err-age g c = wants-over _ _ c.args.mem.now c.age.new.mem (Age c.args.frames) _ c.from_residual.result c.from_residual.ensures

@@ -11,7 +11,7 @@ pub returns : goal.returns
 returns g c = does-counted (λ n. Complete n)
     (λ n. record { tested = λ m w l. refl; plain = refl; closing = refl; world = λ w. refl; areas = λ long on w. refl; shows = λ on anons. tt })
     c.args.slots _ (omega (arith, c.from.ensures)) _ _ c.args.mem.now c.complete.new.mem c.args.reply.now c.answer_with.new.reply c.complete.new.notes
-    c.requires.cleared c.answer_with.ensures c.complete.ensures.same c.complete.ensures.count c.in_ok-complete.ensures.completes
+    c.requires.cleared c.answer_with.ensures c.complete.ensures.same c.complete.ensures.count c.in_ok-complete.ensures.adds
 
 pub returns-in_err-complete : goal.returns-in_err-complete
 returns-in_err-complete g c =

@@ -11,7 +11,7 @@ pub returns : goal.returns
 returns g c = does-counted (λ n. Reclaim n)
     (λ n. record { tested = λ m w l. refl; plain = refl; closing = refl; world = λ w. refl; areas = λ long on w. refl; shows = λ on anons. tt })
     c.args.frames _ (omega (arith, c.from.ensures)) _ _ c.args.mem.now c.reclaim.new.mem c.args.reply.now c.answer_with.new.reply c.reclaim.new.notes
-    c.requires.cleared c.answer_with.ensures c.reclaim.ensures.same c.reclaim.ensures.count c.in_ok-reclaim.ensures.reclaims
+    c.requires.cleared c.answer_with.ensures c.reclaim.ensures.same c.reclaim.ensures.count c.in_ok-reclaim.ensures.adds
 
 pub returns-in_err-reclaim : goal.returns-in_err-reclaim
 returns-in_err-reclaim g c = wants-over _ _ c.args.mem.now c.reclaim.new.mem (Reclaim c.args.frames) _ c.from_residual.result c.from_residual.ensures
