@@ -1,3 +1,6 @@
+pub mod CandidateLaws
 pub mod Sharing
 pub mod Joining
+pub mod JoiningViews
+pub mod Done
 pub mod Knowing
