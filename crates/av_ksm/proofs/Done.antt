@@ -1,6 +1,5 @@
 -- What stands after a step of a merge, of the memory system.
-use Rattle.std.proofs.Common.{◌≡◌, ℕ, ◌+◌, ◌<◌, Bool, true, false, cond, nat_lt, ◌==◌, List, [], ◌∷◌, Option, Some, None, is_some, option_map, refl, sym, ap, subst, ◌∙◌, arith}
-use Rattle.std.proofs.lemmas.Bool.Decides.{nat_tests}
+use Rattle.std.proofs.Common.{◌≡◌, ℕ, ◌+◌, ◌<◌, Bool, true, false, cond, ◌==◌, List, [], ◌∷◌, Option, Some, None, is_some, option_map, refl, sym, ap, subst, ◌∙◌, arith}
 use Rattle.std.proofs.lemmas.Bool.{false≢true}
 use Rattle.av_base.specs.Items.{Item}
 use Rattle.av_base.specs.Keys.{Key}
@@ -15,13 +14,12 @@ use Rattle.av_plain.specs.Device.{Device}
 use Rattle.av_plain.specs.Event.{Noted, after_note}
 use Rattle.av_plain.specs.Ledger.{InFrame, Ledger, Setting, entry, is_merged, map_count, names_frame}
 use Rattle.av_plain.specs.Load.{with_loads}
-use Rattle.av_plain.specs.Sound.{IsSound, holders, mergings, no_excuse, uses}
+use Rattle.av_plain.specs.Sound.{IsSound, no_excuse, uses}
 use Rattle.av_plain.specs.Stands.{View, entry_of, free_of}
 use Rattle.av_plain.specs.World.{World}
 use Rattle.av_plain.proofs.Ledger.{how_many-found}
 use Rattle.av_plain.proofs.Ledger.NoSwap.{key_at-address}
 use Rattle.av_plain.proofs.Load.{without-loads}
-use Rattle.av_plain.proofs.Sound.Changes.{any-counts}
 use Rattle.av_plain.proofs.Sound.Counts.{same-is, same-itself, slot_of-none}
 use Rattle.av_plain.proofs.Sound.Sharing.{joined-kept, shared-kept}
 use Rattle.av_plain.proofs.Wrote.{device-itself, wrote-none}
@@ -36,21 +34,7 @@ use Rattle.av_mem.proofs.ServesLaws.{serves-note, setting-stays}
 use Rattle.av_ksm.specs.Join.{HasOwn, view_joined, view_shared}
 use Rattle.av_ksm.specs.Joining.{HasShared, item_by}
 use Rattle.av_ksm.proofs.Joining.{join-steps}
-use Rattle.av_ksm.proofs.Sharing.{share-steps}
-
--- ---- what the ledger says of frames
-
-pub unmerged-none : (l : Ledger) (f : ℕ) → is_merged l f ≡ false → mergings l f ≡ 0
-unmerged-none l f own = none (mergings l f) (sym (any-counts (λ x. f == x) l.merged) ∙ own)
-  where
-    none : (n : ℕ) → nat_lt 0 n ≡ false → n ≡ 0
-    none n e = grind (arith, nat_tests, e)
-
-pub merged-some : (l : Ledger) (f : ℕ) → is_merged l f ≡ true → 0 < mergings l f
-merged-some l f merged = some (mergings l f) (sym (any-counts (λ x. f == x) l.merged) ∙ merged)
-  where
-    some : (n : ℕ) → nat_lt 0 n ≡ true → 0 < n
-    some n e = grind (arith, nat_tests, e)
+use Rattle.av_ksm.proofs.Sharing.{merged-some, share-steps, unmerged-none}
 
 -- ---- one event done
 

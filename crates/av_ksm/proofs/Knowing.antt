@@ -1,6 +1,5 @@
 -- What is known of what frames hold stays right as pages join, and frames are merged.
-use Rattle.std.proofs.Common.{◌≡◌, ◌⊎◌, inl, inr, ℕ, ◌+◌, ◌<◌, Bool, true, false, cond, not, ◌&&◌, ◌||◌, ◌==◌, List, [], ◌∷◌, ◌++◌, map, filter, Option, Some, None, refl, sym, ap, subst, ◌∙◌, arith}
-use Rattle.std.proofs.lemmas.Bool.Decides.{nat_tests}
+use Rattle.std.proofs.Common.{◌≡◌, ◌⊎◌, inl, inr, ℕ, ◌<◌, Bool, true, false, cond, not, ◌&&◌, ◌||◌, ◌==◌, List, [], ◌∷◌, ◌++◌, Option, Some, None, refl, sym, ap, subst, ◌∙◌, arith}
 use Rattle.std.proofs.lemmas.Bool.{false≢true}
 use Rattle.std.proofs.lemmas.List.Folds.{find-append}
 use Rattle.std.specs.List.{find, list_all, list_any, range_with_len}
@@ -8,7 +7,7 @@ use Rattle.std.specs.Option.{option_or}
 use Rattle.av_base.specs.Keys.{Key, same_key}
 use Rattle.av_base.proofs.Keys.{same_key-is}
 use Rattle.av_base.specs.Page.{page_size}
-use Rattle.av_plain.specs.Ledger.{Entry, InFrame, Ledger, Setting, entry, is_merged}
+use Rattle.av_plain.specs.Ledger.{InFrame, Ledger, Setting, entry, is_merged}
 use Rattle.av_plain.specs.Merge.{FrameBytes, hold_same, merged_like, other_like}
 use Rattle.av_plain.proofs.Sound.Counts.{same-is, same-itself, same-turned}
 use Rattle.av_plain.proofs.Sound.Frames.{in_range-is, same-then}

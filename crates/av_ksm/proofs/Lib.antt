@@ -4,3 +4,4 @@ pub mod Joining
 pub mod JoiningViews
 pub mod Done
 pub mod Knowing
+pub mod Turn
