@@ -33,6 +33,7 @@ use Rattle.av_mem.specs.declared.mem.Mem.{Mem}
 use Rattle.av_mem.specs.Mem.{held_by, plain, setting_by, view}
 use Rattle.av_mem.specs.Steps.{KeepsParts}
 use Rattle.av_mem.specs.Between.{HasDone, KeepsBetween}
+use Rattle.av_mem.proofs.DropLaws.{dropped-table}
 use Rattle.av_fault.specs.Using.{HasDropped, HasDroppedFull}
 use Rattle.av_fault.proofs.Between.{fit-stays, to-amid, to-fit}
 use Rattle.av_fault.proofs.Done.{done-none}
@@ -43,16 +44,6 @@ use Rattle.av_plain.proofs.Wrote.{device-itself, wrote-none}
 -- ---- the view
 
 -- what a drop leaves
-dropped-table : (f : ℕ) (s : Slot) (v : View) → (view_drop f s v).table ≡ v.table
-dropped-table f s v = by (v.maps f == 0) (v.entries s == 0)
-  where
-    by : (a b : Bool) → (cond b (view_given_back s (cond a (view_freed f (view_uncached f s v)) (view_uncached f s v)))
-        (cond a (view_freed f (view_uncached f s v)) (view_uncached f s v))).table ≡ v.table
-    by true true = refl
-    by true false = refl
-    by false true = refl
-    by false false = refl
-
 dropped-areas : (f : ℕ) (s : Slot) (v : View) → (view_drop f s v).areas ≡ v.areas
 dropped-areas f s v = by (v.maps f == 0) (v.entries s == 0)
   where
@@ -191,6 +182,9 @@ module _ (d : Device) (old : Mem) (w : World) (r : Rmap) (l : Ledger) (h : Keeps
 
   pub drop-find : (view old).find s ≡ Some f
   drop-find = h.serves.held.ledger.swap.finds s ∙ there
+
+  pub drop-below : f < (setting_by d old).frames
+  drop-below = cached-in_range (setting_by d old) no_excuse l h.sound f s there
 
   -- a frame that an entry names isn't free
   pub in-use : 0 < (view old).maps f → is_in f (view old).free ≡ false

@@ -30,7 +30,7 @@ use Rattle.av_base.specs.Page.{address_of}
 use Rattle.av_vma.specs.Pages.{fresh_area, pages_in}
 use Rattle.av_vma.specs.declared.area.Area.{Area}
 use Rattle.av_plain.specs.Areas.{AnonVma, Anons, Areas, Rmap, chain_length, next_areas, no_anons}
-use Rattle.av_plain.specs.Areas.{no_areas, no_homes, no_items, rmap_after}
+use Rattle.av_plain.specs.Areas.{no_areas, no_homes, no_items, rmap_after, root_anon}
 use Rattle.av_plain.specs.Event.{Noted}
 use Rattle.av_plain.specs.Ledger.{first_ledger}
 use Rattle.av_plain.specs.World.{Process, World, zeros}
@@ -110,19 +110,15 @@ of_both = area_of 0 0x10 0x12 ∷ area_of 1 0x14 0x16 ∷ []
 
 -- ---- an area is prepared
 
--- an anon_vma that is its own root and parent, and alone in its chain
-abbrev pub alone : ℕ → AnonVma
-alone v = record { root = v; parent = v; chain = v ∷ [] }
-
 -- with one more, and this number for the next one
 abbrev pub and_at : ℕ → AnonVma → ℕ → Anons → Anons
 and_at v anon next anons = record { next = next; anon = with_at v (Some anon) anons.anon }
 
 abbrev pub one_root : Anons
-one_root = and_at 0 (alone 0) 1 no_anons
+one_root = and_at 0 (root_anon 0) 1 no_anons
 
 abbrev pub two_roots : Anons
-two_roots = and_at 1 (alone 1) 2 one_root
+two_roots = and_at 1 (root_anon 1) 2 one_root
 
 -- the first one is gone
 abbrev pub first_gone : Anons

@@ -42,6 +42,7 @@ use Rattle.std.specs.Prelude.{if◌then◌else◌, List, [], ◌∷◌, map, len
 use Rattle.std.specs.Prelude.{option_map, unwrap_or}
 use Rattle.av_base.specs.declared.prot.Prot.{Prot}
 use Rattle.av_base.specs.declared.slot.Slot.{Slot}
+use Rattle.av_base.specs.Keys.{Key}
 use Rattle.av_base.specs.Words.{with_at}
 use Rattle.std.specs.List.{range_with_len}
 use Rattle.av_clusters.specs.Clusters.{Slots, fresh, take_slot}
@@ -210,6 +211,10 @@ with_slots pages bad n frames =
     record { frames = frames; slots = with_at 0 (when_given n (fresh pages bad)) no_slots }
 
 -- ---- states
+
+-- these entries, with frame 0 in the inactive list
+abbrev pub with_entries : List (Key × Entry) → Ledger
+with_entries entries = record first_ledger { entries = entries; inactive = 0 ∷ [] }
 
 -- memories, a ledger and what is free; areas, homes and items don't matter
 abbrev pub state_of : World → Ledger → Free → State

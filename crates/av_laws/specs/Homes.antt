@@ -21,13 +21,13 @@ use Rattle.std.specs.List.{range_with_len}
 use Rattle.av_trace.specs.declared.note.Note.TheVariants.{Aged, Copied, Loaded, Mapped, New}
 use Rattle.av_vma.specs.Pages.{pages_in}
 use Rattle.av_vma.specs.declared.area.Area.{Area}
-use Rattle.av_plain.specs.Areas.{Homes, Rmap, no_homes, no_items, rmap_after}
+use Rattle.av_plain.specs.Areas.{Homes, Rmap, no_homes, no_items, rmap_after, root_anon}
 use Rattle.av_plain.specs.Covered.{IsRmapSound}
 use Rattle.av_plain.specs.Event.{Event, Noted, Used, Zapped, after}
 use Rattle.av_plain.specs.Ledger.{Entry, InFrame, InSlot, Ledger, first_ledger}
-use Rattle.av_laws.specs.Areas.{alone, and_at, anons_of, areas_of, child, family, moved_of, root}
+use Rattle.av_laws.specs.Areas.{and_at, anons_of, areas_of, child, family, moved_of, root}
 use Rattle.av_laws.specs.Areas.{two_roots}
-use Rattle.av_laws.specs.Examples.{cached_at, slot}
+use Rattle.av_laws.specs.Examples.{cached_at, slot, with_entries}
 
 -- ---- what a row claims
 
@@ -75,13 +75,9 @@ with_child_area area = record {
 abbrev pub with_child : Rmap
 with_child = with_child_area of_child
 
--- these entries name frame 0
-abbrev pub naming : List (Key × Entry) → Ledger
-naming entries = record first_ledger { entries = entries; inactive = 0 ∷ [] }
-
 -- parent and child have page 0x12 together, in frame 0, as after a fork
 abbrev pub both_in_frame : Ledger
-both_in_frame = naming (((1, 0x12), InFrame 0 true) ∷ ((2, 0x12), InFrame 0 false) ∷ [])
+both_in_frame = with_entries (((1, 0x12), InFrame 0 true) ∷ ((2, 0x12), InFrame 0 false) ∷ [])
 
 -- ---- event by event
 
@@ -171,7 +167,7 @@ with_other_index = with_child_area (record of_child { pgoff = 0x30 })
 -- the child's chain has a root that isn't its own
 abbrev pub with_another_root : Rmap
 with_another_root = record with_child {
-  anons = and_at 2 (alone 2) 3 (with_chain (0 ∷ 2 ∷ 1 ∷ [])).anons;
+  anons = and_at 2 (root_anon 2) 3 (with_chain (0 ∷ 2 ∷ 1 ∷ [])).anons;
 }
 
 -- ---- entries of merged frames

@@ -26,6 +26,7 @@ use Rattle.av_plain.specs.Event.{Zapped, after}
 use Rattle.av_plain.specs.Load.{with_loads}
 use Rattle.av_plain.specs.Transcript.{Exchange, State}
 use Rattle.av_laws.specs.Examples.{cached_at, one_area, reply_with, slot, swap_area, two_bytes}
+use Rattle.av_laws.specs.Examples.{with_entries}
 
 -- ---- the ledger, event by event
 
@@ -33,10 +34,6 @@ use Rattle.av_laws.specs.Examples.{cached_at, one_area, reply_with, slot, swap_a
 abbrev pub Leads : Ledger → List (Event × Ledger) → Type 0
 Leads l [] = Unit {0}
 Leads l (step ∷ steps) = (after l step.0 ≡ step.1) × Leads step.1 steps
-
--- these entries, with frame 0 in the inactive list
-abbrev pub with_entries : List (Key × Entry) → Ledger
-with_entries entries = record first_ledger { entries = entries; inactive = 0 ∷ [] }
 
 -- process 1 has a page in a frame, the zero page, and a page at a slot
 abbrev pub one_of_each : List (Key × Entry)

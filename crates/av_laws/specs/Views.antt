@@ -19,7 +19,7 @@ use Rattle.av_plain.specs.Areas.{no_items}
 use Rattle.av_plain.specs.Choice.{no_slots}
 use Rattle.av_plain.specs.Stands.{Stands, View}
 use Rattle.av_plain.specs.Transcript.{State, at_first}
-use Rattle.av_laws.specs.Areas.{anons_of, child, root}
+use Rattle.av_laws.specs.Areas.{family}
 use Rattle.av_laws.specs.Examples.{after_fork, cached_out, machine, one_area, only_frames}
 use Rattle.av_laws.specs.Examples.{read_write, slot, with_slots, with_swap}
 use Rattle.av_base.specs.Flags.{no_flags}
@@ -71,10 +71,6 @@ area from past p = fresh_area p from past read_write no_flags
 abbrev pub topmost : ℕ → Area
 topmost p = record (area 0x7fffffffe 0x7ffffffff p) { anon = Some (p - 1) }
 
--- anon_vma 0 is a root, and 1 is its child
-abbrev pub parent_and_child : Anons
-parent_and_child = anons_of (Some root) (Some child) 2
-
 -- frame 0 has this home: an anon_vma and an index
 abbrev pub homes_with : ℕ → ℕ → Homes
 homes_with anon index = with_at 0 (Some (anon, index)) no_homes
@@ -88,7 +84,7 @@ abbrev pub fork_state : State
 fork_state = record (after_fork (1 ∷ 2 ∷ 3 ∷ [])) {
   areas = with_at 1 (pages_in (Some (topmost 1 ∷ [])))
       (with_at 2 (pages_in (Some (topmost 2 ∷ []))) no_areas);
-  anons = parent_and_child;
+  anons = family;
   homes = parents_home;
 }
 
@@ -107,7 +103,7 @@ view_with areas write = record {
       option_map (λ e. record { entry = e; write = write }) (entry fork_state.ledger (p, page));
   processes = 2;
   areas = λ p. if p == 1 || p == 2 then Some (areas p) else None;
-  anons = parent_and_child;
+  anons = family;
   homes = parents_home;
   items = no_items;
   find = λ s. None;

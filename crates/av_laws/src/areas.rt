@@ -12,7 +12,7 @@ ghost use Rattle.av_trace.specs.declared.note.Note.TheVariants.{Zeroed};
 ghost use Rattle.av_trace.specs.declared.place.Place.TheVariants.{Fixed};
 ghost use Rattle.av_trace.specs.declared.reply.Answer.TheVariants.{Done, MapAt, Refused};
 ghost use Rattle.av_trace.specs.declared.reply.Errno.TheVariants.{Enomem};
-ghost use Rattle.av_plain.specs.Areas.{AreLeft, no_anons};
+ghost use Rattle.av_plain.specs.Areas.{AreLeft, no_anons, root_anon};
 ghost use Rattle.av_plain.specs.Report.{AreRowsOf};
 ghost use Rattle.av_laws.specs.Areas.{
   Becomes,
@@ -20,7 +20,6 @@ ghost use Rattle.av_laws.specs.Areas.{
   Prepares,
   PreparesSecond,
   alike,
-  alone,
   and_at,
   anons_of,
   area,
@@ -117,13 +116,13 @@ pub fn first_frames_prepare()
     ensures second_write { Prepares (area_of 0 0x10 0x14 ∷ []) one_root
         (area_of 0 0x10 0x14 ∷ []) one_root }
     ensures next_number { Prepares four first_gone
-        (area_of 1 0x10 0x14 ∷ []) (and_at 1 (alone 1) 2 first_gone) }
+        (area_of 1 0x10 0x14 ∷ []) (and_at 1 (root_anon 1) 2 first_gone) }
     ensures taken_behind { Prepares (behind_root unlike) one_root
         (behind_root (with_own 0 unlike)) one_root }
     ensures after_first { Prepares (between_roots unlike) two_roots
         (between_roots (with_own 1 unlike)) two_roots }
     ensures not_from_child { Prepares (behind_child unlike) family
-        (behind_child (with_own 2 unlike)) (and_at 2 (alone 2) 3 family) }
+        (behind_child (with_own 2 unlike)) (and_at 2 (root_anon 2) 3 family) }
     ensures other_offset { Prepares (behind_root (record unlike { pgoff = 0x20 })) one_root
         (behind_root (with_own 1 (record unlike { pgoff = 0x20 }))) two_roots }
     ensures other_flags { Prepares (behind_root (record unlike { flags = left_out })) one_root

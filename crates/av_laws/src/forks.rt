@@ -1,8 +1,8 @@
 //! Worked examples for forks: the areas and anon_vmas that a child gets.
 
 ghost use Rattle.std.specs.Prelude.{[], ◌∷◌, Some};
-ghost use Rattle.av_plain.specs.Areas.{no_anons};
-ghost use Rattle.av_laws.specs.Areas.{alone, area, area_of, child, family, four, one_root, root};
+ghost use Rattle.av_plain.specs.Areas.{no_anons, root_anon};
+ghost use Rattle.av_laws.specs.Areas.{area, area_of, child, family, four, one_root, root};
 ghost use Rattle.av_laws.specs.Examples.{read_write};
 ghost use Rattle.av_laws.specs.Forks.{
   ForksTo,
@@ -25,7 +25,7 @@ ghost use Rattle.av_laws.specs.Flags.{wiped_off};
 pub fn forks_follow()
     ensures bare { ForksTo four no_anons (record (area 0x10 0x14 read_write) { pid = 2 } ∷ []) [] }
     ensures new_below_root { ForksTo (area_of 0 0x10 0x14 ∷ []) one_root (of_two 1 0x10 0x14 ∷ [])
-        (Some (alone 0) ∷ Some (below 0 (0 ∷ 1 ∷ [])) ∷ []) }
+        (Some (root_anon 0) ∷ Some (below 0 (0 ∷ 1 ∷ [])) ∷ []) }
     ensures grandchild { ForksTo (area_of 1 0x10 0x14 ∷ []) family (of_two 2 0x10 0x14 ∷ [])
         (Some root ∷ Some child ∷ Some grandchild ∷ []) }
     ensures lowest_again { ForksTo (area_of 3 0x10 0x14 ∷ []) four_deep (of_two 1 0x10 0x14 ∷ [])
@@ -36,9 +36,9 @@ pub fn forks_follow()
         ∷ Some (below 2 (0 ∷ 1 ∷ 2 ∷ 4 ∷ [])) ∷ []) }
     ensures two_in_turn { ForksTo two_of_root one_root
         (of_two 1 0x10 0x12 ∷ of_two 2 0x14 0x16 ∷ [])
-        (Some (alone 0) ∷ Some (below 0 (0 ∷ 1 ∷ [])) ∷ Some (below 0 (0 ∷ 2 ∷ [])) ∷ []) }
+        (Some (root_anon 0) ∷ Some (below 0 (0 ∷ 1 ∷ [])) ∷ Some (below 0 (0 ∷ 2 ∷ [])) ∷ []) }
     ensures by_flags { ForksTo three_of_root one_root
         (record (area 0x12 0x14 read_write) { pid = 2; flags = wiped_off }
         ∷ of_two 1 0x14 0x16 ∷ [])
-        (Some (alone 0) ∷ Some (below 0 (0 ∷ 1 ∷ [])) ∷ []) }
+        (Some (root_anon 0) ∷ Some (below 0 (0 ∷ 1 ∷ [])) ∷ []) }
 {}

@@ -7,6 +7,7 @@ ghost use Rattle.av_plain.specs.Areas.{no_anons};
 ghost use Rattle.av_plain.specs.Covered.{AreMergedCovered, AreSlotsCovered};
 ghost use Rattle.av_plain.specs.Ledger.{InFrame, first_ledger};
 ghost use Rattle.av_laws.specs.Areas.{rmap_with};
+ghost use Rattle.av_laws.specs.Examples.{with_entries};
 ghost use Rattle.av_laws.specs.Homes.{
   IsReachable,
   LeadsHomes,
@@ -19,7 +20,6 @@ ghost use Rattle.av_laws.specs.Homes.{
   in_place,
   loaded_at,
   moved_four,
-  naming,
   of_child,
   of_one_page,
   of_two_pages,
@@ -52,11 +52,11 @@ pub fn homes_are_of_pages()
 /// anon_vma of its area; where two pages are at the slot, with the root of that anon_vma.
 pub fn homes_follow()
     ensures by_events { LeadsHomes both_in_frame with_child by_events }
-    ensures in_place { LeadsHomes (naming (((2, 0x12), InFrame 0 false) ∷ [])) with_child in_place }
+    ensures in_place { LeadsHomes (with_entries (((2, 0x12), InFrame 0 false) ∷ [])) with_child in_place }
     ensures prepared_first { LeadsHomes first_ledger (rmap_with (moved_four ∷ []) no_anons)
         prepared_first }
-    ensures of_one_page { LeadsHomes (naming of_one_page) with_child (loaded_at (Some (1, 0x22))) }
-    ensures of_two_pages { LeadsHomes (naming of_two_pages) with_child
+    ensures of_one_page { LeadsHomes (with_entries of_one_page) with_child (loaded_at (Some (1, 0x22))) }
+    ensures of_two_pages { LeadsHomes (with_entries of_two_pages) with_child
         (loaded_at (Some (0, 0x22))) }
 {}
 

@@ -19,6 +19,7 @@ ghost use Rattle.av_laws.specs.Examples.{
   reply_with,
   slot,
   untold,
+  with_entries,
   with_swap,
 };
 ghost use Rattle.av_laws.specs.Pairs.{
@@ -38,7 +39,6 @@ ghost use Rattle.av_laws.specs.Pairs.{
   two_failed,
   two_of_each,
   with_areas,
-  with_entries,
 };
 ghost use Rattle.av_laws.specs.SwapSteps.{third_bad, third_bad_on};
 

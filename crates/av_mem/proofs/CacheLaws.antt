@@ -4,7 +4,7 @@ use Rattle.std.specs.Prelude.{MatchOption}
 use Rattle.av_base.specs.Words.{how_many, without}
 use Rattle.av_base.specs.declared.slot.Slot.{Slot}
 use Rattle.av_frames.specs.Store.{shown as shown_frames, with_dirty}
-use Rattle.av_lru.specs.Lists.{Lists, without_frame}
+use Rattle.av_lru.specs.Lists.{without_frame}
 use Rattle.av_plain.specs.Ledger.{same_slot}
 use Rattle.av_swap_laws.specs.Steps.{view_start, without_slot}
 use Rattle.av_swap_laws.proofs.From.{flight-first}
@@ -16,7 +16,7 @@ use Rattle.av_plain.specs.Device.{Calls}
 use Rattle.av_mem.specs.Cache.{Ends, GoesFirst, Puts}
 use Rattle.av_mem.specs.Mem.{view}
 use Rattle.av_mem.specs.declared.mem.Mem.{Mem}
-use Rattle.av_mem.proofs.StepLaws.{SameRest, lists-without, view-by}
+use Rattle.av_mem.proofs.StepLaws.{SameRest, view-by}
 
 pub start-view : (old new : Mem) (f : ℕ) (s : Slot) → SameRest old new → new.lists ≡ old.lists
     → shown_swap new.swap ≡ record (shown_swap old.swap) { flight = (shown_swap old.swap).flight ++ s ∷ [] }
@@ -87,7 +87,7 @@ ends-written old new s f pages pages' calls calls' same once lists r is h =
       view-by old new (shown_frames old.frames)
           (record { frames = old.lists.frames; active = without f old.lists.active; inactive = without f old.lists.inactive ++ f ∷ [] })
           (record (shown_swap old.swap) { flight = without_slot s (shown_swap old.swap).flight }) same h.3
-          (lists ∙ ap (λ (ls : Lists). record ls { inactive = ls.inactive ++ f ∷ [] }) (lists-without f old.lists))
+          lists
           (first.swap ∙ ap (λ flight. record (shown_swap old.swap) { flight = flight }) (flight-is old (shown_swap new.swap) s f h.0 first once)),
       h.4,
       h.5,

@@ -117,3 +117,14 @@ dropped-view old mid new f s same lists swap frames gone test left = left
     ∙ drop-by f s (view old) gone ((shown_swap old.swap).entries s == 0)
     ∙ ap (λ b. dropped f s (view old) b ((shown_swap old.swap).entries s == 0))
     (sym (sym (ap (λ (F : ShownFrames). F.maps f == 0) frames) ∙ test))
+
+-- the tables are as they were
+pub dropped-table : (f : ℕ) (s : Slot) (v : View) → (view_drop f s v).table ≡ v.table
+dropped-table f s v = by (v.maps f == 0) (v.entries s == 0)
+  where
+    by : (a b : Bool) → (cond b (view_given_back s (cond a (view_freed f (view_uncached f s v)) (view_uncached f s v)))
+        (cond a (view_freed f (view_uncached f s v)) (view_uncached f s v))).table ≡ v.table
+    by true true = refl
+    by true false = refl
+    by false true = refl
+    by false false = refl

@@ -2,7 +2,7 @@
 use Rattle.std.proofs.Common.{◌≡◌, ℕ, ◌+◌, ◌-◌, ◌<◌, ◌==◌, Bool, true, false, cond, not, ◌&&◌, ◌||◌, List, [], ◌∷◌, filter, Option, Some, is_none, refl, sym, ap, subst, ◌∙◌, arith}
 use Rattle.av_base.specs.Words.{is_in, with_at, without}
 use Rattle.av_frames.specs.Store.{Shown, Store, shown as shown_frames, with_bytes, with_home, with_maps}
-use Rattle.av_lru.specs.Lists.{Lists, without_frame}
+use Rattle.av_lru.specs.Lists.{without_frame}
 use Rattle.av_pagetable.specs.declared.pte.Pte.TheVariants.{Here}
 use Rattle.av_pagetable.specs.Entries.{entry_at, with_entry}
 use Rattle.av_rmap.specs.Items.{shown as shown_items}
@@ -16,7 +16,7 @@ use Rattle.av_mem.specs.declared.mem.Mem.{Mem}
 use Rattle.av_mem.specs.Entries.{HasFree, view_copied, view_settled, view_taken}
 use Rattle.av_mem.specs.Mem.{view, view_of_parts}
 use Rattle.av_mem.proofs.MemLaws.{plain_set}
-use Rattle.av_mem.proofs.StepLaws.{SameRest, lists-without, view-by}
+use Rattle.av_mem.proofs.StepLaws.{SameRest, view-by}
 
 -- ---- the first free frame is taken
 
@@ -30,7 +30,7 @@ frame-taken old new f left home same none frames lists swap =
     (record { frames = old.lists.frames; active = without f old.lists.active; inactive = f ∷ without f old.lists.inactive })
     (shown_swap old.swap) same
     (frames ∙ ap (λ n. with_home f home (with_maps f (n + 1) (record (shown_frames old.frames) { free = left }))) none)
-    (lists ∙ ap (λ (ls : Lists). record ls { inactive = f ∷ ls.inactive }) (lists-without f old.lists)) (ap shown_swap swap)
+    lists (ap shown_swap swap)
 
 -- ---- its page names it
 

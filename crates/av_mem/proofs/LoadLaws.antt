@@ -7,7 +7,7 @@ use Rattle.av_base.specs.Words.{is_in, with_at, without}
 use Rattle.av_base.specs.declared.slot.Slot.{Slot}
 use Rattle.av_clusters.specs.Clusters.{give_slot}
 use Rattle.av_frames.specs.Store.{Shown as ShownFrames, Store, shown as shown_frames, with_bytes, with_dirty, with_home, with_maps, with_slot as with_frame_slot}
-use Rattle.av_lru.specs.Lists.{Lists, without_frame}
+use Rattle.av_lru.specs.Lists.{without_frame}
 use Rattle.av_pagetable.specs.declared.pte.Pte.TheVariants.{Here}
 use Rattle.av_pagetable.specs.Entries.{entry_at, with_entry}
 use Rattle.av_plain.proofs.Sound.Counts.{same-itself}
@@ -19,7 +19,7 @@ use Rattle.av_mem.specs.Cache.{HasLoaded}
 use Rattle.av_mem.specs.Mem.{view, view_of_parts}
 use Rattle.av_mem.specs.declared.mem.Mem.{Mem}
 use Rattle.av_mem.proofs.MemLaws.{plain_set}
-use Rattle.av_mem.proofs.StepLaws.{SameRest, lists-without, view-by}
+use Rattle.av_mem.proofs.StepLaws.{SameRest, view-by}
 
 -- ---- a slot that is loaded
 
@@ -55,7 +55,7 @@ loaded-view old new taken loaded f s home pages same first once take load homed 
       (with_find s (Some f) (shown_swap old.swap)) same
       (homed ∙ ap (with_home f home) (load.frame
       ∙ ap (λ (F : ShownFrames). with_dirty f false (with_frame_slot f (Some s) (with_bytes f (slice_index load.page) F))) take))
-      (lists ∙ ap (λ (ls : Lists). record ls { inactive = f ∷ ls.inactive }) (lists-without f old.lists))
+      lists
       load.swap;
 }
 

@@ -1,12 +1,10 @@
 -- The view after a step that changes frames, lists and the swap cache alone.
 use Rattle.std.proofs.Common.{◌≡◌, ℕ, Option}
 use Rattle.av_frames.specs.Store.{Shown as ShownFrames, shown as shown_frames}
-use Rattle.av_lru.specs.Lists.{Lists, without_frame}
+use Rattle.av_lru.specs.Lists.{Lists}
 use Rattle.av_pagetable.specs.Entries.{entry_at}
 use Rattle.av_rmap.specs.Items.{shown as shown_items}
-use Rattle.av_base.specs.Words.{without}
 use Rattle.av_plain.specs.Stands.{Pte as Plain}
-use Rattle.av_swap_laws.proofs.From.{without-turned}
 use Rattle.av_swapcache.specs.Swap.{Shown as ShownSwap, shown as shown_swap}
 use Rattle.av_mem.specs.Mem.{plain, view, view_of_parts}
 use Rattle.av_mem.specs.declared.mem.Mem.{Mem}
@@ -27,12 +25,3 @@ pub view-by : (old new : Mem) (F : ShownFrames) (L : Lists) (h : ShownSwap) → 
 view-by old new F L h same frames lists swap =
     λ i. view_of_parts (frames i) (lists i) (shown_items (same.items i)) (λ p page. plain (entry_at (same.tables i) p page)) (same.spaces i)
     (same.anons i) (swap i)
-
--- both lists
-pub lists-without : (f : ℕ) (ls : Lists) → without_frame f ls
-    ≡ record { frames = ls.frames; active = without f ls.active; inactive = without f ls.inactive }
-lists-without f ls = λ i. record {
-  frames = ls.frames;
-  active = without-turned f ls.active i;
-  inactive = without-turned f ls.inactive i;
-}

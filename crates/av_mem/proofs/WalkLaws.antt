@@ -6,7 +6,7 @@ use Rattle.std.proofs.lemmas.Bool.Decides.{nat_tests}
 use Rattle.std.specs.List.{AllByRecursion, list_any}
 use Rattle.std.specs.FinMap.Entries.{below_all, is_sorted}
 use Rattle.std.specs.Ordering.{is_lt}
-use Rattle.av_base.specs.Keys.{Key, key_cmp, same_key}
+use Rattle.av_base.specs.Keys.{Key, key_cmp}
 use Rattle.av_base.specs.Limits.{top_page}
 use Rattle.av_base.specs.Words.{how_many}
 use Rattle.av_base.specs.declared.slot.Slot.{Slot}
@@ -34,7 +34,6 @@ use Rattle.av_plain.specs.Sound.{AtPages}
 use Rattle.av_plain.specs.Stands.{AreasStand}
 use Rattle.av_plain.specs.World.{World, pages}
 use Rattle.av_plain.specs.Transcript.{State, rmap_of}
-use Rattle.av_plain.proofs.Ledger.NoSwap.{key_is}
 use Rattle.av_plain.proofs.Ledger.Order.{both_first, both_second}
 use Rattle.av_plain.proofs.Ledger.Walk.{all-listed, keys-filter, length-keys, passes}
 use Rattle.av_mem.specs.declared.mem.Mem.{Mem}
@@ -71,8 +70,6 @@ keys-rise p (e ∷ es) h = by (p e.1) (keys-rise p es (both_second _ _ h))
     by true rest = (below-all p e.0 es (both_first _ _ h), rest)
     by false rest = rest
 
--- ---- an entry in both words
-
 -- ---- the entries that a walk finds
 
 -- the list of those that a test of the ledger's entries passes, by a test of the table's that says the same
@@ -80,7 +77,7 @@ module _ (k : Mem) (r : Rmap) (l : Ledger) (h : Reaches k r l) (sorted : T (is_s
     (says : SaysAs test p) where
   its : AreItsEntries (reach k) test (keys_of p l.entries)
   its q = once-there q (keys_of p l.entries) (keys-rise p l.entries sorted)
-      ∙ ap one_if (any-same q (keys_of p l.entries) ∙ keys-filter p l.entries q sorted ∙ sym (passes-there k r l h test p says q))
+      ∙ ap one_if (keys-filter p l.entries q sorted ∙ sym (passes-there k r l h test p says q))
 
   -- each list of them is as long as how many pass
   many : (n : ℕ) → n ≡ how_many (λ e. p e.1) l.entries → (keys : List Key) → AreItsEntries (reach k) test keys → length keys ≡ n

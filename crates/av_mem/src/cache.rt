@@ -73,6 +73,7 @@ impl Mem {
         requires fits { HasRoom self.old }
         requires listed { HasLists self.old }
         requires itemed { HasItems self.old }
+        requires in_range { frame < frame_count self.old }
         requires cached { (view self.old).find slot ≡ Some frame }
         requires landed { is_flying (shown_swap self.old.swap) slot ≡ false }
         requires in_use { is_in frame (view self.old).free ≡ false }

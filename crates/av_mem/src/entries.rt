@@ -230,7 +230,7 @@ fn drop_orphan(mem: &mut Mem, slot: Slot, notes: &mut Notes) -> Result<(), Alloc
 /// Whether the slot at which a frame is cached is not in flight, and no entry names it or the
 /// frame.
 pub fn is_orphan(mem: &Mem, frame: u32, slot: Slot) -> bool
-    requires fits { HasRoom mem.now }
+    requires in_range { frame < frame_count mem.now }
     requires cached { (view mem.now).find slot ≡ Some frame }
     ensures { result ≡ is_orphan (view mem.now) slot }
 {

@@ -13,7 +13,7 @@ use Rattle.av_rmap.specs.Items.{is_merged as has_items}
 use Rattle.av_plain.specs.Areas.{Rmap}
 use Rattle.av_plain.specs.Device.{Device}
 use Rattle.av_plain.specs.Event.{Noted, after_note}
-use Rattle.av_plain.specs.Ledger.{Cached, Ledger, cached_by, frame_at, is_cached, map_count, same_slot, slot_entries, slot_of}
+use Rattle.av_plain.specs.Ledger.{Cached, Ledger, Setting, cached_by, frame_at, is_cached, map_count, same_slot, slot_entries, slot_of}
 use Rattle.av_plain.specs.Sound.{IsSoundBut}
 use Rattle.av_plain.specs.Stands.{View}
 use Rattle.av_plain.specs.World.{World}
@@ -166,14 +166,17 @@ drop-makes names d old new f s is parts = λ l sound stood may. let once = once-
       wrote = wrote-none d.history;
     }) (λ w. same-world (is_some (setting_by d old).headers) w) (λ w r h. by-view d d old new l (Dropped s) (view_drop f s (view old)) w r is
     (drop-steps (setting_by d old) (closing_of old) (held_by d old w r l) h.held f s once at
-    (cached-in_range (setting_by d old) any_slot l sound f s at) (cached-there (setting_by d old) any_slot l sound f s h.there at)
+    (cached-below (setting_by d old) l f s sound may.cached) (cached-there (setting_by d old) any_slot l sound f s h.there at)
     (may-leave l f s may)))
 
--- its frame is not free
+-- its frame is one of the machine's, and not free
+pub cached-below : (m : Setting) (l : Ledger) (f : ℕ) (s : Slot) → IsSoundBut m any_slot l → slot_of l f ≡ Some s → f < m.frames
+cached-below m l f s sound at = cached-in_range m any_slot l sound f s (slot-frame l (once-of m any_slot l sound) f s at)
+
 pub in-use : (d : Device) (closing : Option ℕ) (k : Mem) (w : World) (r : Rmap) (l : Ledger) (f : ℕ) (s : Slot)
     → IsSoundBut (setting_by d k) any_slot l → Serves d closing k w r l → slot_of l f ≡ Some s → is_in f (view k).free ≡ false
 in-use d closing k w r l f s sound h at =
-    h.held.ledger.frames.free f (cached-in_range (setting_by d k) any_slot l sound f s (slot-frame l (once-of (setting_by d k) any_slot l sound) f s at))
+    h.held.ledger.frames.free f (cached-below (setting_by d k) l f s sound at)
     ∙ ap (λ o. (map_count l f == 0) && is_none o) at ∙ none (map_count l f == 0)
   where
     none : (b : Bool) → (b && false) ≡ false

@@ -3,7 +3,7 @@ use Rattle.std.proofs.Common.{◌≡◌, ℕ, ◌+◌, ◌≤◌, ◌==◌, ◌|
 use Rattle.std.proofs.lemmas.Bool.{eqb-true, false≢true}
 use Rattle.std.proofs.lemmas.Bool.Decides.{nat_tests}
 use Rattle.std.specs.Prelude.{OnOk, option_and_then}
-use Rattle.av_base.specs.Keys.{Key}
+use Rattle.av_base.specs.Keys.{Key, same_key}
 use Rattle.av_base.specs.Items.{is_item}
 use Rattle.av_base.specs.Words.{how_many, is_in, with_at}
 use Rattle.av_chain.specs.Links.{one_if}
@@ -200,8 +200,13 @@ module _ (areas : ℕ → Option Area) (f : Family) (spans : ℕ → List Span) 
           ∙ ap (λ y. names_frame 7 (cond y frame_7 Empty)) d) ∙ h))
 
   pub two_entries : AreItsEntries (view_with areas f spans entry) (names_frame 7) ((1, 11) ∷ (2, 11) ∷ [])
-  two_entries k = by (k.0 == 1 && k.1 == 11) (k.0 == 2 && k.1 == 11) refl refl ∙ sym (ap (λ e. one_if (names_frame 7 e)) (entries k.0 k.1))
+  two_entries k =
+      (λ i. cond (tests 1 11 i) 1 0 + (cond (tests 2 11 i) 1 0 + 0)) ∙ by (k.0 == 1 && k.1 == 11) (k.0 == 2 && k.1 == 11) refl refl
+      ∙ sym (ap (λ e. one_if (names_frame 7 e)) (entries k.0 k.1))
     where
+      tests : (p page : ℕ) → same_key k (p, page) ≡ (k.0 == p && k.1 == page)
+      tests p page = grind (arith, nat_tests)
+
       both : (k.0 == 1 && k.1 == 11) ≡ true → (k.0 == 2 && k.1 == 11) ≡ true → ⊥
       both e d = let one : k.0 ≡ 1 = grind (arith, nat_tests, e) in let two : k.0 ≡ 2 = grind (arith, nat_tests, d) in
           absurd (omega (arith, one, two))

@@ -1,7 +1,7 @@
 use Rattle.std.proofs.Common.{◌<◌, ◌==◌, not, ◌&&◌, false, sym, ap, subst, ◌∙◌, arith}
 use Rattle.av_swapcache.specs.Swap.{is_flying, shown}
 use Rattle.av_mem.specs.Mem.{view}
-use Rattle.av_fault.proofs.DropLaws.{drop-find, dropped-entries, has-dropped, in-use, needed-dropped, not-both, uncached-dropped}
+use Rattle.av_fault.proofs.DropLaws.{drop-below, drop-find, dropped-entries, has-dropped, in-use, needed-dropped, not-both, uncached-dropped}
 use Rattle.av_fault.proofs.using.drop_unneeded.Goals as goal
 use Rattle.av_fault.proofs.using.drop_unneeded.Goals.{then-in_flight-via-then-in_flight, then-in_flight-via-else-in_flight+then-entries-gt0}
 
@@ -19,6 +19,11 @@ returns-then-in_flight-clause-dropped c = λ d w r l h.
       | then-in_flight-via-else-in_flight+then-entries-gt0 w ↦ not-both (not (is_flying (shown old.swap) s)) ((view old).entries s)
           (subst (λ n. 0 < n) w.entries.ensures w.if-entries-gt0.true)
     ])
+
+pub drop_slot-requires-clause-in_range : goal.drop_slot-requires-clause-in_range
+drop_slot-requires-clause-in_range c =
+    let b = c.requires.between in
+    drop-below b.0 c.args.mem.now b.1 b.2 b.3 b.4 c.args.frame c.in-Some.slot (sym c.slot.ensures ∙ c.in-Some.is)
 
 pub drop_slot-requires-clause-cached : goal.drop_slot-requires-clause-cached
 drop_slot-requires-clause-cached c =

@@ -5,9 +5,9 @@ use Rattle.std.specs.Prelude.{IfSome, IsSomeAnd}
 use Rattle.av_base.specs.Words.{is_in, with_at}
 use Rattle.av_vma.specs.declared.area.Area.{Area}
 use Rattle.av_vma.specs.Pages.{Pages, has_page, pages_in}
-use Rattle.av_plain.specs.Areas.{AnonVma, Anons, Areas, Rmap, no_anons, none_on}
+use Rattle.av_plain.specs.Areas.{AnonVma, Anons, Areas, Rmap, no_anons, none_on, root_anon}
 use Rattle.av_plain.specs.Fork.{IsIdle, own_of_child, with_child, with_child_area}
-use Rattle.av_laws.specs.Areas.{alone, area, area_of, family, four, one_root, rmap_with, root}
+use Rattle.av_laws.specs.Areas.{area, area_of, family, four, one_root, rmap_with, root}
 use Rattle.av_laws.specs.Examples.{read_write}
 use Rattle.av_laws.specs.Flags.{wiped_off}
 use Rattle.av_laws.specs.Forks.{four_deep, siblings, three_of_root, two_of_root}
@@ -95,7 +95,7 @@ returns-clause-new_below_root c =
         area_of 0 0x10 0x14 ∷ [],
         omega arith,
         λ page. refl,
-        (next, (None, (λ v is. among (IsNot old) (0 ∷ []) v is (not-root old 0 (alone 0) refl refl, tt)), refl), refl),
+        (next, (None, (λ v is. among (IsNot old) (0 ∷ []) v is (not-root old 0 (root_anon 0) refl refl, tt)), refl), refl),
       ),
       refl,
       refl,
@@ -194,10 +194,10 @@ returns-clause-two_in_turn c =
         λ page. refl,
         (
           mid,
-          (None, (λ v is. among (IsNot old) (0 ∷ []) v is (not-root old 0 (alone 0) refl refl, tt)), refl),
+          (None, (λ v is. among (IsNot old) (0 ∷ []) v is (not-root old 0 (root_anon 0) refl refl, tt)), refl),
           (
             next,
-            (None, (λ v is. among (IsNot mid) (0 ∷ []) v is (not-root mid 0 (alone 0) refl refl, tt)), refl),
+            (None, (λ v is. among (IsNot mid) (0 ∷ []) v is (not-root mid 0 (root_anon 0) refl refl, tt)), refl),
             refl,
           ),
         ),
@@ -221,7 +221,7 @@ returns-clause-by_flags c =
           refl,
           (
             next,
-            (None, (λ v is. among (IsNot mid) (0 ∷ []) v is (not-root mid 0 (alone 0) refl refl, tt)), refl),
+            (None, (λ v is. among (IsNot mid) (0 ∷ []) v is (not-root mid 0 (root_anon 0) refl refl, tt)), refl),
             refl,
           ),
         ),
