@@ -1,7 +1,7 @@
 pub mod CandidateLaws
-pub mod Sharing
-pub mod Joining
+pub mod ShareStep
+pub mod JoinStep
 pub mod JoiningViews
-pub mod Done
+pub mod StepDone
 pub mod Knowing
 pub mod Turn

@@ -16,7 +16,7 @@ use Rattle.av_plain.proofs.Sound.Frames.{merged-joined}
 use Rattle.av_ksm.specs.Join.{HasOwn}
 use Rattle.av_ksm.specs.Known.{IsLeast, Known, Knows, MayJoin, Waits, first_like}
 use Rattle.av_ksm.proofs.Knowing.{HasGone, HasMergedToo}
-use Rattle.av_ksm.proofs.Sharing.{merged-more, merged-other, unmerged-none}
+use Rattle.av_ksm.proofs.ShareStep.{merged-more, merged-other, unmerged-none}
 
 -- ---- the notes
 

@@ -33,8 +33,8 @@ use Rattle.av_mem.proofs.HomeLaws.{root-is}
 use Rattle.av_mem.proofs.ServesLaws.{serves-note, setting-stays}
 use Rattle.av_ksm.specs.Join.{HasOwn, view_joined, view_shared}
 use Rattle.av_ksm.specs.Joining.{HasShared, item_by}
-use Rattle.av_ksm.proofs.Joining.{join-steps}
-use Rattle.av_ksm.proofs.Sharing.{merged-some, share-steps, unmerged-none}
+use Rattle.av_ksm.proofs.JoinStep.{join-steps}
+use Rattle.av_ksm.proofs.ShareStep.{merged-some, share-steps, unmerged-none}
 
 -- ---- one event done
 
