@@ -1,12 +1,12 @@
 -- The view after a step of a merge.
-use Rattle.std.proofs.Common.{◌≡◌, ℕ, ◌+◌, ◌-◌, ◌<◌, Bool, true, false, cond, ◌&&◌, ◌==◌, Option, Some, None, is_none, refl, sym, ap, ◌∙◌, arith}
+use Rattle.std.proofs.Common.{◌≡◌, ℕ, ◌+◌, ◌-◌, ◌<◌, Bool, true, false, cond, ◌&&◌, ◌==◌, List, Option, Some, None, is_none, refl, sym, ap, ◌∙◌, arith}
 use Rattle.std.proofs.lemmas.Bool.Decides.{nat_tests}
 use Rattle.std.specs.Option.{option_map_or}
 use Rattle.av_anon.specs.declared.infos.Info.{Info}
 use Rattle.av_base.specs.Items.{Item, with_item}
 use Rattle.av_base.specs.Words.{with_at}
-use Rattle.av_frames.specs.Store.{Shown, shown, with_home, with_maps}
-use Rattle.av_pagetable.specs.Entries.{entry_at, with_entry}
+use Rattle.av_frames.specs.Store.{Shown, Store, shown, with_home, with_maps}
+use Rattle.av_pagetable.specs.Entries.{ProcessTables, entry_at, has, with_entry}
 use Rattle.av_pagetable.specs.declared.pte.Pte.TheVariants.{Here}
 use Rattle.av_rmap.specs.Items.{shown as shown_items, with_items}
 use Rattle.av_spaces.specs.Kin.{info_of}
@@ -18,6 +18,7 @@ use Rattle.av_mem.specs.declared.mem.Mem.{Mem}
 use Rattle.av_mem.specs.Cache.{root_in}
 use Rattle.av_mem.specs.Entries.{view_settled}
 use Rattle.av_mem.specs.Mem.{view, view_of_parts}
+use Rattle.av_mem.specs.Steps.{KeepsParts}
 use Rattle.av_mem.proofs.MemLaws.{plain_set}
 use Rattle.av_ksm.specs.Join.{view_joined, view_joining, view_shared, view_with_item}
 
@@ -90,3 +91,35 @@ joined-settles v p page f g item apart some uncached =
 
     last : (n : ℕ) → 0 < n → (n - 1 == 0 && true) ≡ (n == 1)
     last n h = grind (arith, nat_tests, h)
+
+-- ---- what a step keeps
+
+pub with-items : (k : Mem) (items : List (List Item)) → (shown_items items).frames ≡ (shown_items k.items).frames → KeepsParts k (record k { items = items })
+with-items k items same = record {
+  stay = refl;
+  processes = refl;
+  count = refl;
+  lists = refl;
+  items = same;
+  swap = record { frames = refl; on = refl; bad = refl; closing = refl; priority = refl };
+}
+
+pub with-frames : (k : Mem) (frames : Store) → (shown frames).count ≡ (shown k.frames).count → KeepsParts k (record k { frames = frames })
+with-frames k frames same = record {
+  stay = refl;
+  processes = refl;
+  count = same;
+  lists = refl;
+  items = refl;
+  swap = record { frames = refl; on = refl; bad = refl; closing = refl; priority = refl };
+}
+
+pub with-tables : (k : Mem) (tables : ProcessTables) → has tables ≡ has k.tables → KeepsParts k (record k { tables = tables })
+with-tables k tables same = record {
+  stay = refl;
+  processes = same;
+  count = refl;
+  lists = refl;
+  items = refl;
+  swap = record { frames = refl; on = refl; bad = refl; closing = refl; priority = refl };
+}

@@ -25,8 +25,13 @@ pub fn candidate(mem: &Mem, key: (u16, u64)) -> Option<u32>
     let Pte::Here { frame, .. } = mem.tables.get(key.0, key.1) else {
         return None;
     };
-    let may = is_mergeable(mem, key) && may_join(mem, frame);
-    may.then_some(frame)
+    if !is_mergeable(mem, key) {
+        return None;
+    }
+    if !may_join(mem, frame) {
+        return None;
+    }
+    Some(frame)
 }
 
 /// Whether a page may be merged, by its area.
@@ -47,5 +52,11 @@ fn may_join(mem: &Mem, frame: u32) -> bool
         → result ≡ (not (is_merged l frame) && is_none (slot_of l frame)
         && not (is_locked w l frame)) }
 {
-    !mem.is_merged(frame) && mem.frames.slot(frame).is_none() && !mem.is_locked(frame)
+    if mem.is_merged(frame) {
+        return false;
+    }
+    if mem.frames.slot(frame).is_some() {
+        return false;
+    }
+    !mem.is_locked(frame)
 }

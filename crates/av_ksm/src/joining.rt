@@ -1,7 +1,8 @@
 //! The steps of a merge: a frame is merged, and a page joins it.
 
 ghost use Rattle.std.specs.Prelude.{◌≡◌, ◌-◌, ◌^◌, ◌<◌, ℕ, Bool, None, false, true, [], ◌∷◌};
-ghost use Rattle.std.specs.Prelude.{ForSome, IsSome, MatchResult, OnOk};
+ghost use Rattle.std.specs.Option.{ForSome};
+ghost use Rattle.std.specs.Prelude.{IsSome, MatchResult, OnOk};
 ghost use Rattle.av_base.specs.Page.{address_of, page_size};
 ghost use Rattle.av_base.specs.Words.{is_in};
 ghost use Rattle.av_pagetable.specs.Entries.{entry_at, with_entry};
