@@ -1,14 +1,15 @@
 -- Whether a page may join another: what the kernel answers is what memories and ledger say.
-use Rattle.std.proofs.Common.{◌≡◌, ◌<◌, ◌≤◌, ℕ, Bool, true, false, cond, not, ◌&&◌, Option, Some, None, is_none, option_map, refl, sym, ap, subst, ◌∙◌, arith}
+use Rattle.std.proofs.Common.{◌≡◌, ◌<◌, ◌≤◌, ℕ, Bool, true, false, cond, not, ◌&&◌, Option, Some, None, is_none, is_some, option_map, MatchBool, refl, sym, ap, subst, ◌∙◌, arith}
 use Rattle.av_base.specs.Keys.{Key}
 use Rattle.av_base.specs.declared.flags.Flags.{Flags}
+use Rattle.av_base.specs.declared.slot.Slot.{Slot}
 use Rattle.av_vma.specs.Pages.{pages_in}
 use Rattle.av_vma.specs.declared.area.Area.{Area}
 use Rattle.av_pagetable.specs.Entries.{entry_at}
 use Rattle.av_pagetable.specs.declared.pte.Pte.{Pte}
 use Rattle.av_pagetable.specs.declared.pte.Pte.TheVariants.{Away, Empty, Here, Zero}
 use Rattle.av_rmap.specs.Items.{is_merged as has_items}
-use Rattle.av_spaces.specs.Spaces.{pages_of}
+use Rattle.av_spaces.specs.Spaces.{AreNumbered, pages_of}
 use Rattle.av_plain.specs.Areas.{Rmap}
 use Rattle.av_plain.specs.Device.{Device}
 use Rattle.av_plain.specs.Fault.{is_locked}
@@ -20,9 +21,9 @@ use Rattle.av_plain.proofs.Ledger.{how_many-found}
 use Rattle.av_plain.proofs.Sound.Counts.{same-itself}
 use Rattle.av_mem.specs.declared.mem.Mem.{Mem}
 use Rattle.av_mem.specs.Between.{KeepsBetween}
-use Rattle.av_mem.specs.Chains.{AreFound}
+use Rattle.av_mem.specs.Chains.{AreFound, HasLocked}
 use Rattle.av_mem.specs.Mem.{frame_count, plain, setting_by, view}
-use Rattle.av_mem.proofs.LockedLaws.{merged-is}
+use Rattle.av_mem.proofs.LockedLaws.{locked-is, merged-is}
 use Rattle.av_mem.proofs.ReachLaws.{are-found, reaches-served}
 use Rattle.av_ksm.specs.Candidate.{is_mergeable}
 
@@ -70,6 +71,39 @@ module _ (d : Device) (k : Mem) (w : World) (r : Rmap) (l : Ledger) (h : KeepsBe
       grouped : (a b c d : Bool) → (a && (b && c && d)) ≡ (a && b && c && d)
       grouped true b c d = refl
       grouped false b c d = refl
+
+  -- ---- whether its frame may join another
+
+  -- not where it is merged
+  pub join-merged : (f : ℕ) → has_items ((view k).items f) ≡ true
+      → false ≡ (not (is_merged l f) && is_none (slot_of l f) && not (is_locked w l f))
+  join-merged f is = λ n. not ((sym is ∙ merged-told f) n) && is_none (slot_of l f) && not (is_locked w l f)
+
+  -- nor where it is cached
+  pub join-cached : (f : ℕ) → is_some ((view k).slot f) ≡ true
+      → false ≡ (not (is_merged l f) && is_none (slot_of l f) && not (is_locked w l f))
+  join-cached f is = sym (ap (λ b. not (is_merged l f) && b && not (is_locked w l f))
+      (cached (slot_of l f) (ap is_some (sym (h.serves.held.ledger.frames.slots f)) ∙ is)) ∙ neither (not (is_merged l f)) (not (is_locked w l f)))
+    where
+      cached : (o : Option Slot) → is_some o ≡ true → is_none o ≡ false
+      cached None e = cc
+      cached (Some s) e = refl
+
+      neither : (a b : Bool) → (a && false && b) ≡ false
+      neither true b = refl
+      neither false b = refl
+
+  -- and else where it isn't one of a locked page
+  pub join-unlocked : (f : ℕ) → has_items ((view k).items f) ≡ false → is_some ((view k).slot f) ≡ false → AreNumbered k.spaces → (b : Bool)
+      → MatchBool b (HasLocked k f) (HasLocked k f → ⊥)
+      → not b ≡ (not (is_merged l f) && is_none (slot_of l f) && not (is_locked w l f))
+  join-unlocked f is none numbered b told = λ n. not ((sym is ∙ merged-told f) n)
+      && uncached (slot_of l f) (ap is_some (sym (h.serves.held.ledger.frames.slots f)) ∙ none) n
+      && not (locked-is d None k w r l h.sound.in_order h.serves numbered f b told n)
+    where
+      uncached : (o : Option Slot) → is_some o ≡ false → true ≡ is_none o
+      uncached None e = refl
+      uncached (Some s) e = cc
 
 -- a page without a frame is no candidate
 pub candidate-none : (d : Device) (k : Mem) (w : World) (r : Rmap) (l : Ledger) → KeepsBetween d k w r l → (key : Key) (e : Pte)

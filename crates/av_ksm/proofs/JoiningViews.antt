@@ -1,5 +1,5 @@
 -- The view after a step of a merge.
-use Rattle.std.proofs.Common.{◌≡◌, ℕ, ◌+◌, ◌-◌, ◌<◌, Bool, true, false, cond, ◌&&◌, ◌==◌, List, Option, Some, None, is_none, refl, sym, ap, ◌∙◌, arith}
+use Rattle.std.proofs.Common.{◌≡◌, ℕ, ◌+◌, ◌-◌, ◌<◌, Bool, true, false, cond, ◌&&◌, ◌==◌, List, Option, Some, None, is_none, refl, sym, ap, subst, ◌∙◌, ◌^◌, arith}
 use Rattle.std.proofs.lemmas.Bool.Decides.{nat_tests}
 use Rattle.std.specs.Option.{option_map_or}
 use Rattle.av_anon.specs.declared.infos.Info.{Info}
@@ -13,6 +13,7 @@ use Rattle.av_spaces.specs.Kin.{info_of}
 use Rattle.av_swapcache.specs.Swap.{shown as shown_swap}
 use Rattle.av_plain.specs.Ledger.{InFrame}
 use Rattle.av_plain.specs.Stands.{View}
+use Rattle.av_plain.proofs.Sound.Counts.{same-is}
 use Rattle.av_swap_laws.specs.Steps.{view_freed, with_pte}
 use Rattle.av_mem.specs.declared.mem.Mem.{Mem}
 use Rattle.av_mem.specs.Cache.{root_in}
@@ -35,12 +36,12 @@ item-added old new f item rest is = ap view rest
 
 -- ---- a frame is merged
 
-pub share-view : (old mid new : Mem) (p page f : ℕ) (seen : Bool) (item : Option Item) → view mid ≡ view_with_item f item (view old)
-    → new ≡ record mid { frames = new.frames; tables = new.tables } → shown new.frames ≡ with_home f None (shown mid.frames)
+pub share-view : (old mid new : Mem) (frames : Store) (p page f : ℕ) (seen : Bool) (item : Option Item) → view mid ≡ view_with_item f item (view old)
+    → new ≡ record mid { frames = frames; tables = new.tables } → shown frames ≡ with_home f None (shown mid.frames)
     → entry_at new.tables ≡ with_entry p page (Here f false seen) (entry_at mid.tables)
     → view new ≡ view_shared p page f seen item (view old)
-share-view old mid new p page f seen item added rest frames tables = ap view rest
-    ∙ (λ i. view_of_parts (frames i) mid.lists (shown_items mid.items)
+share-view old mid new frames p page f seen item added rest homes tables = ap view rest
+    ∙ (λ i. view_of_parts (homes i) mid.lists (shown_items mid.items)
     (plain_set (entry_at mid.tables) (entry_at new.tables) p page (Here f false seen) tables i) mid.spaces mid.anons (shown_swap mid.swap))
     ∙ ap (λ (v : View). record v {
       homes = with_at f None v.homes;
@@ -64,13 +65,26 @@ joining-view old mid new p page f g item apart added rest down fewer more tables
       table = with_pte p page (Some (record { entry = InFrame f false; write = false })) v.table;
     }) added
   where
-    left : Shown
-    left = with_maps g ((shown mid.frames).maps g - 1) (shown mid.frames)
-
     frames : shown new.frames ≡ with_maps f ((shown mid.frames).maps f + 1) (with_maps g ((shown mid.frames).maps g - 1) (shown mid.frames))
     frames = more ∙ ap (λ (s : Shown). with_maps f (s.maps f + 1) s) fewer
         ∙ ap (λ b. with_maps f (cond b ((shown mid.frames).maps g - 1) ((shown mid.frames).maps f) + 1)
         (with_maps g ((shown mid.frames).maps g - 1) (shown mid.frames))) apart
+
+-- the merged frame may have as many entries as before
+pub room-still : (old mid : Mem) (frames : Store) (f g : ℕ) → mid ≡ record old { items = mid.items }
+    → shown frames ≡ with_maps g ((shown mid.frames).maps g - 1) (shown mid.frames) → (f == g) ≡ false
+    → (shown old.frames).maps f < 2 ^ 64 - 1 → (shown frames).maps f < 2 ^ 64 - 1
+room-still old mid frames f g rest down apart room = subst (λ n. n < 2 ^ 64 - 1)
+    (sym (ap (λ (s : Shown). s.maps f) down ∙ ap (λ b. cond b ((shown mid.frames).maps g - 1) ((shown mid.frames).maps f)) apart
+    ∙ ap (λ (k : Mem). (shown k.frames).maps f) rest)) room
+
+-- two frames that aren't one
+pub other-frame : (f g : ℕ) → (g ≡ f → ⊥) → ((f == g) ≡ false) × ((g == f) ≡ false)
+other-frame f g other = (by (f == g) refl (λ e. other (sym (same-is f g e))), by (g == f) refl (λ e. other (same-is g f e)))
+  where
+    by : (b : Bool) {c : Bool} → c ≡ b → (c ≡ true → ⊥) → c ≡ false
+    by true e none = absurd (none e)
+    by false e none = e
 
 abbrev freed_by : ℕ → View → Bool → View
 freed_by g v last = cond last (view_freed g v) v

@@ -2,7 +2,7 @@
 
 ghost use Rattle.std.specs.Prelude.{◌≡◌, ◌-◌, ◌^◌, ◌<◌, ℕ, Bool, None, false, true, [], ◌∷◌};
 ghost use Rattle.std.specs.Option.{ForSome};
-ghost use Rattle.std.specs.Prelude.{IsSome, MatchResult, OnOk};
+ghost use Rattle.std.specs.Prelude.{IsSome, OnErr, OnOk};
 ghost use Rattle.av_base.specs.Page.{address_of, page_size};
 ghost use Rattle.av_base.specs.Words.{is_in};
 ghost use Rattle.av_pagetable.specs.Entries.{entry_at, with_entry};
@@ -36,8 +36,8 @@ pub fn share(mem: &mut Mem, key: (u16, u64), frame: u32) -> Result<(), AllocErro
     requires in_range { frame < frame_count mem.old }
     requires rooted { ForSome ((view mem.old).homes frame)
         (λ home. IsSome (info_of mem.old.anons home.0)) }
-    ensures shared { MatchResult result (λ _. HasShared mem.old mem.new key frame)
-        (λ _. view mem.new ≡ view mem.old) }
+    ensures shared { OnOk result (HasShared mem.old mem.new key frame) }
+    ensures none { OnErr result (view mem.new ≡ view mem.old) }
     ensures done { OnOk result ((d : Device) (w : World) (r : Rmap) (l : Ledger) (seen : Bool)
         → KeepsBetween d mem.old w r l → HasOwn l key frame seen
         → HasDone d d mem.old mem.new w r l (Noted (Shared frame) ∷ [])) }
@@ -70,10 +70,9 @@ pub fn join(
     requires itemed { HasItems mem.old }
     requires in_range { (own < frame_count mem.old) × (frame < frame_count mem.old) }
     requires rooted { ForSome home (λ home. IsSome (info_of mem.old.anons home.0)) }
-    ensures joined { MatchResult result
-        (λ _. view mem.new ≡ view_joined key.0 key.1 frame own (item_by mem.old home)
-        (view mem.old))
-        (λ _. view mem.new ≡ view mem.old) }
+    ensures joined { OnOk result (view mem.new
+        ≡ view_joined key.0 key.1 frame own (item_by mem.old home) (view mem.old)) }
+    ensures none { OnErr result (view mem.new ≡ view mem.old) }
     ensures done { OnOk result ((d : Device) (w : World) (r : Rmap) (l : Ledger) (seen : Bool)
         → KeepsBetween d mem.old w r l → HasOwn l key own seen → is_merged l frame ≡ true
         → ((i : ℕ) → i < page_size → (view mem.old).bytes frame i ≡ (view mem.old).bytes own i)
@@ -94,15 +93,15 @@ fn add_item(mem: &mut Mem, frame: u32, home: Option<(u64, u64)>) -> Result<(), A
     requires itemed { HasItems mem.old }
     requires in_range { frame < frame_count mem.old }
     requires rooted { ForSome home (λ home. IsSome (info_of mem.old.anons home.0)) }
-    ensures added { MatchResult result
-        (λ _. view mem.new ≡ view_with_item frame (item_by mem.old home) (view mem.old))
-        (λ _. view mem.new ≡ view mem.old) }
+    ensures added { OnOk result (view mem.new
+        ≡ view_with_item frame (item_by mem.old home) (view mem.old)) }
+    ensures none { OnErr result (view mem.new ≡ view mem.old) }
     ensures rest { mem.new ≡ record mem.old { items = mem.new.items } }
     ensures parts { KeepsParts mem.old mem.new }
 {
-    if let Some((own, index)) = home {
-        let root = mem.anons.info(own).root;
-        mem.items.add(frame, root, index)?;
+    if let Some(at) = home {
+        let root = mem.anons.info(at.0).root;
+        mem.items.add(frame, root, at.1)?;
     }
     Ok(())
 }
