@@ -1,21 +1,23 @@
 -- A candidate in its turn: which notes there are, by what is known; and what a join leaves.
-use Rattle.std.proofs.Common.{◌≡◌, ◌⊎◌, inl, inr, ℕ, Bool, true, false, cond, ◌||◌, ◌==◌, nat_lt, List, [], ◌∷◌, Option, Some, None, refl, sym, ap, subst, ◌∙◌}
+use Rattle.std.proofs.Common.{◌≡◌, ◌⊎◌, inl, inr, ℕ, Bool, true, false, cond, ◌&&◌, ◌<◌, ◌==◌, nat_lt, List, [], ◌∷◌, ◌++◌, map, filter, Option, Some, None, option_map, refl, sym, ap, subst, ◌∙◌}
 use Rattle.std.proofs.lemmas.Bool.{false≢true}
+use Rattle.std.specs.List.{find, range_with_len}
 use Rattle.av_base.specs.Keys.{Key, same_key}
 use Rattle.av_base.specs.Page.{address_of}
 use Rattle.av_trace.specs.declared.note.Note.{Note}
 use Rattle.av_trace.specs.declared.note.Note.TheVariants.{Joined, Shared}
-use Rattle.av_plain.specs.Event.{after_note, change_frame}
+use Rattle.av_plain.specs.Event.{after_note, after_notes, change_frame, key_at}
 use Rattle.av_plain.specs.Ledger.{InFrame, Ledger, Setting, entry, is_merged, slot_of}
-use Rattle.av_plain.specs.Merge.{FrameBytes, join_notes, merge_notes, merged_like, other_like}
+use Rattle.av_plain.specs.Merge.{FrameBytes, hold_same, join_notes, merge_notes, merged_like, other_like}
 use Rattle.av_plain.proofs.Event.{changed-by}
 use Rattle.av_plain.proofs.Ledger.{entry-set}
+use Rattle.av_plain.proofs.Ledger.NoSwap.{key_at-address}
 use Rattle.av_plain.proofs.Sound.Changes.{any-counts}
-use Rattle.av_plain.proofs.Sound.Counts.{same-itself}
-use Rattle.av_plain.proofs.Sound.Frames.{merged-joined}
+use Rattle.av_plain.proofs.Sound.Counts.{same-is, same-itself, same-turned}
+use Rattle.av_plain.proofs.Sound.Frames.{found-is, merged-joined, split}
 use Rattle.av_ksm.specs.Join.{HasOwn}
-use Rattle.av_ksm.specs.Known.{IsLeast, Known, Knows, MayJoin, Waits, first_like}
-use Rattle.av_ksm.proofs.Knowing.{HasGone, HasMergedToo}
+use Rattle.av_ksm.specs.Known.{IsLeast, Known, Knows, MayJoin, TakesTurn, Waits, as_merged, first_like, known_at_first}
+use Rattle.av_ksm.proofs.Knowing.{HasGone, HasMergedToo, knows-again, knows-joined, knows-more, knows-shared}
 use Rattle.av_ksm.proofs.ShareStep.{merged-more, merged-other, unmerged-none}
 
 -- ---- the notes
@@ -107,3 +109,80 @@ has-merged-too l k f g seen own apart =
         uncached = o.uncached;
       });
     }
+
+-- ---- the whole
+
+-- the notes, by whether it is the frame itself, and whether it is merged
+abbrev notes_by_tests : Key → ℕ → Bool → Bool → List Note
+notes_by_tests k g again merged =
+    cond again [] (cond merged (Joined k.0 (address_of k.1) g ∷ []) (Shared g ∷ Joined k.0 (address_of k.1) g ∷ []))
+
+module _ (m : Setting) (held : FrameBytes) (l : Ledger) (earlier : List ℕ) (known : List Known) (h : Knows m held l earlier known) (k : Key) (f : ℕ)
+    (seen : Bool) (own : HasOwn l k f seen) where
+  -- the key of the page's address
+  at-key : key_at k.0 (address_of k.1) ≡ k
+  at-key = key_at-address k
+
+  joined-knows : (x : Known) → first_like held known f ≡ Some x → is_merged l x.0 ≡ true → IsLeast m held l f x
+      → Knows m held (after_notes l (Joined k.0 (address_of k.1) x.0 ∷ [])) (earlier ++ f ∷ []) known
+  joined-knows x is merged least = subst (λ q. Knows m held (change_frame q x.0 l) (earlier ++ f ∷ []) known) (sym at-key)
+      (knows-joined m held l earlier known h k f seen own x is (change_frame k x.0 l) (has-gone l k x.0 f seen own) least)
+
+  shared-knows : (x : Known) → first_like held known f ≡ Some x → (x.0 == f) ≡ false → x.0 < m.frames → Waits m held l earlier f x
+      → Knows m held (after_notes l (Shared x.0 ∷ Joined k.0 (address_of k.1) x.0 ∷ [])) (earlier ++ f ∷ []) known
+  shared-knows x is other below w =
+      subst (λ q. Knows m held (change_frame q x.0 (after_note (Shared x.0) l)) (earlier ++ f ∷ []) known) (sym at-key)
+      (knows-shared m held l earlier known h k f seen own x is (change_frame k x.0 (after_note (Shared x.0) l))
+      (has-merged-too l k x.0 f seen own (sym (same-turned x.0 f) ∙ other)) below w)
+
+  pub turn-taken : (o : Option Known) → first_like held known f ≡ o → TakesTurn m held l earlier known k f o
+  turn-taken None is = (turn-new m held l earlier known h k f seen own is, knows-more m held l earlier known h k f seen own is)
+  turn-taken (Some x) is = by (x.0 == f) (is_merged l x.0) refl refl
+    where
+      by : (b c : Bool) → (x.0 == f) ≡ b → is_merged l x.0 ≡ c
+          → (merge_notes m held l earlier k (Some f) ≡ notes_by_tests k x.0 b c)
+          × (x.0 < m.frames → Knows m held (after_notes l (notes_by_tests k x.0 b c)) (earlier ++ f ∷ []) known)
+      by true c same merged = (
+        turn-again m held l earlier known h k f seen own x is (same-is x.0 f same),
+        λ below. knows-again m held l earlier known h k f seen own x is (same-is x.0 f same),
+      )
+      by false true other merged =
+          let t = turn-joins m held l earlier known h k f seen own x is merged in (t.1, λ below. joined-knows x is merged t.0)
+      by false false other merged =
+          let t = turn-shares m held l earlier known h k f seen own x is merged other in (t.1, λ below. shared-knows x is other below t.0)
+
+-- ---- before the first page
+
+abbrev merged_known : Ledger → List ℕ → List Known
+merged_known l xs = map as_merged (filter (is_merged l) xs)
+
+abbrev merged_found : FrameBytes → Ledger → ℕ → List ℕ → Option ℕ
+merged_found held l f xs = find (λ g. is_merged l g && hold_same held g f) xs
+
+first-merged : (held : FrameBytes) (l : Ledger) (f : ℕ) (xs : List ℕ) → first_like held (map as_merged (filter (is_merged l) xs)) f
+    ≡ option_map as_merged (find (λ g. is_merged l g && hold_same held g f) xs)
+first-merged held l f [] = refl
+first-merged held l f (x ∷ xs) = by (is_merged l x) (first-merged held l f xs)
+  where
+    first : (b : Bool) → first_like held (merged_known l xs) f ≡ option_map as_merged (merged_found held l f xs)
+        → cond b (Some (x, None)) (first_like held (merged_known l xs) f) ≡ option_map as_merged (cond b (Some x) (merged_found held l f xs))
+    first true e = refl
+    first false e = e
+
+    by : (a : Bool) → first_like held (merged_known l xs) f ≡ option_map as_merged (merged_found held l f xs)
+        → first_like held (map as_merged (cond a (x ∷ filter (is_merged l) xs) (filter (is_merged l) xs))) f
+        ≡ option_map as_merged (cond (a && hold_same held x f) (Some x) (merged_found held l f xs))
+    by true e = first (hold_same held x f) e
+    by false e = e
+
+pub known-first : (m : Setting) (held : FrameBytes) (l : Ledger) → Knows m held l [] (known_at_first m l)
+known-first m held l f = subst (MayJoin m held l [] f) (sym (first-merged held l f (range_with_len 0 m.frames)))
+    (by (merged_like m held l f) refl)
+  where
+    by : (o : Option ℕ) → merged_like m held l f ≡ o → MayJoin m held l [] f (option_map as_merged o)
+    by None e = (e, refl)
+    by (Some g) e = inl (record {
+      merged = (split (is_merged l g) (hold_same held g f)
+          (found-is (λ g. is_merged l g && hold_same held g f) (range_with_len 0 m.frames) g e).0).0;
+      least = e;
+    })
