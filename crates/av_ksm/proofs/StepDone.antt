@@ -1,18 +1,15 @@
 -- What stands after a step of a merge, of the memory system.
-use Rattle.std.proofs.Common.{◌≡◌, ℕ, ◌+◌, ◌<◌, Bool, true, false, cond, ◌==◌, List, [], ◌∷◌, Option, Some, None, is_some, option_map, refl, sym, ap, subst, ◌∙◌, arith}
+use Rattle.std.proofs.Common.{◌≡◌, ℕ, ◌<◌, Bool, true, false, ◌==◌, [], ◌∷◌, Option, None, is_some, option_map, refl, sym, ap, subst, ◌∙◌, arith}
 use Rattle.std.proofs.lemmas.Bool.{false≢true}
-use Rattle.av_base.specs.Items.{Item}
 use Rattle.av_base.specs.Keys.{Key}
 use Rattle.av_base.specs.Page.{address_of, page_of, page_size}
 use Rattle.av_spaces.specs.Spaces.{pages_of}
-use Rattle.av_trace.specs.declared.note.Note.{Note}
 use Rattle.av_trace.specs.declared.note.Note.TheVariants.{Joined, Shared}
 use Rattle.av_vma.specs.Pages.{home_of}
-use Rattle.av_plain.specs.Areas.{Rmap, at_root, item_of, rmap_after_note}
-use Rattle.av_plain.specs.Choice.{Chooses}
+use Rattle.av_plain.specs.Areas.{Rmap, at_root, rmap_after_note}
 use Rattle.av_plain.specs.Device.{Device}
 use Rattle.av_plain.specs.Event.{Noted, after_note}
-use Rattle.av_plain.specs.Ledger.{InFrame, Ledger, Setting, entry, is_merged, map_count, names_frame}
+use Rattle.av_plain.specs.Ledger.{InFrame, Ledger, Setting, is_merged, names_frame}
 use Rattle.av_plain.specs.Load.{with_loads}
 use Rattle.av_plain.specs.Sound.{IsSound, no_excuse, uses}
 use Rattle.av_plain.specs.Stands.{View, entry_of, free_of}
@@ -23,7 +20,7 @@ use Rattle.av_plain.proofs.Load.{without-loads}
 use Rattle.av_plain.proofs.Sound.Counts.{same-is, same-itself, slot_of-none}
 use Rattle.av_plain.proofs.Sound.Sharing.{joined-kept, shared-kept}
 use Rattle.av_plain.proofs.Wrote.{device-itself, wrote-none}
-use Rattle.av_swap_laws.specs.Held.{Held, Steps}
+use Rattle.av_swap_laws.specs.Held.{Steps}
 use Rattle.av_swap_laws.proofs.Cache.{once-of}
 use Rattle.av_mem.specs.declared.mem.Mem.{Mem}
 use Rattle.av_mem.specs.Between.{HasDone, KeepsBetween}

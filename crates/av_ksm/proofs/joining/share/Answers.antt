@@ -1,4 +1,4 @@
-use Rattle.std.proofs.Common.{sym, ap, ◌∙◌}
+use Rattle.std.proofs.Common.{ap, ◌∙◌}
 use Rattle.av_frames.specs.Store.{Shown}
 use Rattle.av_pagetable.specs.Entries.{entry_at}
 use Rattle.av_mem.specs.Mem.{view}
