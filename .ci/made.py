@@ -48,6 +48,7 @@ CARRIERS = {
     "av_spaces": "Spaces",
     "av_mem": "Mem Keeps KeepsBetween take_frame_of_zeros take_frame_for_copy count_each_for_child"
     " zap_range zap_all walk",
+    "av_ksm": "share join frames_are_shared pages_join",
     "av_reclaim": "Driver reclaim age complete seek",
     "av_swapoff": "SlotSystem swapoff",
     "av_fork": "fork_areas fork_entries",
