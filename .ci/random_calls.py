@@ -24,6 +24,8 @@ KINDS = {
     "mprotect": 7,
     "mremap": 14,
     "madvise": 5,
+    "mlock": 4,
+    "munlock": 2,
     "read": 10,
     "write": 18,
     "fork": 5,
@@ -98,6 +100,17 @@ class Trace:
 
     def madvise(self) -> str:
         return f"madvise {self.process()} {self.range()} {self.pick.choice(ADVICE)}"
+
+    def lock_range(self) -> str:
+        """A range that may begin anywhere in a page."""
+        at, length = self.range().split(" ")
+        return f"{int(at, 16) + self.pick.choice([0, 0, 0, 5, 4095]):x} {length}"
+
+    def mlock(self) -> str:
+        return f"mlock {self.process()} {self.lock_range()}"
+
+    def munlock(self) -> str:
+        return f"munlock {self.process()} {self.lock_range()}"
 
     def access(self) -> str:
         """An address, often just before a border of pages, and a number of bytes."""

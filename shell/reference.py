@@ -13,7 +13,7 @@ from program import Refused
 
 FILE = os.path.join(os.path.dirname(os.path.realpath(__file__)), "..", "docs", "REFERENCE.md")
 # commands that the program gets in a later version, as long as the reference has none of them
-LATER = ("mlock", "munlock", "merge", "compact")
+LATER = ("merge", "compact")
 
 
 class Form:

@@ -11,7 +11,8 @@ from shared.saying import Refused
 import making
 from kernel import NOBODY, Kernel, maps_of
 from proc import Area
-from rows import BOUNDS, KEYS, Line, Row, careful, mending, other_bounds, row_of
+from rows import ADDED, BOUNDS, KEYS, UNLOCKED, WRITABLE, Line, Row
+from rows import careful, mending, other_bounds, row_of
 from shift import GAP, WIDE, NotAsked
 from stubs import Gone, Stub
 
@@ -20,6 +21,8 @@ NO_FRAME = "the model has no frame for it, or its device failed"
 LIMIT = "the model has as many processes as it takes"
 LOST = "its process went another way before, in line {}"
 CHANGES = "and other pages are mapped then"
+# commands that may have done a part where they are refused
+MIDWAY = ("mprotect", "madvise", "mlock", "munlock")
 # the flag of an area whose pages a copy doesn't get, in smaps
 LEFT_OUT = "dc"
 # how often frames are looked at, which the kernel may move meanwhile
@@ -125,6 +128,11 @@ def runs_of(areas: list[str]) -> list[str]:
     return maps_of([Area(int(it[1], 16), int(it[2], 16), it[3], False, "") for it in rows])
 
 
+def locks_of(areas: list[str]) -> list[str]:
+    """The runs of locked pages that a reply of `areas` has."""
+    return runs_of([areas[0], *(it for it in areas[1:] if it.endswith(" locked"))])
+
+
 def as_far_as(words: list[str], said: str) -> tuple[list[str], str]:
     """An access up to where the model's frames or device end it, and the reply to that; any other
     line as it is.
@@ -152,6 +160,11 @@ class Beside:
         self.lost: dict[str, int] = {}
         self.bounds: dict[str, Row] = {}
         self.children: set[str] = set()
+        # processes that locked something; those where the kernel may have brought pages in since,
+        # by which row, or unlocked some
+        self.locked: set[str] = set()
+        self.brought: dict[str, Row] = {}
+        self.unlocked: set[str] = set()
 
     def take(self, asked: Asked) -> Difference | None:
         """Does a line."""
@@ -168,12 +181,16 @@ class Beside:
             self.pass_over(line, str(why))
         if bounds:
             self.bounds.setdefault(line.process, bounds)
+        self.follow_locks(line)
         self.follow(line)
         return difference
 
     # ---- asking
 
     def compare(self, line: Line, asked: Asked) -> Difference | None:
+        if line.name == "mlock" and line.said.startswith(("oom", "bus")):
+            self.lost[line.process] = line.number
+            raise NotAsked(NO_FRAME)
         rows = careful(line) if line.process in self.kernel.live else []
         if rows:
             return self.ask_carefully(line, rows)
@@ -189,13 +206,22 @@ class Beside:
                 if words != line.words:
                     raise NotAsked(NO_FRAME)
                 return None
+        if line.name in ("mlock", "munlock", "madvise"):
+            self.lost[line.process] = line.number
         return Difference(line, asked.reply, linux, self.row_of(line, model, linux))
 
     def row_of(self, line: Line, model: list[str], linux: list[str]) -> Row | None:
         """The row by which a line was answered so."""
+        if line.name == "areas" and locks_of(model) != locks_of(linux):
+            return UNLOCKED if line.process in self.unlocked else None
         if line.name == "areas":
             return self.bounds.get(line.process) if runs_of(model) == runs_of(linux) else None
+        if line.name == "madvise" and line.process in self.unlocked:
+            return UNLOCKED
         row = row_of(line, linux[0], line.process in self.children)
+        if not row and line.name in ("entry", "rmap"):
+            others = self.brought.values() if line.name == "rmap" else ()
+            row = self.brought.get(line.process) or next(iter(others), None)
         if row is KEYS and self.kernel.read(*line.words[1:], with_keys=True) != model[:1]:
             return None
         return row
@@ -208,10 +234,10 @@ class Beside:
         linux, changes = self.ask_copy(process, line)
         if linux != line.said:
             row = next((it for it in rows if it.says(line, linux)), None)
-            if line.place >= 0:
+            if line.is_done:
                 self.mend(line, process, row)
             return Difference(line, [line.said], [linux], row)
-        if line.place < 0:
+        if not line.is_done:
             row = next((it for it in rows if it.changes), None)
             return Difference(line, [line.said], [linux], row, CHANGES) if changes else None
         linux = self.kernel.call(process, line.words, line.said)
@@ -223,9 +249,9 @@ class Beside:
         """
         linux = self.kernel.call(process, line.words, line.said)
         row = next((it for it in rows if it.says(line, linux)), None)
-        if linux != line.said and line.place >= 0 and linux.startswith("err "):
+        if linux != line.said and line.is_done and linux.startswith("err "):
             self.mend(line, process, row)
-        elif linux != line.said or line.place < 0 and any(it.changes for it in rows):
+        elif linux != line.said or not line.is_done and any(it.changes for it in rows):
             self.lost[line.process] = line.number
         return Difference(line, [line.said], [linux], row) if linux != line.said else None
 
@@ -244,9 +270,11 @@ class Beside:
             copy.end()
 
     def mend(self, line: Line, process: Stub, row: Row | None) -> None:
-        """Brings the process to where the model's is, as far as that goes."""
+        """Brings the process to where the model's is, as far as that goes. (A page that can't be
+        accessed is locked by a call that fails.)
+        """
         answers = [self.kernel.call(process, it, "") for it in mending(line)]
-        if any(it.startswith("err") for it in answers):
+        if any(it.startswith("err") for it in answers) and line.name != "mlock":
             self.lost[line.process] = line.number
         if row is BOUNDS:
             self.bounds.setdefault(line.process, row)
@@ -255,10 +283,24 @@ class Beside:
 
     def pass_over(self, line: Line, why: str) -> None:
         self.passed.setdefault(why, collections.Counter())[line.name] += 1
-        changes = line.name in ("write", "mmap", "munmap", "mprotect", "mremap", "madvise")
-        is_refused = line.said.startswith("err ") and line.name not in ("mprotect", "madvise")
+        changes = line.name in ("write", "mmap", "mremap", "munmap", *MIDWAY)
+        is_refused = line.said.startswith("err ") and line.name not in MIDWAY
         if why in (GAP, WIDE) and changes and not is_refused:
             self.lost[line.process] = line.number
+
+    def follow_locks(self, line: Line) -> None:
+        """Keeps what is known of locked pages."""
+        process = line.process
+        if line.name == "mlock":
+            self.locked.add(process)
+        elif process not in self.locked:
+            return
+        elif line.name == "mprotect" and "w" in line.words[4]:
+            self.brought.setdefault(process, WRITABLE)
+        elif line.name == "mremap" and line.place >= 0 and line.how == "dontunmap":
+            self.unlocked.add(process)
+        elif line.name == "mremap" and line.place >= 0 and line.new > line.old:
+            self.brought.setdefault(process, ADDED)
 
     def follow(self, line: Line) -> None:
         """Keeps what is known of processes."""
@@ -268,7 +310,9 @@ class Beside:
         if line.name == "exit" and number in self.kernel.live:
             # (it went another way, so it wasn't asked)
             self.kernel.exit(number)
-        for known in (self.lost, self.bounds):
+        self.locked.discard(number)
+        self.unlocked.discard(number)
+        for known in (self.lost, self.bounds, self.brought):
             known.pop(number, None)
             if line.name == "fork" and line.process in known:
                 known[number] = known[line.process]

@@ -12,12 +12,15 @@ FORMS = {
     "pkey_mprotect": rf"{AT}, {COUNT}, {FLAGS}, (-?\d+)",
     "mremap": rf"{AT}, {COUNT}, {COUNT}, {FLAGS}(?:, {AT})?",
     "madvise": rf"{AT}, {COUNT}, (\S.*)",
+    "mlock": rf"{AT}, {COUNT}",
+    "mlock2": rf"{AT}, {COUNT}, (0|MLOCK_ONFAULT)",
+    "munlock": rf"{AT}, {COUNT}",
     "brk": AT,
 }
 # calls of memory that no command stands for
 WITHOUT = set(
-    "io_destroy io_setup map_shadow_stack mbind migrate_pages mincore mlock mlock2 mlockall"
-    " move_pages mseal msync munlock munlockall pkey_alloc pkey_free process_madvise"
+    "io_destroy io_setup map_shadow_stack mbind migrate_pages mincore mlockall"
+    " move_pages mseal msync munlockall pkey_alloc pkey_free process_madvise"
     " process_mrelease remap_file_pages set_mempolicy set_mempolicy_home_node shmat shmdt".split()
 )
 # those of them that map something

@@ -18,7 +18,8 @@ LOWEST = ("The profile", "lowest address of `fixed`")
 LIMITS = ("The profile", "limits")
 ONE_PROTECTION = ("mremap", "`EFAULT`, else")
 SAME_LENGTH = ("mremap", "`EINVAL`: `dontunmap`, and OLD isn't NEW")
-RULES = (SPAWN, LOWEST, LIMITS, ONE_PROTECTION, SAME_LENGTH)
+NO_ACCESS = ("mlock, munlock", "a page with `---`")
+RULES = (SPAWN, LOWEST, LIMITS, ONE_PROTECTION, SAME_LENGTH, NO_ACCESS)
 NONE = "no rule of docs/LINUX.md explains it"
 
 
@@ -67,7 +68,7 @@ def rule_of(command: Command, reply: str) -> tuple[str, str] | None:
     """The rule that explains a reply; None where there is none."""
     words, error = command.line.split(" "), reply.removeprefix("err ")
     match words[0], error:
-        case "mprotect" | "madvise", "ENOMEM":
+        case "mprotect" | "madvise" | "mlock" | "munlock", "ENOMEM":
             return SPAWN if command.missing == "execve" else None
         case "mremap", "EFAULT" if command.missing:
             return SPAWN if command.missing == "execve" else None
@@ -79,8 +80,10 @@ def rule_of(command: Command, reply: str) -> tuple[str, str] | None:
             return LOWEST
         case "spawn" | "fork", "EAGAIN":
             return LIMITS
-        case "read" | "write", _ if reply.startswith("oom"):
+        case "read" | "write" | "mlock", _ if reply.startswith("oom"):
             return LIMITS
+        case "mlock", "ok":
+            return NO_ACCESS
     return None
 
 

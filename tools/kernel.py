@@ -19,7 +19,7 @@ from stubs import ANONYMOUS, FIXED, MADVISE, MMAP, MUNMAP, NORESERVE, PRIVATE
 from stubs import Gone, Mother, Stub
 
 NOREPLACE, MAYMOVE, TO_PLACE, DONTUNMAP = 0x100000, 1, 2, 4
-MPROTECT, MREMAP = 10, 25
+MPROTECT, MREMAP, MLOCK, MUNLOCK = 10, 25, 149, 150
 # the numbers of what madvise says
 ADVICE = {"dontneed": 4, "dontfork": 10, "dofork": 11, "wipeonfork": 18, "keeponfork": 19}
 # a file descriptor that is none
@@ -32,6 +32,8 @@ NOBODY = "its process isn't there to make a call, or is there already"
 NO_FRAMES = "frames are shown to CAP_SYS_ADMIN alone"
 TOO_MANY = f"its processes have more than {MOST_PAGES} pages to look through"
 AT_TOP = "it moves what is above TOP, where the kernel has something"
+MOST_LOCKED = 1 << 28
+TOO_LONG = f"it would bring in more than {MOST_LOCKED >> 20} MiB"
 
 Call = tuple[int, ...]
 
@@ -101,6 +103,14 @@ def madvise(shift: Shift, words: list[str]) -> Call:
     return MADVISE, address, length, ADVICE[words[4]]
 
 
+def mlock(shift: Shift, words: list[str]) -> Call:
+    return MLOCK, *shift.range_there(int(words[2], 16), int(words[3]))
+
+
+def munlock(shift: Shift, words: list[str]) -> Call:
+    return MUNLOCK, *shift.range_there(int(words[2], 16), int(words[3]))
+
+
 # the calls that commands stand for: what each is asked with
 CALLS: dict[str, Callable[[Shift, list[str]], Call]] = {
     "mmap": mmap,
@@ -108,6 +118,8 @@ CALLS: dict[str, Callable[[Shift, list[str]], Call]] = {
     "mprotect": mprotect,
     "mremap": mremap,
     "madvise": madvise,
+    "mlock": mlock,
+    "munlock": munlock,
 }
 
 
@@ -171,6 +183,8 @@ class Kernel:
         asked = CALLS[words[0]](self.shift, words)
         if said.startswith("map ") and self.is_laid_over_gap(words, int(said[4:], 16)):
             raise NotAsked(GAP)
+        if words[0] == "mlock" and self.is_too_long(process, words):
+            raise NotAsked(TOO_LONG)
         with self.hole_at_top(process, asked):
             result = process.call(*asked)
         if is_error(result):
@@ -179,12 +193,13 @@ class Kernel:
 
     @contextlib.contextmanager
     def hole_at_top(self, process: Stub, asked: Call) -> Iterator[None]:
-        """Lets a `mprotect` or `madvise` that goes on above TOP find a hole there, as it does in the
-        model. (No other call that does so gets as far.)
+        """Lets a call that goes on above TOP find a hole there, as it does in the model. (Those that
+        aren't named get no further than TOP.)
         """
         number, address, length = asked[:3]
         base = self.shift.base
-        is_needed = number in (MPROTECT, MADVISE) and address < base < address + up(length)
+        goes_on = number in (MPROTECT, MADVISE, MLOCK, MUNLOCK)
+        is_needed = goes_on and address < base < address + up(length)
         if is_needed:
             process.call(MUNMAP, base, PAGE)
         yield
@@ -199,6 +214,12 @@ class Kernel:
         at, old, new = int(words[2], 16), up(int(words[3])), up(int(words[4]))
         may_move = words[5:] == ["maymove"] and new > old or words[5:] == ["dontunmap"]
         return may_move and any(self.shift.crosses(it, new) for it in (place, at))
+
+    def is_too_long(self, process: Stub, words: list[str]) -> bool:
+        """Whether a `mlock` would bring in more than a test may."""
+        at, length = int(words[2], 16), int(words[3])
+        parts = self.ranges(process).within(at, at + length)
+        return sum(it.end - it.start for it in parts) > MOST_LOCKED
 
     # ---- loads and stores
 

@@ -186,6 +186,12 @@ class Lackey:
         self.tell(f"madvise({words[0]:#x}, {words[1]}, {advice}) = 0")
         self.remember()
 
+    def do_mlock(self, name: str, words: list[int], __: int) -> None:
+        self.tell(f"{name}({words[0]:#x}, {words[1]}) = 0")
+        self.remember()
+
+    do_munlock = do_mlock
+
     def do_brk(self, _: str, words: list[int], answer: int) -> None:
         self.tell(f"brk({words[0]:#x}) = {answer:#x}" if words[0] else f"brk(NULL) = {answer:#x}")
         old, self.heap = self.heap, up(answer)

@@ -28,6 +28,8 @@ from ranges import PAGE, Range, up
 from spaces import Space, runs_of
 from strace import Call
 
+# calls that lock pages, and unlock them
+LOCKS = ("mlock", "mlock2", "munlock")
 # the name of what brk maps
 HEAP = "[heap]"
 # kinds of what is left out
@@ -115,18 +117,20 @@ class Memory:
             return
         answer, name = ANSWER.fullmatch(self.call.answer), self.call.name.removeprefix("pkey_")
         number = int(answer[1], 0) if answer else -1
-        if number < 0 or number > 0 and name in ("munmap", "mprotect", "madvise"):
+        if number < 0 or number > 0 and name not in ("mmap", "mremap", "brk"):
             self.refuse("an answer that no such call has")
         getattr(self, name)(space, self.words(), number)
 
     def fail(self, space: Space, error: str) -> None:
-        """A call that failed; a mprotect that met a hole changed the pages before it, and a madvise
-        all that are mapped.
+        """A call that failed; a mprotect, mlock or munlock that met a hole changed the pages before
+        it, and a madvise all that are mapped. (Other mlocks that failed so met the limit.)
         """
         if self.call.name == "mprotect" and error == "ENOMEM":
             self.protect(space, self.words(), f"err {error}")
         elif self.call.name == "madvise" and error == "ENOMEM":
             self.advise(space, self.words(), f"err {error}")
+        elif self.call.name in LOCKS and error == "ENOMEM" and self.is_met(space, self.words()):
+            self.lock(space, self.words(), f"err {error}")
         else:
             self.tally.failed[f"{self.call.name} {error}"] += 1
 
@@ -250,6 +254,35 @@ class Memory:
             self.add(line, wanted, missing=space.missing(start, length))
         for at, end in runs_of(ours) if len(ours) < len(parts) else ():
             self.add(f"madvise {space.number} {at:x} {end - at} {word}", "ok")
+
+    def mlock(self, space: Space, words: re.Match, _answer: int) -> None:
+        self.lock(space, words, "ok")
+
+    mlock2 = munlock = mlock
+
+    def is_met(self, space: Space, words: re.Match) -> bool:
+        """Whether a range has a hole, or a page that can't be accessed and so not come in."""
+        start, end = address_of(words[1]), address_of(words[1]) + int(words[2])
+        parts = space.ranges.within(start, end)
+        return bool(space.ranges.holes(start, end)) or any(it.of.prot == "---" for it in parts)
+
+    def lock(self, space: Space, words: re.Match, wanted: str) -> None:
+        """The pages that the trace has in a range are locked, or are no more."""
+        name, start, length = self.call.name, address_of(words[1]), int(words[2])
+        parts = space.ranges.within(start, start + length)
+        ours = [it for it in parts if self.has(it.of.kind)]
+        is_on_fault = name == "mlock2" and words[3] != "0"
+        if is_on_fault or parts and not ours:
+            what = words[3] if is_on_fault else "of mappings that are left out"
+            self.tally.left_out[f"{name} {what}"] += 1
+            return
+        self.tally.kept[name] += 1
+        command = f"{name.removesuffix('2')} {space.number}"
+        if len(ours) == len(parts):
+            missing = space.rest if space.ranges.holes(start, start + length) else ""
+            self.add(f"{command} {start:x} {length}", wanted, missing=missing)
+        for at, end in runs_of(ours) if len(ours) < len(parts) else ():
+            self.add(f"{command} {at:x} {end - at}", "ok")
 
     def brk(self, space: Space, _words: re.Match, to: int) -> None:
         """The heap is a mapping of its own, from the first break on."""

@@ -15,12 +15,13 @@ UNSAID = ("dofork", "keeponfork")
 
 @dataclasses.dataclass(slots=True)
 class Pages:
-    """What a process has: the frame of each written page, by its number, and what a fork does with
-    ranges of them.
+    """What a process has: the frame of each written page, by its number, what a fork does with
+    ranges of them, and each range's protection.
     """
 
     frames: dict[int, int] = dataclasses.field(default_factory=dict)
     at_fork: Ranges = dataclasses.field(default_factory=Ranges)
+    prots: Ranges = dataclasses.field(default_factory=Ranges)
 
 
 class Peak:
@@ -64,12 +65,12 @@ class Peak:
         for _, frame in self.cut(pages, start, end):
             self.drop(frame)
         pages.at_fork.cut(start, end)
+        pages.prots.cut(start, end)
 
-    # lines, by name
-
-    def do_write(self, process: str, at: str, text: str) -> None:
-        first, frames = int(at, 16), self.pages(process).frames
-        for page in range(first // PAGE, (first + len(text) // 2 - 1) // PAGE + 1):
+    def write(self, pages: Pages, first: int, past: int) -> None:
+        """Each page of a range, by its number, gets a frame of its own."""
+        frames = pages.frames
+        for page in range(first, past):
             if self.names.get(frames.get(page, -1)) == 1:
                 continue
             self.last += 1
@@ -79,8 +80,26 @@ class Peak:
             if old is not None:
                 self.drop(old)
 
+    # lines, by name
+
+    def do_write(self, process: str, at: str, text: str) -> None:
+        first = int(at, 16)
+        last = (first + len(text) // 2 - 1) // PAGE
+        self.write(self.pages(process), first // PAGE, last + 1)
+
+    def do_mlock(self, process: str, at: str, length: str) -> None:
+        """Pages that may be written come in as by a write, where the range has no hole."""
+        pages, start = self.pages(process), int(at, 16)
+        end = start + int(length)
+        if not int(length) or pages.prots.holes(start, end):
+            return
+        for it in pages.prots.within(start, end):
+            if "w" in it.of:
+                self.write(pages, it.start // PAGE, -(-it.end // PAGE))
+
     def do_fork(self, process: str, child: str) -> None:
         ours, pages = self.pages(process), self.pages(child)
+        pages.prots = Ranges(ours.prots)
         for page, frame in ours.frames.items():
             if not ours.at_fork.at(page * PAGE):
                 pages.frames[page] = self.hold(frame)
@@ -92,20 +111,36 @@ class Peak:
         for frame in self.processes.pop(int(process), Pages()).frames.values():
             self.drop(frame)
 
-    def do_mmap(self, process: str, length: str, _prot: str, *place: str) -> None:
+    def do_mmap(self, process: str, length: str, prot: str, *place: str) -> None:
         if place[:1] == ("fixed",):
-            self.clear(process, int(place[1], 16), int(length))
+            start = int(place[1], 16)
+            self.clear(process, start, int(length))
+            self.pages(process).prots.put(start, start + up(int(length)), prot)
+
+    def do_mprotect(self, process: str, at: str, length: str, prot: str) -> None:
+        start, prots = int(at, 16), self.pages(process).prots
+        end = start + up(int(length))
+        holes = prots.holes(start, end)
+        for it in prots.within(start, holes[0][0] if holes else end):
+            prots.put(it.start, it.end, prot)
 
     def do_munmap(self, process: str, at: str, length: str) -> None:
         self.clear(process, int(at, 16), int(length))
 
     def do_mremap(self, process: str, at: str, old: str, new: str, *way: str) -> None:
         start, pages, kept = int(at, 16), self.pages(process), min(up(int(old)), up(int(new)))
+        to = int(way[1], 16) if way else start
+        parts = pages.prots.within(start, start + kept)
         if not way:
             self.clear(process, start + kept, up(int(old)) - kept)
+        else:
+            self.clear(process, to, int(new))
+        for it in parts:
+            pages.prots.put(it.start + to - start, it.end + to - start, it.of)
+        if parts and kept < up(int(new)):
+            pages.prots.put(to + kept, to + up(int(new)), parts[-1].of)
+        if not way:
             return
-        to = int(way[1], 16)
-        self.clear(process, to, int(new))
         for page, frame in list(self.cut(pages, start, start + kept)):
             pages.frames[page + (to - start) // PAGE] = frame
         for it in pages.at_fork.within(start, start + kept):

@@ -15,6 +15,8 @@ from ranges import PAGE, Ranges, up
 from shift import LOW, TOP
 
 HUGE = 1 << 21
+# the most pages that the model locks at once
+MOST_LOCKED = 16384
 LIMITS = resource.RLIMIT_AS, resource.RLIMIT_DATA
 
 
@@ -61,6 +63,12 @@ class Line:
     def place(self) -> int:
         """Where the model laid them; -1 where it refused."""
         return int(self.said[4:], 16) if self.said.startswith("map ") else -1
+
+    @property
+    def is_done(self) -> bool:
+        """Whether the model laid pages, or locked some."""
+        locks = self.name in ("mlock", "munlock") and self.said == "ok" and self.words[3] != "0"
+        return locks or self.place >= 0
 
     def stays(self) -> bool:
         """Whether an `mremap` is in place."""
@@ -140,6 +148,25 @@ def is_low_target(line: Line) -> bool:
     return 0 <= line.to < LOW and line.said == "err EPERM"
 
 
+def is_off_page(line: Line) -> bool:
+    return not int(line.words[3]) and bool(line.at % PAGE)
+
+
+def is_near_end(line: Line) -> bool:
+    """Whether the sum that is rounded up to pages wraps."""
+    return line.at % PAGE + int(line.words[3]) > 2**64 - PAGE
+
+
+def is_long(line: Line) -> bool:
+    return up(line.at % PAGE + int(line.words[3])) > MOST_LOCKED * PAGE
+
+
+def has_no_access(line: Line) -> bool:
+    """Whether the model locks pages, one of which can't be accessed."""
+    parts = line.ranges.within(line.at, line.at + int(line.words[3]))
+    return line.said == "ok" and any(it.of == "---" for it in parts)
+
+
 # ---- what Linux says then
 
 
@@ -171,6 +198,14 @@ def says_target(line: Line, reply: str) -> bool:
     return reply == f"map {line.to:x}"
 
 
+def says_hole(_, reply: str) -> bool:
+    return reply == "err ENOMEM"
+
+
+def says_other(_, reply: str) -> bool:
+    return reply in ("ok", "err ENOMEM", "err EAGAIN", "err EPERM")
+
+
 def says_invalid(_, reply: str) -> bool:
     return reply == "err EINVAL"
 
@@ -195,9 +230,15 @@ SAME_LENGTH = Row(*check.SAME_LENGTH, is_as_long, says_no_more)
 WITH_B = Row("mremap", "`EINVAL`, with B", meets, says_invalid, True)
 BOUNDS = Row(*check.ONE_PROTECTION, is_over_bounds, says_bounds, True)
 LOW_B = Row("mremap", "`EPERM`: B is below LOW", is_low_target, says_target, True)
+NO_LENGTH = Row("mlock, munlock", "LEN 0", is_off_page, says_hole, True)
+WRAPS = Row("mlock, munlock", "LEN near 2^64", is_near_end, says_other, True)
+MORE = Row("mlock, munlock", "more than 16,384 pages", is_long, says_other)
+NO_ACCESS = Row(*check.NO_ACCESS, has_no_access, says_hole)
 CAREFULLY = {
     "mmap": (LOWEST, HINT, PLACE, LAST),
     "mremap": (NEW, OLD, SAME_LENGTH, WITH_B, BOUNDS, LOW_B, PLACE),
+    "mlock": (NO_LENGTH, WRAPS, MORE, NO_ACCESS),
+    "munlock": (NO_LENGTH, WRAPS),
 }
 
 # ---- rows that other lines show
@@ -207,9 +248,12 @@ LIMITED = Row(*check.LIMITS)
 ENTRIES = Row("spawn, fork, exit", "entries")
 GROWTH = Row("Joins", "growth in place")
 UNMOVED = Row("mremap", "old range after `dontunmap`")
+WRITABLE = Row("mlock, munlock", "a locked page becomes writable")
+ADDED = Row("mlock, munlock", "pages that `mremap` adds")
+UNLOCKED = Row("mlock, munlock", "`dontunmap` of locked pages")
 # all of them
-ROWS = {*CAREFULLY["mmap"], *CAREFULLY["mremap"]} | {
-    KEYS, ACCOUNTING, LIMITED, ENTRIES, GROWTH, UNMOVED
+ROWS = {*CAREFULLY["mmap"], *CAREFULLY["mremap"], *CAREFULLY["mlock"]} | {
+    KEYS, ACCOUNTING, LIMITED, ENTRIES, GROWTH, UNMOVED, WRITABLE, ADDED, UNLOCKED
 }
 
 
@@ -228,6 +272,11 @@ def is_tight(line: Line) -> bool:
     most = setting("max_map_count") - 3
     is_limited = any(resource.getrlimit(it)[0] != resource.RLIM_INFINITY for it in LIMITS)
     return is_limited or setting("overcommit_memory") == 2 or len(line.ranges.ranges) > most
+
+
+def is_limited() -> bool:
+    """Whether a process may lock so many bytes alone."""
+    return resource.getrlimit(resource.RLIMIT_MEMLOCK)[0] != resource.RLIM_INFINITY
 
 
 def is_execute_only(line: Line, reply: str) -> bool:
@@ -251,6 +300,8 @@ def row_of(line: Line, reply: str, is_child: bool) -> Row | None:
             return ACCOUNTING
         case "madvise", _, "err EAGAIN" if is_tight(line):
             return ACCOUNTING
+        case "mlock", "ok", "err ENOMEM" | "err EAGAIN" | "err EPERM" if is_limited():
+            return ACCOUNTING
     return None
 
 
@@ -272,10 +323,13 @@ def other_bounds(line: Line) -> Row | None:
 
 
 def mending(line: Line) -> Iterator[list[str]]:
-    """Lines that lay pages where the model laid them."""
+    """Lines that lay pages where the model laid them, or lock them range by range."""
     if line.name == "mmap":
         yield [*line.words[:4], "noreplace", f"{line.place:x}"]
-    if line.name == "mmap" or line.stays():
+    if line.name == "mlock":
+        for it in line.ranges.within(line.at, line.at + int(line.words[3])):
+            yield ["mlock", line.process, f"{it.start:x}", f"{it.end - it.start}"]
+    if line.name in ("mmap", "mlock") or line.stays():
         # (what Linux refuses in place is so long that nothing goes)
         return
     if line.how != "dontunmap" and line.place == line.at:

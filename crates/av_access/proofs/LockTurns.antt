@@ -15,6 +15,7 @@ use Rattle.av_plain.specs.Event.{Event}
 use Rattle.av_plain.specs.Ledger.{Ledger, Setting, entry}
 use Rattle.av_plain.specs.Load.{is_of_slot, with_loads, without_bytes}
 use Rattle.av_plain.specs.Lock.{access_of, accesses_of}
+use Rattle.av_plain.specs.Step.{causes}
 use Rattle.av_plain.specs.Transcript.{State}
 use Rattle.av_plain.specs.World.{Page, Process, World, allows, pages}
 use Rattle.av_plain.proofs.Sound.{loads-same}
@@ -23,7 +24,8 @@ use Rattle.av_mem.specs.declared.mem.Mem.{Mem}
 use Rattle.av_mem.specs.Mem.{Keeps, frame_count, setting_by}
 use Rattle.av_mem.proofs.MemLaws.{prots_are}
 use Rattle.av_fault.specs.declared.fault.Stop.{Stop}
-use Rattle.av_access.specs.Access.{HasServed, IsBroughtIn, answer_at, end_at}
+use Rattle.av_fault.specs.declared.fault.Stop.TheVariants.{Denied, Lost, Starved}
+use Rattle.av_access.specs.Access.{HasServed, IsBroughtIn, answer_at, causes_of_access, end_at}
 use Rattle.av_access.specs.Lock.{access_in}
 use Rattle.av_access.specs.Page.{IsPageStep, world_after}
 use Rattle.av_access.proofs.AccessSteps.{answers-stopped}
@@ -169,6 +171,19 @@ module _ {d d' d'' : Device} (s : State) (mid new : Mem) (p from page : ℕ) (be
         before after stop page) some with_turn);
     answers = is ∙ answers-stopped (address_of from) (4096 * (page - from)) page why [] (omega (arith, low));
   }
+
+-- what only failures explain of the answer is what they explain of the access
+pub brought-causes : {d d' : Device} (s : State) (new : Mem) (p from n : ℕ) (before now : List Note) (answer : Answer)
+    → (h : IsBroughtIn d d' s new p from n before now answer) → (notes : List Note)
+    → causes (record { answer = answer; notes = notes; rows = [] }) ≡ causes_of_access notes h.stop
+brought-causes s new p from n before now answer h notes = (λ i. causes (record { answer = h.answers i; notes = notes; rows = [] })) ∙ by h.stop
+  where
+    by : (stop : Option Stop) → causes (record { answer = write_answer (address_of from) (end_at stop h.page); notes = notes; rows = [] })
+        ≡ causes_of_access notes stop
+    by None = refl
+    by (Some Denied) = refl
+    by (Some Lost) = refl
+    by (Some (Starved out)) = refl
 
 -- all came in
 pub all_came : {d d' : Device} (s : State) (new : Mem) (p from n page : ℕ) (before now : List Note) → from ≤ page → page ≤ from + n → from + n ≤ page

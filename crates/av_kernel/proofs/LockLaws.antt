@@ -47,13 +47,12 @@ use Rattle.av_mem.specs.declared.mem.Mem.{Mem}
 use Rattle.av_mem.specs.Mem.{Keeps, IsSteadyAt, frame_count, ranges_of, setting_by, view}
 use Rattle.av_mem.proofs.AnonLaws.{left_of}
 use Rattle.av_mem.proofs.MemLaws.{alive_is}
-use Rattle.av_fault.specs.declared.fault.Stop.{Stop}
-use Rattle.av_fault.specs.declared.fault.Stop.TheVariants as stops
 use Rattle.av_step.specs.Step.{IsSteadyFor, MemSteps, StepsBeside}
 use Rattle.av_step.proofs.Loads.{world_as}
 use Rattle.av_step.proofs.StepLaws.{left_alone, moved_on, none_rose}
 use Rattle.av_access.specs.Access.{HasServed, IsBroughtIn, answer_at, causes_of_access, end_at}
 use Rattle.av_access.proofs.AccessLoads.{loads-flagged}
+use Rattle.av_access.proofs.LockTurns.{brought-causes}
 use Rattle.av_kernel.proofs.ChangeLaws.{AreChanged, anons_left, change-keeps, change-steps, flag_effect, none_left_out, state_changed}
 use Rattle.av_kernel.proofs.MapLaws.{leads, lived}
 
@@ -325,14 +324,9 @@ module _ {d : Device} (old : Mem) (spaces : AllSpaces) (anons : AnonSet) (s : St
         ∙ sym (next-locked loaded p a len (address_of (page_of a)) end) ∙ ap (next loaded (Mlock p a len)) (sym h.answers)
 
     told : causes (record { answer = answer; notes = notes; rows = [] }) ≡ causes_of_access (notes_of coming) h.stop
-    told = (λ i. causes (record { answer = h.answers i; notes = alone i; rows = [] })) ∙ by h.stop
-      where
-        by : (stop : Option Stop) → causes (record { answer = write_answer (address_of (page_of a)) (end_at stop h.page); notes = notes_of coming; rows = [] })
-            ≡ causes_of_access (notes_of coming) stop
-        by None = refl
-        by (Some stops.Denied) = refl
-        by (Some stops.Lost) = refl
-        by (Some (stops.Starved out)) = refl
+    told = ap (λ ns. causes (record { answer = answer; notes = ns; rows = [] })) alone
+        ∙ brought-causes (flagged_state old spaces anons s p a len reached true keeps alive reaches are) new p (page_of a) (pages_met a len) before notes
+        answer h (notes_of coming)
 
     pub mlock-steps : MemSteps d d' old new s (Mlock p a len) (record { answer = answer; notes = notes; rows = [] })
     mlock-steps = record {
