@@ -327,6 +327,9 @@ def random_lines(pick: random.Random, live: set[int]) -> Iterator[str]:
         f"mremap {p} {at:x} {length} {length} dontunmap {at - 0x4000:x}",
         f"madvise {p} {at:x} {length} {pick.choice(ADVICE)}",
         f"madvise {p} {at:x} {4 * length} {pick.choice(ADVICE)}",
+        f"mlock {p} {at + pick.choice([0, 5]):x} {pick.choice([1, length])}",
+        f"munlock {p} {at:x} {4 * length}",
+        f"munlock {p} {at:x} {length}",
         f"rmap {p} {at:x}",
     ]
     if len(live) > 2 or pick.random() < 0.1:

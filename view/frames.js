@@ -17,6 +17,8 @@ function cardOf(frame) {
   for (const key of owners.slice(0, MOST_OWNERS)) card.append(make("div", "", place(key)));
   if (more > 0) card.append(make("div", "soft", `and ${more} more`));
   if (slot) card.append(make("div", "", `cached at ${slot}`));
+  if (isLocked(frame)) card.append(make("div", "", "locked"));
+  card.classList.toggle("locked", isLocked(frame));
   if (inUse(frame)) card.style.background = colour(frame);
   else card.append(make("div", "soft", areKnown() ? "\u2013" : "?"));
   if (!inUse(frame)) card.classList.add("none");
@@ -37,8 +39,8 @@ const frameCells = new Map();
 function frameCell(frame) {
   const isMarked = change.frames.has(frame) || frame === lit.frame;
   const kept = frameCells.get(frame);
-  if (kept && !kept.isMarked && !isMarked) return kept.cell;
-  frameCells.set(frame, {cell: newFrameCell(frame), isMarked});
+  if (kept && !kept.isMarked && !isMarked && kept.isLocked === isLocked(frame)) return kept.cell;
+  frameCells.set(frame, {cell: newFrameCell(frame), isMarked, isLocked: isLocked(frame)});
   return frameCells.get(frame).cell;
 }
 
@@ -48,9 +50,10 @@ function newFrameCell(frame) {
   if (inUse(frame)) cell.style.background = colour(frame);
   if (change.frames.has(frame)) cell.classList.add("new");
   if (frame === lit.frame) cell.classList.add("lit");
+  if (isLocked(frame)) cell.classList.add("locked");
   cell.tabIndex = 0;
   cell.dataset.frame = frame;
-  cell.title = `frame ${frame} maps ${owners}`;
+  cell.title = `frame ${frame} maps ${owners}${isLocked(frame) ? ", locked" : ""}`;
   return cell;
 }
 

@@ -276,7 +276,11 @@ def told_at(run: Run):
     """
     told = Told()
     for command, reply in zip(run.commands, run.replies):
-        told.tell(command.line.split(" "), reply)
+        words = command.line.split(" ")
+        told.tell(words, reply)
+        is_by_flags = words[0] == "fork" or words[4:] == ["dontneed"] and reply[0] == "err EINVAL"
+        if is_by_flags and int(words[1]) in told.unshown:
+            told.forget()
         # (nobody asks which list a frame is in, or what entries there are)
         told.lists_known = told.lists_known and not told.lost
         told.tell_of_areas()

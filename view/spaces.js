@@ -65,7 +65,7 @@ function chosenPages(number, process, row, isWanted) {
 
 // the cells of an area; `codeAt` says what a page's entry is or, of an area that is gone, was
 function cellsOf(number, process, row, codeAt, isNew) {
-  const cells = make("span", "cells");
+  const cells = make("span", row.isLocked ? "cells locked" : "cells");
   const count = row.end - row.start;
   if (count <= MOST_CELLS) {
     const kind = count <= BIG_CELLS ? "cell" : "dot";

@@ -129,6 +129,7 @@ function parseRow(text) {
   return {
     text, prot, off, own, chain: chain === "-" ? [] : chain.split(","),
     start: parseInt(start, 16) / 4096, end: parseInt(end, 16) / 4096,
+    isLocked: / locked\b/.test(text),
   };
 }
 
@@ -344,6 +345,10 @@ function lowerBound(list, value, of = it => it) {
   }
   return low;
 }
+
+// a frame is locked while an entry of a locked page names it
+const isLocked = frame => [...(state.owners.get(frame) || [])]
+  .some(key => rowAt(state.processes.get(processOf(key)), pageOf(key))?.isLocked);
 
 function rowAt(process, page) {
   const rows = rowsOf(process);

@@ -6,7 +6,8 @@ note repeats: a fork gives the child its parent's entries, unseen, but those of 
 otherwise; an `mremap` takes the entries along to the new range; what is unmapped, mapped anew or
 needed no more has no entry. A note also says where a
 frame goes in the lists, by the rule of its kind: `new`, `copy`, `load` and `age` to the head of
-inactive, `done` to its tail, `keep` to the head of the list that its cause names. Whatever else a
+inactive, `done` to its tail, `keep` to the head of the list that its cause names. What areas are
+locked and which may not be accessed is known by the areas that were last shown. Whatever else a
 line may do is not known, and is said to be so.
 
 An entry is kept as a code: `z` the page of zeros, `F7` frame 7 and seen, `f7` frame 7 and old,
@@ -42,11 +43,13 @@ REPORTS = {"maps", "areas", "entry", "rmap", "slot", "stat"}
 # commands that notes tell all of, but for a seen bit
 BY_NOTES = {"read", "write", "reclaim", "age", "complete", "swapon", "swapoff"}
 # commands that change which areas there are
-BY_RANGE = {"mmap", "munmap", "mprotect", "mremap", "madvise"}
+BY_RANGE = {"mmap", "munmap", "mprotect", "mremap", "madvise", "mlock", "munlock"}
 # those of them that change areas where they are refused, too
-MIDWAY = {"mprotect", "madvise"}
+MIDWAY = {"mprotect", "madvise", "mlock", "munlock"}
 # the flags of an area whose entries a child doesn't get
-KEPT_BACK = ("dontfork", "wipeonfork")
+KEPT_BACK = {"dontfork", "wipeonfork"}
+# the causes by which reclaim keeps a frame in use
+TO_ACTIVE = {"locked", "referenced", "noslot"}
 
 
 def page_of(address: int) -> int:
@@ -111,6 +114,8 @@ class Told:
         self.head = self.tail = self.last = 0
         self.counts: dict[str, str] = {}
         self.rows: dict[int, list[str]] = {}
+        # processes whose areas got flags since they were last shown
+        self.unshown: set[int] = set()
         self.numbers, self.lists_known = "", True
         self.touched: set[str] = set()
         self.lost, self.forgotten = False, []
@@ -244,9 +249,13 @@ class Told:
             self.ops.append(["d", child, it.start, len(it)])
 
     def kept_back(self, process: int) -> list[range]:
-        """The pages whose entries a child doesn't get, by the areas that were last shown."""
+        """The pages whose entries a child doesn't get."""
+        return self.areas_with(process, KEPT_BACK)
+
+    def areas_with(self, process: int, words: set[str]) -> list[range]:
+        """The pages of areas with one of these words, by the areas that were last shown."""
         rows = [it.split(" ") for it in self.rows.get(process, [])]
-        bounds = [it[0].split("-") for it in rows if set(it).intersection(KEPT_BACK)]
+        bounds = [it[0].split("-") for it in rows if words.intersection(it)]
         return [range(page_of(int(it[0], 16)), page_of(int(it[1], 16))) for it in bounds]
 
     def exit(self, process: int) -> None:
@@ -268,9 +277,32 @@ class Told:
             self.drop(process, first + new, old - new)
 
     def give_up(self, words: list[str], reply: str) -> None:
-        """`madvise P A LEN dontneed`: refused, too, it may have done its pages that are mapped."""
-        if reply == "ok" or reply == "err ENOMEM":
-            self.drop(int(words[1]), page_of(int(words[2], 16)), pages_of(int(words[3])))
+        """`madvise P A LEN dontneed`: refused, too, it may have done its pages that are mapped, but
+        at a locked page it stops.
+        """
+        process, at, count = int(words[1]), int(words[2], 16), pages_of(int(words[3]))
+        first = page_of(at)
+        if reply == "err EINVAL" and not at % 4096 and first + count < 2**52:
+            locked = [it for it in self.areas_with(process, {"locked"}) if it.stop > first]
+            count = min([max(it.start - first, 0) for it in locked], default=0)
+        elif reply not in ("ok", "err ENOMEM"):
+            return
+        self.drop(process, first, count)
+
+    def lock(self, words: list[str], reply: str) -> None:
+        """`mlock P A LEN`: the pages that were served are accessed, up to one that wasn't."""
+        process, at, length = int(words[1]), int(words[2], 16), int(words[3])
+        if reply.startswith("err ") or not length:
+            return
+        first, last = page_of(at), page_of(at + length - 1)
+        if reply != "ok":
+            last = first + page_of(int(reply.split(" ")[1])) - 1
+        barred = self.areas_with(process, {"---"})
+        table = self.tables.get(process, {})
+        for page in range(first, last + 1):
+            code = table.get(page, "-")
+            if code[0] == "f" and not any(page in it for it in barred):
+                self.put(process, page, f"F{frame_of(code)}")
 
     def forget(self) -> None:
         """A line of which it isn't told what it changed: nothing is known of any entry."""
@@ -357,7 +389,7 @@ class Told:
     def keep(self, frame: int, cause: str) -> None:
         if cause == "referenced":
             self.clear_seen(frame)
-        self.enlist(frame, ACTIVE if cause in ("referenced", "noslot") else INACTIVE)
+        self.enlist(frame, ACTIVE if cause in TO_ACTIVE else INACTIVE)
 
     def age(self, frame: int) -> None:
         self.clear_seen(frame)
@@ -438,6 +470,12 @@ class Told:
             self.forget()
         if name == "swapoff" and is_done:
             self.swapoff(int(words[1]))
+        if name == "mlock":
+            self.lock(words, reply[0])
+        if name in ("mlock", "munlock") or name == "madvise" and words[4] != "dontneed":
+            self.unshown.add(int(words[1]))
+        if name == "fork" and is_done and int(words[1]) in self.unshown:
+            self.unshown.add(int(words[2]))
 
     # answers
 
@@ -453,6 +491,7 @@ class Told:
     def answer_areas(self, process: int, rows: list[str]) -> None:
         """What `areas` answers: the operation has the rows that are gone or new."""
         old = self.rows.get(process, [])
+        self.unshown.discard(process)
         if process not in self.tables or rows == old:
             return
         gone, new = set(old).difference(rows), set(rows).difference(old)
