@@ -48,10 +48,12 @@ CARRIERS = {
     "av_spaces": "Spaces",
     "av_mem": "Mem Keeps KeepsBetween take_frame_of_zeros take_frame_for_copy count_each_for_child"
     " zap_range zap_all walk",
+    "av_ksm": "share join frames_are_shared pages_join",
     "av_reclaim": "Driver reclaim age complete seek",
     "av_swapoff": "SlotSystem swapoff",
     "av_fork": "fork_areas fork_entries",
     "av_mremap": "remap_areas remap_entries",
+    "av_migrate": "compact frames_go_over free_frames_are_ordered",
     "av_fault": "touch",
     "av_place": "find_place find_gap find_target check_protect check_remap is_too_long "
     "is_no_range leaves_old check_indices",

@@ -215,7 +215,9 @@ class Beside:
         if line.name == "areas" and locks_of(model) != locks_of(linux):
             return UNLOCKED if line.process in self.unlocked else None
         if line.name == "areas":
-            return self.bounds.get(line.process) if runs_of(model) == runs_of(linux) else None
+            # (an area whose pages came in has an anon_vma, which keeps it from joining)
+            why = self.bounds.get(line.process) or self.brought.get(line.process)
+            return why if runs_of(model) == runs_of(linux) else None
         if line.name == "madvise" and line.process in self.unlocked:
             return UNLOCKED
         row = row_of(line, linux[0], line.process in self.children)

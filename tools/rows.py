@@ -202,6 +202,11 @@ def says_hole(_, reply: str) -> bool:
     return reply == "err ENOMEM"
 
 
+def says_one_page(line: Line, reply: str) -> bool:
+    """Whether Linux answers as for the page of the address."""
+    return reply == ("err EINVAL" if line.at >= 2**64 - PAGE else "err ENOMEM")
+
+
 def says_other(_, reply: str) -> bool:
     return reply in ("ok", "err ENOMEM", "err EAGAIN", "err EPERM")
 
@@ -230,7 +235,7 @@ SAME_LENGTH = Row(*check.SAME_LENGTH, is_as_long, says_no_more)
 WITH_B = Row("mremap", "`EINVAL`, with B", meets, says_invalid, True)
 BOUNDS = Row(*check.ONE_PROTECTION, is_over_bounds, says_bounds, True)
 LOW_B = Row("mremap", "`EPERM`: B is below LOW", is_low_target, says_target, True)
-NO_LENGTH = Row("mlock, munlock", "LEN 0", is_off_page, says_hole, True)
+NO_LENGTH = Row("mlock, munlock", "LEN 0", is_off_page, says_one_page, True)
 WRAPS = Row("mlock, munlock", "LEN near 2^64", is_near_end, says_other, True)
 MORE = Row("mlock, munlock", "more than 16,384 pages", is_long, says_other)
 NO_ACCESS = Row(*check.NO_ACCESS, has_no_access, says_hole)

@@ -1,2 +1,7 @@
-pub mod Sharing
-pub mod Joining
+pub mod CandidateLaws
+pub mod ShareStep
+pub mod JoinStep
+pub mod JoiningViews
+pub mod StepDone
+pub mod Knowing
+pub mod Turn

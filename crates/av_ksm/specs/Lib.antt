@@ -1,1 +1,4 @@
+pub mod Candidate
 pub mod Join
+pub mod Joining
+pub mod Known

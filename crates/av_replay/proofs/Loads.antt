@@ -55,7 +55,7 @@ told_so : {load done : List (List ℕ)} {ps : List Slot} (status : Status) (rest
     (f : Front load done rest left') → source.left ≡ left' → (ps ≡ []) ⊎ ((status ≡ statuses.Memory) × HandsDeviceNext rest source)
     → (ps ≡ []) ⊎ ((status ≡ statuses.Memory) × HandsDeviceFirst f.others)
 told_so status rest source left' f left (inl told) = inl told
-told_so status rest source left' f left (inr (memory, line, is, hands, stands)) =
+told_so status rest source left' f left (inr (memory, (line, is, hands, stands))) =
     inr (memory, hands_first line f.others (f.next line source left is stands) hands)
 
 pub loaded : (n areas seed lines : ℕ) (status : Status) (old new : PortsView) (kernel : Option Machine) → areas ≤ most_names → lines ≤ most_load →
@@ -109,7 +109,7 @@ loaded-over n seed lines names status old new kernel few short left source sourc
   tries = over.tries;
   all = elim over.all [
     | inl all ↦ inl all
-    | inr wanting ↦ inr (wanting.0, ap (λ (p : PortsView). p.device) wanting.1.0, wanting.1.1)
+    | inr memory ↦ inr (memory.0, (ap (λ (p : PortsView). p.device) memory.1.0, memory.1.1))
   ];
   does = loaded n (length names) seed lines status (record old { device = over.attached }) new kernel few short left source source' sink sink'
       over.does.headline;
@@ -141,7 +141,7 @@ wanting n seed lines names status sink device device' kernel not over = record {
   attaches = over.attaches;
   failed = over.failed;
   tries = over.tries;
-  all = elim over.all [ inl all ↦ inl all | inr wanting ↦ inr (wanting.0, refl, wanting.1) ];
+  all = elim over.all [ inl all ↦ inl all | inr memory ↦ inr (memory.0, (refl, memory.1.0, memory.1.1)) ];
   does = record {
     run = over.does.run;
     others = over.does.others;
@@ -163,6 +163,12 @@ pub never-attaches : (status : Status) (old new : SinkView) (text : List ℕ) �
 never-attaches status old new text (inl memory) fault =
     let e : statuses.Memory ≡ statuses.AttachFault = sym memory.0 ∙ fault in absurd cc
 never-attaches status old new text (inr ends) fault = absurd (subst (λ (s : Status). EndsText s old new text) fault ends)
+
+-- nor in a usage error
+pub never-misused : (status : Status) (old new : SinkView) (text : List ℕ) → SumsUp status old new text → status ≢ statuses.Usage
+never-misused status old new text (inl memory) usage =
+    let e : statuses.Memory ≡ statuses.Usage = sym memory.0 ∙ usage in absurd cc
+never-misused status old new text (inr ends) usage = absurd (subst (λ (s : Status). EndsText s old new text) usage ends)
 
 -- every line was done, and then this summary was written
 pub summed : (n seed lines total : ℕ) (names : List (List ℕ)) (status last : Status) (old new : SinkView) (device device' device'' : Device) (kernel : Machine) →
@@ -192,7 +198,7 @@ summed n seed lines total names status last old new device device' device'' kern
         run = run;
         others = over.does.others;
         works = over.does.works;
-        told = inl (only_told (done-is-no-memory status done) over.does.told);
+        told = inl (only_told over.does.told (done-is-no-memory status done));
         ends = ends-work last old new over.does.others _ (over.does.all done)
             (subst (λ (text : List ℕ). SumsUp last old new text) is (sums run.state left.stands));
         handed_back = hands_if (can_go_on last) (λ k. IsHandedBack k device' n run) kernel left;

@@ -5,9 +5,10 @@
 //! run ends early. There was one flush of the sink for each read of the source, and it is said how
 //! many more; nothing is kept back where a read failed; and it is said what failed and how often.
 //! The swap areas that the words name are attached before all else, as the areas from 0 on, once
-//! each and in their order, up to the first that can't be. From then on the device is asked to
-//! write what the notes tell and nothing else, unless memory was wanting, and no page 0 in any
-//! case. Only as many failures show as the device had then. The kernel handed back stands, with the
+//! each and in their order, up to the first that can't be; where memory is wanting for one, nothing
+//! else is done. From then on the device is asked to write what the notes tell and nothing else,
+//! unless memory was wanting for a line that hands it to its command, and no page 0 in any case.
+//! Only as many failures show as the device had then. The kernel handed back stands, with the
 //! device as it is in the end, for what the transcript leaves. Of a run that is done over a source
 //! and a sink that tell what they have, the sink gained the text of a legal run of the trace's
 //! lines, and nothing else (`done_runs_write_their_transcript`). A run that ends at a bad line, at

@@ -44,13 +44,13 @@ fn refuse_words(error: WordsErr) -> Outcome
 /// many lines are still to be made is told to `progress`, of which no clause speaks.
 ///
 /// Of `run` this is true.
-/// The swap areas are attached before anything is read. Each line of the source is read whole and
-/// done, and its text written, before the next line is taken. The source is read in pieces, each
-/// time only when no whole line is left of the last piece. There is one flush of the sink for each
-/// read, and nothing is kept back when a read is waited for; and one more in the end, but after a
-/// call that failed. A flush that fails ends the run as a failed write does; where memory is
-/// wanting, the last one may fail beside that. (By the clauses one flush that fails may be told as
-/// want of memory: no status tells them apart.)
+/// The swap areas are attached before anything is read; where memory is wanting for one, nothing is
+/// read or written. Each line of the source is read whole and done, and its text written, before
+/// the next line is taken. The source is read in pieces, each time only when no whole line is left
+/// of the last piece. There is one flush of the sink for each read, and nothing is kept back when a
+/// read is waited for; and one more in the end, but after a call that failed. A flush that fails
+/// ends the run as a failed write does; where memory is wanting, the last one may fail beside that.
+/// (By the clauses one flush that fails may be told as want of memory: no status tells them apart.)
 ///
 /// What `does` says, by the status: what was read, done and written, over the device with the areas
 /// that the words name; what the kernel handed back stands for, with the device as it is then; that

@@ -1,4 +1,4 @@
-use Rattle.av_ksm.proofs.Sharing.{share-steps}
+use Rattle.av_ksm.proofs.ShareStep.{share-steps}
 use Rattle.av_ksm.proofs.laws.frames_are_shared.Goals as goal
 
 pub returns : goal.returns

@@ -1,4 +1,4 @@
-use Rattle.av_ksm.proofs.Joining.{join-steps}
+use Rattle.av_ksm.proofs.JoinStep.{join-steps}
 use Rattle.av_ksm.proofs.laws.pages_join.Goals as goal
 
 pub returns : goal.returns

@@ -32,5 +32,5 @@ returns-in-Err-Memory-clause-replayed g c = λ other.
       failed = some.3;
       tries = some.4;
       does = nothing_done c.args.frames _;
-      all = inr (refl, refl, refl);
+      all = inr (refl, (refl, refl));
     }

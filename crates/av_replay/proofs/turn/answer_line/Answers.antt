@@ -60,6 +60,6 @@ returns-in-Err-Memory-clause-err g c = inr
 
 pub returns-in_err-do_line-clause-err : goal.returns-in_err-do_line-clause-err
 returns-in_err-do_line-clause-err g c =
-    let p = err_from_is_err_and c.from_residual-in_err-do_line.result c.from_residual-in_err-do_line.ensures.1 in
+    let p = err_from_is_err_and c.from_residual.result c.from_residual.ensures.1 in
     rw (p.1, p.2) (not_answered c.in_err-do_line.field-0.0 c.args.line.now (g.P.Ports.view c.args.ports.now) (g.P.Ports.view c.do_line.new.ports)
     c.args.kernel.now c.do_line.new.kernel c.do_line.ensures.only c.in_err-do_line.ensures.err)

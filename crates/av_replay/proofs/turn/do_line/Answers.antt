@@ -41,15 +41,15 @@ returns-in-Err-Memory-clause-err g c = inl refl
 -- or in its command
 pub returns-in_err-answer-clause-err : goal.returns-in_err-answer-clause-err
 returns-in_err-answer-clause-err g c =
-    let p = err_from_is_err_and c.from_residual-in_err-answer.result c.from_residual-in_err-answer.ensures in
+    let p = err_from_is_err_and c.from_residual.result c.from_residual.ensures.1 in
     let says = rw c.in-Some.is at c.in-Ok.ensures.found in
-    rw (p.1, p.2) (handed_or_left c.args.line.now c.in-Some.command (g.P.Ports.view c.args.ports.now) (g.P.Ports.view c.answer.new.ports) says
+    rw (p.1, p.2) (handed_or_left c.args.line.now c.in-Some.command (g.P.Ports.view c.args.ports.now) (g.P.Ports.view c.answer.new.self) says
     (λ not. c.answer.ensures.leaves_device (inr not)))
 
 -- or for its text
 pub returns-in_err-reply_text-clause-err : goal.returns-in_err-reply_text-clause-err
 returns-in_err-reply_text-clause-err g c =
-    let p = err_from_is_err_and c.from_residual-in_err-reply_text.result c.from_residual-in_err-reply_text.ensures in
+    let p = err_from_is_err_and c.from_residual-in_err-reply_text.result c.from_residual-in_err-reply_text.ensures.1 in
     let says = rw c.in-Some.is at c.in-Ok.ensures.found in
-    rw (p.1, p.2) (handed_or_left c.args.line.now c.in-Some.command (g.P.Ports.view c.args.ports.now) (g.P.Ports.view c.answer.new.ports) says
+    rw (p.1, p.2) (handed_or_left c.args.line.now c.in-Some.command (g.P.Ports.view c.args.ports.now) (g.P.Ports.view c.answer.new.self) says
     (λ not. c.answer.ensures.leaves_device (inr not)))

@@ -1,24 +1,27 @@
 -- The step by which a frame is merged, all parts together.
-use Rattle.std.proofs.Common.{◌≡◌, ℕ, Bool, true, false, cond, ◌&&◌, ◌||◌, ◌==◌, [], ◌∷◌, Option, Some, None, refl, sym, ap, subst, ◌∙◌, T}
+use Rattle.std.proofs.Common.{◌≡◌, ℕ, ◌<◌, nat_lt, Bool, true, false, cond, ◌&&◌, ◌||◌, ◌==◌, [], ◌∷◌, Option, Some, None, refl, sym, ap, subst, ◌∙◌, arith, T}
+use Rattle.std.proofs.lemmas.Bool.Decides.{nat_tests}
 use Rattle.std.proofs.lemmas.Bool.{false≢true}
 use Rattle.std.proofs.lemmas.List.Folds.{list_any-append}
 use Rattle.std.specs.FinMap.Entries.{is_sorted}
 use Rattle.std.specs.Prelude.{IsSomeAnd}
 use Rattle.av_base.specs.Items.{Item}
-use Rattle.av_base.specs.Keys.{Key, key_cmp}
+use Rattle.av_base.specs.Keys.{key_cmp}
 use Rattle.av_base.proofs.Keys.{same_key-is}
 use Rattle.av_base.specs.declared.slot.Slot.{Slot}
 use Rattle.av_trace.specs.declared.note.Note.TheVariants.{Shared}
-use Rattle.av_plain.specs.Areas.{Items, at_root, rmap_after_note, with_any_item, with_first_item}
+use Rattle.av_plain.specs.Areas.{at_root, rmap_after_note, with_any_item, with_first_item}
 use Rattle.av_plain.specs.Event.{Noted, after_note}
 use Rattle.av_plain.specs.Fault.{asks_copy}
 use Rattle.av_plain.specs.Ledger.{InFrame, Ledger, Setting, entry, frame_at, is_merged, names_frame}
+use Rattle.av_plain.specs.Sound.{mergings}
 use Rattle.av_plain.specs.Stands.{BytesStand, ItemsAre, LedgerStands, Pte, View, entry_of, free_of}
 use Rattle.av_plain.specs.World.{pages}
 use Rattle.av_plain.proofs.Covered.{Names, alone-by}
 use Rattle.av_plain.proofs.Covered.Merging.{shared-reach}
 use Rattle.av_plain.proofs.Covered.Swap.{Reach}
 use Rattle.av_plain.proofs.Ledger.NoSwap.{key_is}
+use Rattle.av_plain.proofs.Sound.Changes.{any-counts}
 use Rattle.av_plain.proofs.Sound.Counts.{same-is, same-itself}
 use Rattle.av_swap_laws.specs.Held.{Held, IsHeld, Steps}
 use Rattle.av_swap_laws.specs.May.{AreOnce}
@@ -27,6 +30,18 @@ use Rattle.av_swap_laws.proofs.Free.{chooses-none}
 use Rattle.av_swap_laws.proofs.Parts.{few-of, kept-moves, none-some, shared-same, some-is}
 use Rattle.av_swap_laws.proofs.Whole.{areas-as, headers-as}
 use Rattle.av_ksm.specs.Join.{HasOwn, view_shared}
+
+pub unmerged-none : (l : Ledger) (f : ℕ) → is_merged l f ≡ false → mergings l f ≡ 0
+unmerged-none l f own = none (mergings l f) (sym (any-counts (λ x. f == x) l.merged) ∙ own)
+  where
+    none : (n : ℕ) → nat_lt 0 n ≡ false → n ≡ 0
+    none n e = grind (arith, nat_tests, e)
+
+pub merged-some : (l : Ledger) (f : ℕ) → is_merged l f ≡ true → 0 < mergings l f
+merged-some l f merged = some (mergings l f) (sym (any-counts (λ x. f == x) l.merged) ∙ merged)
+  where
+    some : (n : ℕ) → nat_lt 0 n ≡ true → 0 < n
+    some n e = grind (arith, nat_tests, e)
 
 -- one frame more is merged
 pub merged-more : (l : Ledger) (f g : ℕ) → is_merged (after_note (Shared f) l) g ≡ (is_merged l g || g == f)

@@ -1,5 +1,5 @@
 -- The step by which a page joins a merged frame, all parts together.
-use Rattle.std.proofs.Common.{◌≡◌, ℕ, ◌+◌, ◌-◌, ◌<◌, ◌≤◌, Bool, true, false, cond, ◌&&◌, ◌||◌, ◌==◌, nat_lt, [], ◌∷◌, ◌++◌, Option, Some, None, is_none, refl, sym, ap, subst, ◌∙◌, arith, T}
+use Rattle.std.proofs.Common.{◌≡◌, ℕ, ◌+◌, ◌-◌, ◌<◌, ◌≤◌, Bool, true, false, cond, ◌&&◌, ◌||◌, ◌==◌, nat_lt, [], ◌∷◌, ◌++◌, Option, Some, is_none, refl, sym, ap, subst, ◌∙◌, arith, T}
 use Rattle.std.proofs.lemmas.Bool.Decides.{nat_tests}
 use Rattle.std.proofs.lemmas.Bool.{false≢true}
 use Rattle.std.specs.FinMap.Entries.{is_sorted}
@@ -10,9 +10,8 @@ use Rattle.av_base.specs.Page.{page_of, page_size}
 use Rattle.av_base.specs.Words.{is_in, with_at, without}
 use Rattle.av_base.specs.declared.slot.Slot.{Slot}
 use Rattle.av_trace.specs.declared.note.Note.TheVariants.{Joined}
-use Rattle.av_plain.specs.Areas.{Items, item_of, rmap_after_note, with_any_item, with_item_of}
+use Rattle.av_plain.specs.Areas.{item_of, rmap_after_note, with_any_item, with_item_of}
 use Rattle.av_plain.specs.Choice.{Chooses}
-use Rattle.av_plain.specs.Covered.{AreMergedCovered}
 use Rattle.av_plain.specs.Event.{Noted, after_note, change_frame, off_lists, set_entry, settle_entry}
 use Rattle.av_plain.specs.Fault.{asks_copy}
 use Rattle.av_plain.specs.Ledger.{Entry, InFrame, Ledger, Setting, entry, is_free, is_merged, map_count, names_frame, names_slot, slot_entries, slot_of}
@@ -30,7 +29,7 @@ use Rattle.av_swap_laws.specs.Held.{Held, IsHeld, Steps}
 use Rattle.av_swap_laws.specs.May.{AreOnce}
 use Rattle.av_swap_laws.specs.Steps.{view_freed, with_pte}
 use Rattle.av_swap_laws.proofs.Free.{chooses-none, frames-one, given-none}
-use Rattle.av_swap_laws.proofs.One.{IsSetAt, one-stands, set-at}
+use Rattle.av_swap_laws.proofs.One.{one-stands, set-at}
 use Rattle.av_swap_laws.proofs.Parts.{claims, kept-moves, own-of, shared-fewer, shared-off_lists, some-is}
 use Rattle.av_swap_laws.proofs.Whole.{AreSame, areas-as, headers-as, items-freed}
 use Rattle.av_ksm.specs.Join.{HasOwn, view_joined, view_joining}

@@ -1,0 +1,10 @@
+pub mod NextLaws
+pub mod MoveCounts
+pub mod MoveStands
+pub mod MoveSteps
+pub mod PointLaws
+pub mod WalkedLaws
+pub mod MovingLaws
+pub mod NextMove
+pub mod ServesMove
+pub mod CompactLaws

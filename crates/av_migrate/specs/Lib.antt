@@ -1,0 +1,4 @@
+pub mod Move
+pub mod Pointed
+pub mod Next
+pub mod Compact
