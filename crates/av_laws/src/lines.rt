@@ -30,7 +30,7 @@ pub fn lines_say()
         (Some (Mremap 1 0x10000 4096 8192 Plain)) }
 {}
 
-/// The texts of the commands that the grammar doesn't have yet.
+/// The texts of advice, locks, merging and compaction; the grammar has not all of them yet.
 pub fn texts_stand()
     ensures advice_last { line_of (Madvise 1 0x10000 4096 DontNeed)
         ≡ codes "madvise 1 10000 4096 dontneed" }
