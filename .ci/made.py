@@ -44,6 +44,8 @@ CARRIERS = {
     "compactions_take_the_lowest_frames numbers_add_up replies_are_determined "
     "replies_of_runs_are_read_back texts_of_runs_say_replies runs_lay_areas runs_cover_entries",
     "av_audit_laws": "replies_tell_events units_leave_one transcripts_are_judged",
+    "av_book": "Book seeks takes fetches swaps_in completes outcomes ages judges_complete judges_age "
+    "judges_reclaim",
     "av_swap_laws": "frames_are_put slots_are_loaded slots_are_dropped soundness_goes_on",
     "av_evict": "System reclaim age complete seek",
     "av_spaces": "Spaces",

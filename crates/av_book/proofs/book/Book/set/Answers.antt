@@ -1,0 +1,18 @@
+use Rattle.std.proofs.Common.{ap, map, ◌∙◌}
+use Rattle.av_book.specs.Book.{areas_of, cached_of, entries_of}
+use Rattle.av_book.proofs.BookLaws.{put-entry}
+use Rattle.av_book.proofs.book.Book.set.Goals as goal
+
+pub returns : goal.returns
+returns c =
+    let same = ap entries_of c.in_ok-insert.ensures.entries
+    ∙ put-entry c.args.self.now.entries.entries (c.args.process, c.args.page) c.args.entry in
+    λ i. record {
+      entries = same i;
+      cache = map cached_of c.args.self.now.cache.items;
+      flight = c.args.self.now.flight.items;
+      active = c.args.self.now.active.items;
+      inactive = c.args.self.now.inactive.items;
+      merged = c.args.self.now.merged.items;
+      on = areas_of c.args.self.now.on.entries;
+    }

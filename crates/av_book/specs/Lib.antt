@@ -1,0 +1,13 @@
+pub mod Book
+pub mod Filters
+pub mod Finds
+pub mod Notes
+pub mod Flight
+pub mod Machine
+pub mod Pass
+pub mod Stage
+pub mod Verdict
+pub mod Fetch
+pub mod Need
+pub mod Come
+pub mod Says

@@ -1,0 +1,64 @@
+//! A ledger, as data.
+
+ghost use Rattle.std.specs.Prelude.{◌≡◌};
+ghost use Rattle.av_plain.specs.Ledger.{first_ledger};
+ghost use Rattle.av_book.specs.Book.{ledger_of};
+
+use av_base::Slot;
+use std::alloc::Global;
+use std::collections::BTreeMap;
+
+/// What a page's entry is.
+#[derive(Clone, Copy, Drop)]
+pub enum Entry {
+    Zero,
+    InFrame { frame: u32, seen: bool },
+    InSlot(Slot),
+}
+
+/// A slot, the frame that caches it, and whether the page changed since its last write began.
+#[derive(Clone, Copy, Drop)]
+pub struct Cached {
+    pub slot: Slot,
+    pub frame: u32,
+    pub stale: bool,
+}
+
+/// A swap area that is on: its usable slots and bad pages, and the priority that was asked for.
+#[derive(Clone, Copy, Drop)]
+pub struct Area {
+    pub slots: u32,
+    pub bad: u32,
+    pub priority: Option<u16>,
+}
+
+/// What is kept of frames and slots.
+#[derive(Drop)]
+pub struct Book {
+    pub alloc: Global,
+    pub entries: BTreeMap<(u16, u64), Entry>,
+    pub cache: Vec<Cached>,
+    pub flight: Vec<Slot>,
+    pub active: Vec<u32>,
+    pub inactive: Vec<u32>,
+    pub merged: Vec<u32>,
+    pub on: BTreeMap<u8, Area>,
+}
+
+impl Book {
+    /// Nothing.
+    pub fn new(alloc: Global) -> Book
+        ensures { ledger_of result ≡ first_ledger }
+    {
+        Book {
+            alloc,
+            entries: BTreeMap::new(alloc),
+            cache: Vec::new(alloc),
+            flight: Vec::new(alloc),
+            active: Vec::new(alloc),
+            inactive: Vec::new(alloc),
+            merged: Vec::new(alloc),
+            on: BTreeMap::new(alloc),
+        }
+    }
+}

@@ -1,0 +1,171 @@
+//! Slots that are cached, and those in flight.
+
+ghost use Rattle.std.specs.Prelude.{◌≡◌, IfOk, OnOk, map};
+ghost use Rattle.av_plain.specs.Event.{into_cache, off_cache, off_flight, settle};
+ghost use Rattle.av_plain.specs.Event.{with_stale as with_stale_of};
+ghost use Rattle.av_plain.specs.Ledger.{frame_at, in_flight, is_cached, is_free, is_orphan};
+ghost use Rattle.av_plain.specs.Ledger.{is_stale, slot_of};
+ghost use Rattle.av_book.specs.Book.{cached_of, ledger_of, stale_at};
+
+use crate::book::{Book, Cached};
+use av_base::Slot;
+use std::alloc::{AllocError, Global};
+
+impl Book {
+    /// The slot at which the frame is cached, if it is.
+    pub fn slot_of(&self, frame: u32) -> Option<Slot>
+        ensures { result ≡ slot_of (ledger_of self.now) frame }
+    {
+        let mut rest = self.cache.as_slice();
+        while let [first, others @ ..] = rest {
+            if frame == first.frame {
+                return Some(first.slot);
+            }
+            rest = others;
+        }
+        None
+    }
+
+    /// The frame that caches the slot, if one does.
+    pub fn frame_at(&self, slot: Slot) -> Option<u32>
+        ensures { result ≡ frame_at (ledger_of self.now) slot }
+    {
+        let mut rest = self.cache.as_slice();
+        while let [first, others @ ..] = rest {
+            if slot == first.slot {
+                return Some(first.frame);
+            }
+            rest = others;
+        }
+        None
+    }
+
+    /// Whether the slot is cached.
+    pub fn is_cached(&self, slot: Slot) -> bool
+        ensures { result ≡ is_cached (ledger_of self.now) slot }
+    {
+        self.frame_at(slot).is_some()
+    }
+
+    /// Whether its page changed since its last write began.
+    pub fn is_stale(&self, slot: Slot) -> bool
+        ensures { result ≡ is_stale (ledger_of self.now) slot }
+    {
+        let mut rest = self.cache.as_slice();
+        while let [first, others @ ..] = rest {
+            if slot == first.slot && first.stale {
+                return true;
+            }
+            rest = others;
+        }
+        false
+    }
+
+    /// Whether a write of the slot is in flight.
+    pub fn is_flying(&self, slot: Slot) -> bool
+        ensures { result ≡ in_flight (ledger_of self.now) slot }
+    {
+        let mut rest = self.flight.as_slice();
+        while let [first, others @ ..] = rest {
+            if slot == *first {
+                return true;
+            }
+            rest = others;
+        }
+        false
+    }
+
+    /// Whether nothing names the frame.
+    pub fn is_free(&self, frame: u32) -> bool
+        ensures { result ≡ is_free (ledger_of self.now) frame }
+    {
+        self.maps(frame) == 0 && self.slot_of(frame).is_none()
+    }
+
+    /// Whether the slot is cached in vain.
+    pub fn is_orphan(&self, slot: Slot) -> bool
+        ensures { result ≡ is_orphan (ledger_of self.now) slot }
+    {
+        match self.frame_at(slot) {
+            None => false,
+            Some(frame) => {
+                self.maps(frame) == 0 && !self.is_flying(slot) && self.names(slot) == 0
+            }
+        }
+    }
+
+    /// A frame that is free leaves its list.
+    pub fn settle(&mut self, frame: u32)
+        ensures { ledger_of self.new ≡ settle frame (ledger_of self.old) }
+    {
+        if self.is_free(frame) {
+            self.off_lists(frame);
+        }
+    }
+
+    /// The cached slot is stale, or is not. Without memory all stays.
+    pub fn set_stale(&mut self, stale: bool, slot: Slot) -> Result<(), AllocError>
+        ensures { OnOk result (ledger_of self.new ≡ with_stale_of stale slot (ledger_of self.old)) }
+    {
+        let cache = with_stale(self.alloc, self.cache.as_slice(), stale, slot)?;
+        self.cache = cache;
+        Ok(())
+    }
+
+    /// The slot is cached at the frame. Without memory all stays.
+    pub fn into_cache(&mut self, slot: Slot, frame: u32, stale: bool) -> Result<(), AllocError>
+        ensures { OnOk result (ledger_of self.new
+            ≡ into_cache slot frame stale (ledger_of self.old)) }
+    {
+        self.cache.insert(0, Cached { slot, frame, stale })?;
+        Ok(())
+    }
+
+    /// The slot is cached no longer.
+    pub fn off_cache(&mut self, slot: Slot)
+        ensures { ledger_of self.new ≡ off_cache slot (ledger_of self.old) }
+    {
+        self.cache.retain(|c| slot != c.slot);
+    }
+
+    /// The slot is in flight no longer.
+    pub fn off_flight(&mut self, slot: Slot)
+        ensures { ledger_of self.new ≡ off_flight slot (ledger_of self.old) }
+    {
+        self.flight.retain(|other| slot != *other);
+    }
+}
+
+/// A cached pair, stale or not where it is of the slot.
+fn with_stale_at(c: Cached, stale: bool, slot: Slot) -> Cached
+    ensures { cached_of result ≡ stale_at stale slot (cached_of c) }
+{
+    if slot == c.slot {
+        Cached {
+            slot: c.slot,
+            frame: c.frame,
+            stale,
+        }
+    } else {
+        c
+    }
+}
+
+/// Cached pairs, those of the slot stale or not.
+fn with_stale(
+    alloc: Global,
+    cache: &[Cached],
+    stale: bool,
+    slot: Slot,
+) -> Result<Vec<Cached>, AllocError>
+    ensures { IfOk result (λ made. map cached_of made.items
+        ≡ map (stale_at stale slot) (map cached_of cache.now)) }
+{
+    let mut made = Vec::new(alloc);
+    let mut rest = cache;
+    while let [first, others @ ..] = rest {
+        made.push(with_stale_at(*first, stale, slot))?;
+        rest = others;
+    }
+    Ok(made)
+}

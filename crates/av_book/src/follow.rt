@@ -1,0 +1,192 @@
+//! The ledger after a note.
+
+ghost use Rattle.std.specs.Prelude.{◌≡◌, OnOk, false, option_map};
+ghost use Rattle.av_plain.specs.Event.{after_note, change_frame, set_entry, settle_entry};
+ghost use Rattle.av_plain.specs.Event.{to_inactive_head};
+ghost use Rattle.av_plain.specs.Ledger.{InFrame as NamesFrame};
+ghost use Rattle.av_trace.specs.declared.note.Note.TheVariants as notes;
+ghost use Rattle.av_book.specs.Book.{entry_of, ledger_of};
+
+use crate::book::{Book, Entry};
+use av_base::Slot;
+use av_trace::{Cause, Note};
+use std::alloc::AllocError;
+
+impl Book {
+    /// A page gets a frame. Without memory a part may be done.
+    fn frame_up(&mut self, process: u16, page: u64, frame: u32) -> Result<(), AllocError>
+        ensures { OnOk result (ledger_of self.new ≡ to_inactive_head frame
+            (set_entry (process, page) (NamesFrame frame false) (ledger_of self.old))) }
+    {
+        self.set(process, page, Entry::InFrame { frame, seen: false })?;
+        self.to_inactive_head(frame)
+    }
+
+    /// A page's entry names another frame. Without memory a part may be done.
+    fn change_frame(&mut self, process: u16, page: u64, frame: u32) -> Result<(), AllocError>
+        ensures { OnOk result (ledger_of self.new
+            ≡ change_frame (process, page) frame (ledger_of self.old)) }
+    {
+        let entry = self.entry(process, page);
+        self.set(process, page, Entry::InFrame { frame, seen: false })?;
+        self.settle_entry(entry);
+        Ok(())
+    }
+
+    /// The frame of an entry that has gone leaves its list where it is free now.
+    pub fn settle_entry(&mut self, entry: Option<Entry>)
+        ensures { ledger_of self.new
+            ≡ settle_entry (option_map entry_of entry) (ledger_of self.old) }
+    {
+        if let Some(Entry::InFrame { frame, .. }) = entry {
+            self.settle(frame);
+        }
+    }
+
+    /// A page gets a copy. Without memory a part may be done.
+    fn copied(&mut self, process: u16, page: u64, frame: u32) -> Result<(), AllocError>
+        ensures { OnOk result (ledger_of self.new ≡ to_inactive_head frame
+            (change_frame (process, page) frame (ledger_of self.old))) }
+    {
+        self.change_frame(process, page, frame)?;
+        self.to_inactive_head(frame)
+    }
+
+    /// A frame takes a slot's page. Without memory a part may be done.
+    fn loaded(&mut self, slot: Slot, frame: u32) -> Result<(), AllocError>
+        ensures { OnOk result (ledger_of self.new
+            ≡ after_note (notes.Loaded slot frame) (ledger_of self.old)) }
+    {
+        self.into_cache(slot, frame, false)?;
+        self.to_inactive_head(frame)
+    }
+
+    /// A frame has no entry any more.
+    fn unmapped(&mut self, frame: u32)
+        ensures { ledger_of self.new ≡ after_note (notes.Unmapped frame) (ledger_of self.old) }
+    {
+        if let Some(slot) = self.slot_of(frame) {
+            self.unmap(frame, slot);
+        }
+    }
+
+    /// A write begins. Without memory a part may be done.
+    fn started(&mut self, slot: Slot) -> Result<(), AllocError>
+        ensures { OnOk result (ledger_of self.new
+            ≡ after_note (notes.Started slot) (ledger_of self.old)) }
+    {
+        self.flight.push(slot)?;
+        self.set_stale(false, slot)
+    }
+
+    /// A write ends well. Without memory a part may be done.
+    fn written(&mut self, slot: Slot) -> Result<(), AllocError>
+        ensures { OnOk result (ledger_of self.new
+            ≡ after_note (notes.Written slot) (ledger_of self.old)) }
+    {
+        self.off_flight(slot);
+        match self.frame_at(slot) {
+            None => Ok(()),
+            Some(frame) => self.to_inactive_tail(frame),
+        }
+    }
+
+    /// A write fails. Without memory a part may be done.
+    fn failed(&mut self, slot: Slot) -> Result<(), AllocError>
+        ensures { OnOk result (ledger_of self.new
+            ≡ after_note (notes.Failed slot) (ledger_of self.old)) }
+    {
+        self.off_flight(slot);
+        self.set_stale(true, slot)
+    }
+
+    /// A slot is cached no longer.
+    fn dropped(&mut self, slot: Slot)
+        ensures { ledger_of self.new ≡ after_note (notes.Dropped slot) (ledger_of self.old) }
+    {
+        let frame = self.frame_at(slot);
+        self.off_cache(slot);
+        if let Some(frame) = frame {
+            self.settle(frame);
+        }
+    }
+
+    /// A frame is kept. Without memory a part may be done.
+    fn kept(&mut self, frame: u32, cause: Cause) -> Result<(), AllocError>
+        ensures { OnOk result (ledger_of self.new
+            ≡ after_note (notes.Kept frame cause) (ledger_of self.old)) }
+    {
+        match cause {
+            Cause::Writeback | Cause::WriteStarted => self.to_inactive_head(frame),
+            Cause::Referenced => {
+                self.unsee(frame);
+                self.to_active(frame)
+            }
+            Cause::NoSlot | Cause::Locked | Cause::Ksm => self.to_active(frame),
+        }
+    }
+
+    /// A frame is aged. Without memory a part may be done.
+    fn aged(&mut self, frame: u32) -> Result<(), AllocError>
+        ensures { OnOk result (ledger_of self.new
+            ≡ after_note (notes.Aged frame) (ledger_of self.old)) }
+    {
+        self.unsee(frame);
+        self.to_inactive_head(frame)
+    }
+
+    /// What a note tells happens. Without memory a part may be done.
+    pub fn follow(&mut self, note: Note) -> Result<(), AllocError>
+        ensures { OnOk result (ledger_of self.new ≡ after_note note (ledger_of self.old)) }
+    {
+        match note {
+            Note::Zeroed { process, address } => self.set(process, address / 4096, Entry::Zero),
+            Note::New {
+                process,
+                address,
+                frame,
+            } => self.frame_up(process, address / 4096, frame),
+            Note::Copied {
+                process,
+                address,
+                frame,
+            } => self.copied(process, address / 4096, frame),
+            Note::Loaded { slot, frame } => self.loaded(slot, frame),
+            Note::Mapped {
+                process,
+                address,
+                frame,
+            } => {
+                self.set(
+                    process,
+                    address / 4096,
+                    Entry::InFrame { frame, seen: false },
+                )
+            }
+            Note::Put { frame, slot } => self.into_cache(slot, frame, true),
+            Note::Unmapped(frame) => {
+                self.unmapped(frame);
+                Ok(())
+            }
+            Note::Started(slot) => self.started(slot),
+            Note::Written(slot) => self.written(slot),
+            Note::Failed(slot) => self.failed(slot),
+            Note::Dropped(slot) => {
+                self.dropped(slot);
+                Ok(())
+            }
+            Note::Kept { frame, cause } => self.kept(frame, cause),
+            Note::Aged(frame) => self.aged(frame),
+            Note::Shared(frame) => {
+                self.merged.push(frame)?;
+                Ok(())
+            }
+            Note::Joined {
+                process,
+                address,
+                frame,
+            } => self.change_frame(process, address / 4096, frame),
+            Note::Moved { from, to } => self.replace(from, to),
+        }
+    }
+}

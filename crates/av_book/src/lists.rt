@@ -1,0 +1,76 @@
+//! The two lists of frames, and those that are merged.
+
+ghost use Rattle.std.specs.Prelude.{◌≡◌, OnOk};
+ghost use Rattle.av_plain.specs.Event.{off_lists, to_active, to_inactive_head, to_inactive_tail};
+ghost use Rattle.av_plain.specs.Ledger.{is_merged};
+ghost use Rattle.av_base.specs.Words.{is_in};
+ghost use Rattle.av_book.specs.Book.{ledger_of, unlisted};
+
+use crate::book::Book;
+use std::alloc::AllocError;
+
+impl Book {
+    /// The frame leaves its list.
+    fn unlist(&mut self, frame: u32)
+        ensures { ledger_of self.new ≡ unlisted frame (ledger_of self.old) }
+    {
+        self.active.retain(|other| frame != *other);
+        self.inactive.retain(|other| frame != *other);
+    }
+
+    /// The frame leaves its list, and is merged no longer.
+    pub fn off_lists(&mut self, frame: u32)
+        ensures { ledger_of self.new ≡ off_lists frame (ledger_of self.old) }
+    {
+        self.unlist(frame);
+        self.merged.retain(|other| frame != *other);
+    }
+
+    /// Whether the frame is merged.
+    pub fn is_merged(&self, frame: u32) -> bool
+        ensures { result ≡ is_merged (ledger_of self.now) frame }
+    {
+        is_among(frame, self.merged.as_slice())
+    }
+
+    /// The frame goes to the head of inactive. Without memory it is in no list.
+    pub fn to_inactive_head(&mut self, frame: u32) -> Result<(), AllocError>
+        ensures { OnOk result (ledger_of self.new ≡ to_inactive_head frame (ledger_of self.old)) }
+    {
+        self.unlist(frame);
+        self.inactive.insert(0, frame)?;
+        Ok(())
+    }
+
+    /// Or to its tail. Without memory it is in no list.
+    pub fn to_inactive_tail(&mut self, frame: u32) -> Result<(), AllocError>
+        ensures { OnOk result (ledger_of self.new ≡ to_inactive_tail frame (ledger_of self.old)) }
+    {
+        self.unlist(frame);
+        self.inactive.push(frame)?;
+        Ok(())
+    }
+
+    /// Or to the head of active. Without memory it is in no list.
+    pub fn to_active(&mut self, frame: u32) -> Result<(), AllocError>
+        ensures { OnOk result (ledger_of self.new ≡ to_active frame (ledger_of self.old)) }
+    {
+        self.unlist(frame);
+        self.active.insert(0, frame)?;
+        Ok(())
+    }
+}
+
+/// Whether a number is one of some.
+pub fn is_among(n: u32, numbers: &[u32]) -> bool
+    ensures { result ≡ is_in n numbers.now }
+{
+    let mut rest = numbers;
+    while let [first, others @ ..] = rest {
+        if n == *first {
+            return true;
+        }
+        rest = others;
+    }
+    false
+}
