@@ -44,7 +44,7 @@ impl Book {
     }
 
     /// A page gets a copy. Without memory a part may be done.
-    fn copied(&mut self, process: u16, page: u64, frame: u32) -> Result<(), AllocError>
+    fn follow_copy(&mut self, process: u16, page: u64, frame: u32) -> Result<(), AllocError>
         ensures { OnOk result (ledger_of self.new ≡ to_inactive_head frame
             (change_frame (process, page) frame (ledger_of self.old))) }
     {
@@ -53,7 +53,7 @@ impl Book {
     }
 
     /// A frame takes a slot's page. Without memory a part may be done.
-    fn loaded(&mut self, slot: Slot, frame: u32) -> Result<(), AllocError>
+    fn follow_load(&mut self, slot: Slot, frame: u32) -> Result<(), AllocError>
         ensures { OnOk result (ledger_of self.new
             ≡ after_note (notes.Loaded slot frame) (ledger_of self.old)) }
     {
@@ -62,7 +62,7 @@ impl Book {
     }
 
     /// A frame has no entry any more.
-    fn unmapped(&mut self, frame: u32)
+    fn follow_unmap(&mut self, frame: u32)
         ensures { ledger_of self.new ≡ after_note (notes.Unmapped frame) (ledger_of self.old) }
     {
         if let Some(slot) = self.slot_of(frame) {
@@ -71,7 +71,7 @@ impl Book {
     }
 
     /// A write begins. Without memory a part may be done.
-    fn started(&mut self, slot: Slot) -> Result<(), AllocError>
+    fn follow_start(&mut self, slot: Slot) -> Result<(), AllocError>
         ensures { OnOk result (ledger_of self.new
             ≡ after_note (notes.Started slot) (ledger_of self.old)) }
     {
@@ -80,7 +80,7 @@ impl Book {
     }
 
     /// A write ends well. Without memory a part may be done.
-    fn written(&mut self, slot: Slot) -> Result<(), AllocError>
+    fn follow_write(&mut self, slot: Slot) -> Result<(), AllocError>
         ensures { OnOk result (ledger_of self.new
             ≡ after_note (notes.Written slot) (ledger_of self.old)) }
     {
@@ -92,7 +92,7 @@ impl Book {
     }
 
     /// A write fails. Without memory a part may be done.
-    fn failed(&mut self, slot: Slot) -> Result<(), AllocError>
+    fn follow_failure(&mut self, slot: Slot) -> Result<(), AllocError>
         ensures { OnOk result (ledger_of self.new
             ≡ after_note (notes.Failed slot) (ledger_of self.old)) }
     {
@@ -101,7 +101,7 @@ impl Book {
     }
 
     /// A slot is cached no longer.
-    fn dropped(&mut self, slot: Slot)
+    fn follow_drop(&mut self, slot: Slot)
         ensures { ledger_of self.new ≡ after_note (notes.Dropped slot) (ledger_of self.old) }
     {
         let frame = self.frame_at(slot);
@@ -112,7 +112,7 @@ impl Book {
     }
 
     /// A frame is kept. Without memory a part may be done.
-    fn kept(&mut self, frame: u32, cause: Cause) -> Result<(), AllocError>
+    fn follow_keep(&mut self, frame: u32, cause: Cause) -> Result<(), AllocError>
         ensures { OnOk result (ledger_of self.new
             ≡ after_note (notes.Kept frame cause) (ledger_of self.old)) }
     {
@@ -127,7 +127,7 @@ impl Book {
     }
 
     /// A frame is aged. Without memory a part may be done.
-    fn aged(&mut self, frame: u32) -> Result<(), AllocError>
+    fn follow_age(&mut self, frame: u32) -> Result<(), AllocError>
         ensures { OnOk result (ledger_of self.new
             ≡ after_note (notes.Aged frame) (ledger_of self.old)) }
     {
@@ -150,8 +150,8 @@ impl Book {
                 process,
                 address,
                 frame,
-            } => self.copied(process, address / 4096, frame),
-            Note::Loaded { slot, frame } => self.loaded(slot, frame),
+            } => self.follow_copy(process, address / 4096, frame),
+            Note::Loaded { slot, frame } => self.follow_load(slot, frame),
             Note::Mapped {
                 process,
                 address,
@@ -165,18 +165,18 @@ impl Book {
             }
             Note::Put { frame, slot } => self.into_cache(slot, frame, true),
             Note::Unmapped(frame) => {
-                self.unmapped(frame);
+                self.follow_unmap(frame);
                 Ok(())
             }
-            Note::Started(slot) => self.started(slot),
-            Note::Written(slot) => self.written(slot),
-            Note::Failed(slot) => self.failed(slot),
+            Note::Started(slot) => self.follow_start(slot),
+            Note::Written(slot) => self.follow_write(slot),
+            Note::Failed(slot) => self.follow_failure(slot),
             Note::Dropped(slot) => {
-                self.dropped(slot);
+                self.follow_drop(slot);
                 Ok(())
             }
-            Note::Kept { frame, cause } => self.kept(frame, cause),
-            Note::Aged(frame) => self.aged(frame),
+            Note::Kept { frame, cause } => self.follow_keep(frame, cause),
+            Note::Aged(frame) => self.follow_age(frame),
             Note::Shared(frame) => {
                 self.merged.push(frame)?;
                 Ok(())
