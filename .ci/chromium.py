@@ -29,7 +29,10 @@ class Browser:
     """
 
     def __init__(self) -> None:
-        self.room = tempfile.TemporaryDirectory(prefix="avsim-browser-")
+        # (a process of the browser may still write there while it is cleared away)
+        self.room = tempfile.TemporaryDirectory(
+            prefix="avsim-browser-", ignore_cleanup_errors=True
+        )
         (given, self.to), (self.out, told) = os.pipe(), os.pipe()
         words = [chromium() or NAMES[0], *QUIET, f"--user-data-dir={self.room.name}"]
         self.ran = subprocess.Popen(

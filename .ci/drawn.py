@@ -32,7 +32,7 @@ class Drawn:
     def __init__(self):
         self.tables, self.dim, self.rows = {}, set(), {}
         self.cached, self.counts, self.flight, self.listed = {}, {}, {}, {}
-        self.areas_on = {}
+        self.areas_on, self.merged = {}, set()
         self.stat, self.lists = "", True
         # the slots of an area that the last operations turned off, with what was said of them
         self.off = {}
@@ -107,6 +107,22 @@ class Drawn:
         if place:
             self.flight[slot] = place
 
+    def op_g(self, frame: int, is_merged: int) -> None:
+        (self.merged.add if is_merged else self.merged.remove)(frame)
+
+    def op_v(self, frame: int, to: int) -> None:
+        for table in self.tables.values():
+            for page, code in table.items():
+                if code in (f"f{frame}", f"F{frame}"):
+                    table[page] = f"{code[0]}{to}"
+        for slot in [it for it, cached in self.cached.items() if cached == frame]:
+            self.cached[slot] = to
+        if frame in self.listed:
+            self.listed[to] = self.listed.pop(frame)
+        if frame in self.merged:
+            self.merged.remove(frame)
+            self.merged.add(to)
+
     def off_in_use(self) -> list[str]:
         """The slots of areas that have just gone off, as far as something had named them."""
         return [it for it, text in self.off.items() if text != "count 0" and it not in self.counts]
@@ -144,7 +160,8 @@ class Drawn:
         if code[0] in "fF":
             slot = next((it for it, frame in self.cached.items() if frame == int(code[1:])), None)
             text = f"frame {code[1:]} {'seen' if code[0] == 'F' else 'old'}"
-            return text + (f" cached {slot}" if slot else "")
+            text += f" cached {slot}" if slot else ""
+            return text + " ksm" * (int(code[1:]) in self.merged)
         if code[0] == "s":
             cached = f" cached {self.cached[code[1:]]}" if code[1:] in self.cached else ""
             return f"slot {code[1:]}{cached}"
@@ -304,6 +321,7 @@ def compare_lists(program: str, words: list[str], data: dict) -> tuple[list[str]
 
 
 ADVICE = ["dontneed"] * 3 + ["dontfork", "dofork", "wipeonfork", "keeponfork"]
+ADVICE += ["mergeable", "unmergeable"]
 
 
 def random_lines(pick: random.Random, live: set[int]) -> Iterator[str]:
@@ -313,6 +331,7 @@ def random_lines(pick: random.Random, live: set[int]) -> Iterator[str]:
     at, length = 0x20000 + 4096 * pick.randint(0, 12), 4096 * n
     yield from [f"write {p} {at + 4095:x} 0304", f"read {p} {at + 4090:x} 8"] * 6
     yield from [f"fork {p} {pick.randint(1, 5)}"] * 3
+    yield from [f"madvise {p} 20000 53248 mergeable", "merge", "merge", "compact"]
     yield from [
         f"mmap {p} {4 * length} rw- fixed {at:x}",
         f"mmap {p} {length} {pick.choice(['rw-', 'rw-', 'r--'])} at {at:x}",

@@ -19,7 +19,7 @@ CARRIERS = {
     "av_base": "Prot Flags Steps",
     "av_vma": "Areas index joinable can_lend",
     "av_text": "Bytes",
-    "av_trace": "parse_line one_meaning no_line_yet reply_text note_text answer_line one_reply",
+    "av_trace": "parse_line one_meaning reply_text note_text answer_line one_reply",
     "av_frames": "Frames",
     "av_pagetable": "Table RadixTable Tables",
     "av_lru": "Lru",
@@ -44,19 +44,25 @@ CARRIERS = {
     "compactions_take_the_lowest_frames numbers_add_up replies_are_determined "
     "replies_of_runs_are_read_back texts_of_runs_say_replies runs_lay_areas runs_cover_entries",
     "av_audit_laws": "replies_tell_events units_leave_one transcripts_are_judged",
-    "av_book": "Book seeks takes fetches swaps_in completes outcomes ages judges_complete judges_age "
-    "judges_reclaim",
+    "av_book": "Book Machine Spared",
+    "av_events": "touch zap_all zap_process zap_range fork move_entries turn_on turn_off",
+    "av_judge": "seeks takes fetches swaps_in completes outcomes ages judges_complete judges_age "
+    "judges_reclaim judges_exit judges_munmap",
+    "av_report_judge": "judges_entry judges_slot",
+    "av_world": "Memories Space Range Marks Edit Change",
+    "av_access_judge": "comes makes unneeded drops takes_behind sparing",
+    "av_audit": "Auditor",
     "av_swap_laws": "frames_are_put slots_are_loaded slots_are_dropped soundness_goes_on",
     "av_evict": "System reclaim age complete seek",
     "av_spaces": "Spaces",
     "av_mem": "Mem Keeps KeepsBetween take_frame_of_zeros take_frame_for_copy count_each_for_child"
     " zap_range zap_all walk",
-    "av_ksm": "share join frames_are_shared pages_join",
+    "av_ksm": "merge candidate share join frames_are_shared pages_join",
     "av_reclaim": "Driver reclaim age complete seek",
     "av_swapoff": "SlotSystem swapoff",
     "av_fork": "fork_areas fork_entries",
     "av_mremap": "remap_areas remap_entries",
-    "av_migrate": "compact frames_go_over free_frames_are_ordered",
+    "av_migrate": "compact compact_frames frames_go_over free_frames_are_ordered",
     "av_fault": "touch",
     "av_place": "find_place find_gap find_target check_protect check_remap is_too_long "
     "is_no_range leaves_old check_indices",

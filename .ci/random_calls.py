@@ -14,6 +14,7 @@ PLACES = ((0x20000, 14), (0x555555554000, 6), (TOP - 20 * PAGE, 20))
 PROTS = ["rw-"] * 12 + ["r--"] * 3 + ["rwx", "r-x", "-w-", "---", "--x"]
 # (a process with pages that are left out can't be copied, and then fewer lines are tried)
 ADVICE = ["dontneed"] * 4 + ["wipeonfork"] * 3 + ["keeponfork", "dofork", "dofork", "dontfork"]
+ADVICE += ["mergeable"] * 2 + ["unmergeable"]
 # what a range may be that is refused, or at a border
 ODD_PLACES = (0, 1, 0xF000, 0x10000, 0x20001, TOP - PAGE, TOP, 2**47, 2**63, 2**64 - PAGE)
 ODD_LENGTHS = (0, 1, PAGE + 1, TOP - 0x10000, TOP, 2**47, 2**63, 2**64 - PAGE, 2**64 - 1)

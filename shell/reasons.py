@@ -8,16 +8,15 @@ from left to right.
 import difflib
 import re
 
-from reference import LATER, Form, Reference
+from reference import Form, Reference
 from shared import saying
 
 LINE_LIMIT = 8448
 # characters of a word that are shown at most
 MOST_SHOWN = 40
 WORDS_OF_TALK = ("show", "view", "touch", "undo", "save", "load", "help", "quit")
-# what a madvise may say, and what it may in a later version
-ADVICE = ("dontneed", "dontfork", "dofork", "wipeonfork", "keeponfork")
-ADVICE_LATER = ("mergeable", "unmergeable")
+# what a madvise may say
+ADVICE = ("dontneed", "dontfork", "dofork", "wipeonfork", "keeponfork", "mergeable", "unmergeable")
 # sections of the reference
 TRACE, COMMANDS, TALK = "Trace", "Commands", "Talk"
 
@@ -101,9 +100,7 @@ def form_of(name: str, reference: Reference) -> Form:
     """The form of the command of this name."""
     if name in reference.forms:
         return reference.forms[name]
-    if name in LATER:
-        raise Reason(f"{name} is no command yet", COMMANDS)
-    if name.lower() in (*reference.forms, *LATER):
+    if name.lower() in reference.forms:
         raise Reason(f"the name of a command is lower case: {printable(name)}")
     if name in WORDS_OF_TALK:
         raise Reason(f"{name} is a word of avsim talk, and of no trace", TALK)
@@ -287,8 +284,6 @@ def of_prot(word: str) -> None:
 def of_advice(word: str) -> None:
     """What a `madvise` says of pages."""
     see = f": {printable(word)}"
-    if word in ADVICE_LATER:
-        raise Reason(f"{word} is no advice yet", "madvise")
     if word.lower().removeprefix("madv_") in ADVICE and word not in ADVICE:
         raise Reason(f"an advice is lower case, without MADV_{see}", "madvise")
     if word not in ADVICE:

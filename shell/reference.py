@@ -12,8 +12,6 @@ from typing import Iterator
 from program import Refused
 
 FILE = os.path.join(os.path.dirname(os.path.realpath(__file__)), "..", "docs", "REFERENCE.md")
-# commands that the program gets in a later version, as long as the reference has none of them
-LATER = ("merge", "compact")
 
 
 class Form:

@@ -76,11 +76,13 @@ def frame_lines(ask: Ask, entries: dict[Page, str]) -> Iterator[str]:
             words = entry.split(" ")
             slots[frame] = words[4] if words[0] == "frame" else words[1]
     frames = sorted(pages.keys() | slots.keys())
+    merged = {frame_of(it) for it in entries.values() if it.endswith(" ksm")}
     asked = [it for it in frames[:MOST_FRAMES] if it in pages]
     replies = ask(b"rmap %d %x" % (pages[it][0], pages[it][1] << 12) for it in asked)
     owners = {it: [row.strip() for row in reply[1:]] for it, reply in zip(asked, replies)}
     for frame in frames[:MOST_FRAMES]:
-        yield f"frame {frame}: {words_of_frame(owners.get(frame, []), slots.get(frame))}"
+        is_merged = ", merged" * (frame in merged)
+        yield f"frame {frame}{is_merged}: {words_of_frame(owners.get(frame, []), slots.get(frame))}"
     if len(frames) > MOST_FRAMES:
         yield f"and {len(frames) - MOST_FRAMES} more frames"
 

@@ -9,7 +9,7 @@ from typing import Iterator, NamedTuple
 from shared.saying import Refused
 
 import making
-from kernel import NOBODY, Kernel, maps_of
+from kernel import NO_KSM, NOBODY, Kernel, maps_of
 from proc import Area
 from rows import ADDED, BOUNDS, KEYS, UNLOCKED, WRITABLE, Line, Row
 from rows import careful, mending, other_bounds, row_of
@@ -18,6 +18,7 @@ from stubs import Gone, Stub
 
 IN_SWAP = "the model has the page in a slot"
 NO_FRAME = "the model has no frame for it, or its device failed"
+MERGED = "the model has merged pages, which Linux does in its own time"
 LIMIT = "the model has as many processes as it takes"
 LOST = "its process went another way before, in line {}"
 CHANGES = "and other pages are mapped then"
@@ -130,7 +131,7 @@ def runs_of(areas: list[str]) -> list[str]:
 
 def locks_of(areas: list[str]) -> list[str]:
     """The runs of locked pages that a reply of `areas` has."""
-    return runs_of([areas[0], *(it for it in areas[1:] if it.endswith(" locked"))])
+    return runs_of([areas[0], *(it for it in areas[1:] if "locked" in it.split(" "))])
 
 
 def as_far_as(words: list[str], said: str) -> tuple[list[str], str]:
@@ -165,6 +166,8 @@ class Beside:
         self.locked: set[str] = set()
         self.brought: dict[str, Row] = {}
         self.unlocked: set[str] = set()
+        # whether the model merged pages
+        self.is_merged = False
 
     def take(self, asked: Asked) -> Difference | None:
         """Does a line."""
@@ -181,6 +184,7 @@ class Beside:
             self.pass_over(line, str(why))
         if bounds:
             self.bounds.setdefault(line.process, bounds)
+        self.is_merged |= line.name == "merge" and len(asked.reply) > 1
         self.follow_locks(line)
         self.follow(line)
         return difference
@@ -198,6 +202,8 @@ class Beside:
             raise NotAsked(LIMIT if line.said == "err EAGAIN" else NOBODY)
         if line.name == "rmap" and asked.entry.startswith("slot"):
             raise NotAsked(IN_SWAP)
+        if line.name == "rmap" and self.is_merged:
+            raise NotAsked(MERGED)
         words, said = as_far_as(line.words, line.said)
         model, in_part = [said, *asked.reply[1:]], "cached" in asked.entry
         for _ in range(TRIES if line.name in ("entry", "rmap") else 1):
@@ -287,7 +293,7 @@ class Beside:
         self.passed.setdefault(why, collections.Counter())[line.name] += 1
         changes = line.name in ("write", "mmap", "mremap", "munmap", *MIDWAY)
         is_refused = line.said.startswith("err ") and line.name not in MIDWAY
-        if why in (GAP, WIDE) and changes and not is_refused:
+        if why in (GAP, WIDE, NO_KSM) and changes and not is_refused:
             self.lost[line.process] = line.number
 
     def follow_locks(self, line: Line) -> None:

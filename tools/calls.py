@@ -33,6 +33,8 @@ ADVICE = {
     "MADV_DOFORK": "dofork",
     "MADV_WIPEONFORK": "wipeonfork",
     "MADV_KEEPONFORK": "keeponfork",
+    "MADV_MERGEABLE": "mergeable",
+    "MADV_UNMERGEABLE": "unmergeable",
 }
 # flags of mmap that ask for something that no command does
 PASSED_OVER = ("MAP_POPULATE", "MAP_LOCKED", "MAP_GROWSDOWN", "MAP_HUGETLB", "MAP_DROPPABLE")

@@ -22,8 +22,11 @@ NOREPLACE, MAYMOVE, TO_PLACE, DONTUNMAP = 0x100000, 1, 2, 4
 MPROTECT, MREMAP, MLOCK, MUNLOCK = 10, 25, 149, 150
 # the numbers of what madvise says
 ADVICE = {"dontneed": 4, "dontfork": 10, "dofork": 11, "wipeonfork": 18, "keeponfork": 19}
+ADVICE |= {"mergeable": 12, "unmergeable": 13}
 # a file descriptor that is none
 NONE = 2**64 - 1
+# where the kernel tells of merging, if it has it
+KSM = "/sys/kernel/mm/ksm"
 # the most pages of a process that are looked through for a frame
 MOST_PAGES = 1 << 20
 
@@ -34,6 +37,7 @@ TOO_MANY = f"its processes have more than {MOST_PAGES} pages to look through"
 AT_TOP = "it moves what is above TOP, where the kernel has something"
 MOST_LOCKED = 1 << 28
 TOO_LONG = f"it would bring in more than {MOST_LOCKED >> 20} MiB"
+NO_KSM = "this kernel merges no pages"
 
 Call = tuple[int, ...]
 
@@ -180,6 +184,8 @@ class Kernel:
 
     def call(self, process: Stub, words: list[str], said: str) -> str:
         """What a process's call comes to, as the first line of a reply."""
+        if words[4:] in (["mergeable"], ["unmergeable"]) and not os.path.exists(KSM):
+            raise NotAsked(NO_KSM)
         asked = CALLS[words[0]](self.shift, words)
         if said.startswith("map ") and self.is_laid_over_gap(words, int(said[4:], 16)):
             raise NotAsked(GAP)

@@ -26,6 +26,7 @@ class Sums:
     loaded: int = 0
     put: int = 0
     written: int = 0
+    saved: int = 0
     oom: int = 0
     frames: int = 0
 
@@ -41,26 +42,40 @@ class Sums:
 
 
 class Held(Told):
-    """What is told of memory, with the frames that are in use: of each process and in all."""
+    """What is told of memory, with the frames that are in use: of each process, each with how many
+    of its entries name it, and in all.
+    """
 
     def __init__(self):
         super().__init__()
         self.frames: set[int] = set()
-        self.of: dict[int, int] = {}
+        self.of: dict[int, dict[int, int]] = {}
         self.most: dict[int | str, int] = {ALL: 0}
 
     def link(self, process: int, page: int, code: str) -> None:
         super().link(process, page, code)
         if frame_of(code) >= 0:
-            self.of[process] = self.of.get(process, 0) + 1
-            self.most[process] = max(self.most.get(process, 0), self.of[process])
+            held = self.of.setdefault(process, {})
+            held[frame_of(code)] = held.get(frame_of(code), 0) + 1
+            self.most[process] = max(self.most.get(process, 0), len(held))
             self.use(frame_of(code))
 
     def unlink(self, process: int, page: int, code: str) -> None:
         super().unlink(process, page, code)
         if frame_of(code) >= 0:
-            self.of[process] -= 1
+            held = self.of[process]
+            held[frame_of(code)] -= 1
+            if not held[frame_of(code)]:
+                del held[frame_of(code)]
             self.free(frame_of(code))
+
+    def renumber(self, frame: int, to: int) -> None:
+        for process in {it for it, _ in self.owners.get(frame, ())}:
+            held = self.of[process]
+            held[to] = held.get(to, 0) + held.pop(frame)
+        super().renumber(frame, to)
+        self.free(frame)
+        self.use(to)
 
     def cache(self, slot: str, frame: int) -> None:
         super().cache(slot, frame)
@@ -86,10 +101,13 @@ def sums_of(steps: Iterable[Step]) -> dict[str, Sums]:
     held = Held()
     for step in steps:
         whose = NONE if step.words[0] in OF_NONE else step.words[1]
-        for row in (whose, ALL):
-            found.setdefault(row, Sums()).add(step)
+        before = len(held.frames)
         held.tell(step.words, step.reply)
         held.ops.clear()
+        for row in (whose, ALL):
+            sums = found.setdefault(row, Sums())
+            sums.add(step)
+            sums.saved += before - len(held.frames) if step.words[0] == "merge" else 0
     for process, most in held.most.items():
         found.setdefault(str(process), Sums()).frames = most
     order = sorted((it for it in found if it.isdigit()), key=int)

@@ -11,14 +11,19 @@ function cardOf(frame) {
   const {added, lost} = change.frames.get(frame) || {added: new Set(), lost: new Set()};
   const owners = [...(state.owners.get(frame) || [])].sort((a, b) => a - b);
   const slot = state.slots.get(frame);
+  const isMerged = state.merged.has(frame);
   const card = make("span", "card");
   card.append(make("b", "", `frame ${frame}${owners.length > 1 ? ` maps ${owners.length}` : ""}`));
-  const more = owners.length - MOST_OWNERS;
-  for (const key of owners.slice(0, MOST_OWNERS)) card.append(make("div", "", place(key)));
+  // (of a merged one all that share it)
+  const most = isMerged ? MOST_CELLS : MOST_OWNERS;
+  const more = owners.length - most;
+  for (const key of owners.slice(0, most)) card.append(make("div", "", place(key)));
   if (more > 0) card.append(make("div", "soft", `and ${more} more`));
   if (slot) card.append(make("div", "", `cached at ${slot}`));
   if (isLocked(frame)) card.append(make("div", "", "locked"));
   card.classList.toggle("locked", isLocked(frame));
+  if (isMerged) card.append(make("div", "", "merged"));
+  card.classList.toggle("merged", isMerged);
   if (inUse(frame)) card.style.background = colour(frame);
   else card.append(make("div", "soft", areKnown() ? "\u2013" : "?"));
   if (!inUse(frame)) card.classList.add("none");
@@ -26,6 +31,8 @@ function cardOf(frame) {
   for (const key of gone.slice(0, MOST_OWNERS)) {
     card.append(make("div", "gone", `was ${place(key)}`));
   }
+  const from = change.moves.get(frame);
+  if (from !== undefined) card.append(make("div", "gone", `was frame ${from}`));
   if (gone.length || [...added].some(key => !lost.has(key))) card.classList.add("new");
   if (frame === lit.frame) card.classList.add("lit");
   card.tabIndex = 0;
@@ -51,10 +58,27 @@ function newFrameCell(frame) {
   if (change.frames.has(frame)) cell.classList.add("new");
   if (frame === lit.frame) cell.classList.add("lit");
   if (isLocked(frame)) cell.classList.add("locked");
+  if (state.merged.has(frame)) cell.classList.add("merged");
   cell.tabIndex = 0;
   cell.dataset.frame = frame;
-  cell.title = `frame ${frame} maps ${owners}${isLocked(frame) ? ", locked" : ""}`;
+  const more = `${isLocked(frame) ? ", locked" : ""}${state.merged.has(frame) ? ", merged" : ""}`;
+  cell.title = `frame ${frame} maps ${owners}${more}`;
   return cell;
+}
+
+// Frames that moved come from the place of the one that they were.
+function showMoves() {
+  if (matchMedia("(prefers-reduced-motion: reduce)").matches) return;
+  for (const box of [at("cards"), at("frames")]) {
+    for (const [to, frame] of change.moves) {
+      const [here, there] = [to, frame].map(it => box.querySelector(`[data-frame="${it}"]`));
+      if (!here || !there) continue;
+      const [end, begin] = [here, there].map(it => it.getBoundingClientRect());
+      const from = `translate(${begin.x - end.x}px, ${begin.y - end.y}px)`;
+      const how = {duration: 700, easing: "ease-in-out"};
+      here.animate([{transform: from}, {transform: "none"}], how);
+    }
+  }
 }
 
 // Few frames are cards, with who maps them. Of many, those that changed are cards, and others in

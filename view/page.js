@@ -117,9 +117,11 @@ function drawParts() {
 function show(place) {
   const n = Math.max(0, Math.min(last, place));
   if (n === here) return;
+  const isNext = n === here + 1;
   here = n;
   goThere();
   drawAll();
+  if (isNext) showMoves();
   // (a browser takes its time for this)
   clearTimeout(naming);
   naming = setTimeout(nameStep, 300);

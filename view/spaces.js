@@ -20,7 +20,8 @@ function entryText(code) {
   const frame = frameOf(code);
   if (frame >= 0) {
     const slot = state.slots.get(frame);
-    return `frame ${frame} ${code[0] === "F" ? "seen" : "old"}${slot ? ` cached ${slot}` : ""}`;
+    const more = (slot ? ` cached ${slot}` : "") + (state.merged.has(frame) ? " ksm" : "");
+    return `frame ${frame} ${code[0] === "F" ? "seen" : "old"}${more}`;
   }
   if (code[0] === "s") {
     const cached = state.cached.get(code.slice(1));
@@ -38,6 +39,7 @@ function cellOf(number, page, code, kind, isNew) {
   cell.classList.add(look);
   if (kind === "cell") cell.textContent = text;
   if (frame >= 0) cell.style.background = colour(frame);
+  if (state.merged.has(frame)) cell.classList.add("merged");
   if (isNew) cell.classList.add("new");
   if (frame >= 0 && frame === lit.frame || page === lit.page) cell.classList.add("lit");
   if (change.used.has(keyOf(number, page))) cell.classList.add("used");
@@ -249,13 +251,14 @@ function touchedBy(step) {
   return found;
 }
 
-const WITHOUT = new Set(["stat", "slot", "reclaim", "age", "complete", "swapon", "swapoff"]);
+const WITHOUT = new Set(
+  ["stat", "slot", "reclaim", "age", "complete", "swapon", "swapoff", "merge", "compact"]);
 
 function namedIn(step) {
   const words = step.c.split(" ");
   const found = WITHOUT.has(words[0]) ? [] : words.slice(1, words[0] === "fork" ? 3 : 2);
   for (const line of step.r.slice(1)) {
-    const it = /^(?:(?:zero|new|copy|map) )?(\d+) [\da-f]+( \d+)?$/.exec(line);
+    const it = /^(?:(?:zero|new|copy|map|join) )?(\d+) [\da-f]+( \d+)?$/.exec(line);
     if (it) found.push(it[1]);
   }
   return found.map(Number);

@@ -13,7 +13,8 @@ const hex = page => (page ? page.toString(16) + "000" : "0");
 
 const state = {
   processes: new Map(), owners: new Map(), cached: new Map(), slots: new Map(),
-  counts: new Map(), lists: new Map(), flight: new Map(), areas: new Map(), stat: "",
+  counts: new Map(), lists: new Map(), flight: new Map(), areas: new Map(), merged: new Map(),
+  stat: "",
   listsKnown: true,
   // the pages of each area whose slots have a text: a set, and the same in order
   named: new Map(),
@@ -29,6 +30,8 @@ function newChange() {
   return {
     entries: new Map(), gone: new Map(), fresh: new Map(), died: new Map(), born: new Set(),
     frames: new Map(), slots: new Set(), off: new Map(), used: new Set(),
+    // frames that moved: where to, from which
+    moves: new Map(),
   };
 }
 
@@ -174,6 +177,33 @@ function cacheSlot(slot, frame) {
   change?.slots.add(slot);
 }
 
+function setMerged(frame, isMerged) {
+  const soil = () => {
+    for (const key of state.owners.get(frame) || []) {
+      state.processes.get(processOf(key)).dirty?.add(pageOf(key));
+    }
+  };
+  setIn(state.merged, frame, isMerged || undefined);
+  ownersChange(frame);
+  soil();
+  undo.push(soil);
+}
+
+function moveFrame(frame, to) {
+  for (const key of [...(state.owners.get(frame) || [])]) {
+    const [number, page] = [processOf(key), pageOf(key)];
+    setEntry(number, page, codeIn(state.processes.get(number), page)[0] + to);
+  }
+  const slot = state.slots.get(frame);
+  if (slot !== undefined) cacheSlot(slot, to);
+  for (const map of [state.lists, state.merged]) {
+    setIn(map, to, map.get(frame));
+    setIn(map, frame, undefined);
+  }
+  for (const it of [frame, to]) ownersChange(it);
+  change?.moves.set(to, frame);
+}
+
 const areaOf = slot => Number(slot.split(":")[0]), slotPage = slot => Number(slot.split(":")[1]);
 
 // adds a slot to those of its area that have a text, or takes it away
@@ -244,6 +274,8 @@ const operations = {
     setIn(state.flight, slot, place || undefined);
     change?.slots.add(slot);
   },
+  g: setMerged,
+  v: moveFrame,
   t: (area, text) => setIn(state.areas, area, text || undefined),
   o: isKnown => setField(state, "listsKnown", Boolean(isKnown)),
   s: text => setField(state, "stat", text),

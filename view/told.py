@@ -6,9 +6,9 @@ note repeats: a fork gives the child its parent's entries, unseen, but those of 
 otherwise; an `mremap` takes the entries along to the new range; what is unmapped, mapped anew or
 needed no more has no entry. A note also says where a
 frame goes in the lists, by the rule of its kind: `new`, `copy`, `load` and `age` to the head of
-inactive, `done` to its tail, `keep` to the head of the list that its cause names. What areas are
-locked and which may not be accessed is known by the areas that were last shown. Whatever else a
-line may do is not known, and is said to be so.
+inactive, `done` to its tail, `keep` to the head of the list that its cause names, and `move` to
+the place of another. What areas are locked and which may not be accessed is known by the areas that
+were last shown. Whatever else a line may do is not known, and is said to be so.
 
 An entry is kept as a code: `z` the page of zeros, `F7` frame 7 and seen, `f7` frame 7 and old,
 `s0:3` slot 0:3, `-` none, `?` not known. A page without a code has no entry, but of a process in
@@ -28,6 +28,8 @@ Each change is also an operation, a list that a page applies (view/state.js):
     k S TEXT        what `slot` says of S (none: nothing is drawn)
     l F L N         frame F is in the list L (0 none, 1 inactive, 2 active) at the place N
     w S N           the write of slot S is in flight at the place N (0: it isn't)
+    g F N           frame F is merged (0: it isn't any more)
+    v F T           all that names frame F names T, which has its place in the lists
     o IS            the lists and what is in flight are known, or aren't
     t K TEXT        swap area K is on: its priority, how many of its slots are free, and whether
                     it gives the next one (none: it is off)
@@ -41,7 +43,7 @@ INACTIVE, ACTIVE = 1, 2
 # commands that change nothing
 REPORTS = {"maps", "areas", "entry", "rmap", "slot", "stat"}
 # commands that notes tell all of, but for a seen bit
-BY_NOTES = {"read", "write", "reclaim", "age", "complete", "swapon", "swapoff"}
+BY_NOTES = {"read", "write", "reclaim", "age", "complete", "swapon", "swapoff", "merge", "compact"}
 # commands that change which areas there are
 BY_RANGE = {"mmap", "munmap", "mprotect", "mremap", "madvise", "mlock", "munlock"}
 # those of them that change areas where they are refused, too
@@ -49,7 +51,7 @@ MIDWAY = {"mprotect", "madvise", "mlock", "munlock"}
 # the flags of an area whose entries a child doesn't get
 KEPT_BACK = {"dontfork", "wipeonfork"}
 # the causes by which reclaim keeps a frame in use
-TO_ACTIVE = {"locked", "referenced", "noslot"}
+TO_ACTIVE = {"locked", "ksm", "referenced", "noslot"}
 
 
 def page_of(address: int) -> int:
@@ -107,6 +109,9 @@ class Told:
         # entry or the cache names
         self.lists = {INACTIVE: OrderedDict(), ACTIVE: OrderedDict()}
         self.flight: dict[str, int] = {}
+        # the frames that are merged, and where the last command moved frames
+        self.merged: set[int] = set()
+        self.moves: dict[int, int] = {}
         self.named: dict[str, int] = {}
         self.used: set[str] = set()
         # the swap areas that are on
@@ -150,9 +155,10 @@ class Told:
                 self.leave_slot(code[1:])
 
     def leave(self, frame: int) -> None:
-        """A frame that nothing names any more is in no list."""
+        """A frame that nothing names any more is in no list, and not merged."""
         if frame in self.owners or frame in self.slot_of:
             return
+        self.merge(frame, False)
         if any([it.pop(frame, None) is not None for it in self.lists.values()]):
             self.ops.append(["l", frame, 0, 0])
 
@@ -220,6 +226,37 @@ class Told:
             table[page - first + to] = code
         if pages:
             self.ops.append(["m", process, first, to, count])
+
+    def merge(self, frame: int, is_merged: bool) -> None:
+        if is_merged == (frame in self.merged):
+            return
+        (self.merged.add if is_merged else self.merged.discard)(frame)
+        self.ops.append(["g", frame, int(is_merged)])
+
+    def renumber(self, frame: int, to: int) -> None:
+        """What names a frame names another, which was free."""
+        owners = self.owners.pop(frame, set())
+        for process, page in owners:
+            self.tables[process][page] = f"{self.tables[process][page][0]}{to}"
+        if owners:
+            # (where something was told otherwise than it is, some may have that frame)
+            self.owners.setdefault(to, set()).update(owners)
+        if frame in self.slot_of:
+            slot = self.slot_of[to] = self.slot_of.pop(frame)
+            self.frame_at[slot] = to
+            self.touched.add(slot)
+        if frame in self.merged:
+            self.merged.remove(frame)
+            self.merged.add(to)
+        self.moves[frame] = to
+        self.ops.append(["v", frame, to])
+
+    def rename_listed(self) -> None:
+        """Frames that moved keep their places in the lists."""
+        for which, places in self.lists.items():
+            named = ((self.moves.get(frame, frame), place) for frame, place in places.items())
+            self.lists[which] = OrderedDict(named)
+        self.moves.clear()
 
     # commands
 
@@ -414,7 +451,7 @@ class Told:
             case ["new" | "copy", process, at, frame]:
                 self.enlist(int(frame), INACTIVE)
                 self.put(int(process), page_of(int(at, 16)), f"F{frame}")
-            case ["map", process, at, frame]:
+            case ["map" | "join", process, at, frame]:
                 self.put(int(process), page_of(int(at, 16)), f"f{frame}")
             case ["load", slot, frame]:
                 self.enlist(int(frame), INACTIVE)
@@ -435,6 +472,10 @@ class Told:
                 self.fly(slot, False)
             case ["drop", slot]:
                 self.uncache(slot)
+            case ["share", frame]:
+                self.merge(int(frame), True)
+            case ["move", frame, to]:
+                self.renumber(int(frame), int(to))
             case _:
                 return False
         return True
@@ -468,6 +509,8 @@ class Told:
             return
         if not all([self.note(it.split()) for it in reply[1:]]):
             self.forget()
+        if self.moves:
+            self.rename_listed()
         if name == "swapoff" and is_done:
             self.swapoff(int(words[1]))
         if name == "mlock":
@@ -486,7 +529,11 @@ class Told:
             return True
         known = self.tables[process].get(page, "?" if process in self.dim else "-")
         self.put(process, page, code)
-        return known[:1].lower() + known[1:] == code[:1].lower() + code[1:] or known == "?"
+        is_merged, was_merged = reply.endswith(" ksm"), frame_of(code) in self.merged
+        if frame_of(code) >= 0:
+            self.merge(frame_of(code), is_merged)
+        same = known[:1].lower() + known[1:] == code[:1].lower() + code[1:]
+        return same and is_merged == was_merged or known == "?"
 
     def answer_areas(self, process: int, rows: list[str]) -> None:
         """What `areas` answers: the operation has the rows that are gone or new."""
@@ -542,6 +589,7 @@ class Told:
         for which, frames in self.lists.items():
             ops += [["l", frame, which, place] for frame, place in frames.items()]
         ops += [["w", slot, place] for slot, place in self.flight.items()]
+        ops += [["g", frame, 1] for frame in sorted(self.merged)]
         ops += [] if self.lists_known else [["o", 0]]
         return ops + ([["s", self.numbers]] if self.numbers else [])
 
@@ -551,7 +599,8 @@ class Told:
         frame = frame_of(code)
         if frame >= 0:
             text = f"frame {frame} {'seen' if code[0] == 'F' else 'old'}"
-            return text + (f" cached {self.slot_of[frame]}" if frame in self.slot_of else "")
+            text += f" cached {self.slot_of[frame]}" if frame in self.slot_of else ""
+            return text + " ksm" * (frame in self.merged)
         if code[0] == "s":
             at = self.frame_at.get(code[1:], -1)
             return f"slot {code[1:]}" + (f" cached {at}" if at >= 0 else "")

@@ -7,7 +7,7 @@ from program import parts_of, why_ended
 from reasons import fault_of, printable
 from reference import Form, Reference, plain, ways_of
 from session import replace, says_nothing
-from show import frame_of, processes_in, word_for
+from show import frame_lines, frame_of, processes_in, word_for
 from small import lines_for, plain_word, without_blanks, writes_of_touch
 
 
@@ -96,10 +96,18 @@ class Show(unittest.TestCase):
             ("zero", "zero", None),
             ("frame 3 seen", "3", 3),
             ("frame 3 old cached 0:1", "~3@0:1", 3),
+            ("frame 3 old ksm", "~3", 3),
             ("slot 0:1", "0:1", None),
             ("slot 0:1 cached 3", "0:1@3", 3),
         ):
             self.assertEqual((word_for(entry), frame_of(entry)), (word, frame))
+
+    def test_merged_frames_are_called_so(self) -> None:
+        entries = {(1, 0x20): "frame 0 seen ksm", (1, 0x21): "frame 1 seen"}
+        owners = {b"rmap 1 20000": ["frame 0 maps 2", "1 20000", "2 20000"]}
+        ask = lambda lines: [owners.get(it, ["frame 1 maps 1", "1 21000"]) for it in lines]
+        wanted = ["frame 0, merged: 1 20000, 2 20000", "frame 1: 1 21000"]
+        self.assertEqual(list(frame_lines(ask, entries)), wanted)
 
     def test_processes(self) -> None:
         self.assertEqual(processes_in([b"spawn 2", b"fork 2 1", b"exit 2", b"# spawn 3"]), [1, 2])

@@ -15,7 +15,8 @@ from ranges import Ranges, up
 from shift import SPLIT, TOP, NotAsked, Shift
 from spaces import Space, runs_of
 from strace import Reader, time_of
-from transcript import answer_of, forms, note_of, replies_of, row_of
+from sums import sums_of
+from transcript import Step, answer_of, forms, note_of, replies_of, row_of
 
 PAGE = 4096
 
@@ -65,6 +66,7 @@ class Transcript(unittest.TestCase):
         self.assertEqual(forms()["load"], ["slot", "frame"])
         self.assertEqual(forms()["keep"], ["frame", "cause"])
         self.assertEqual(note_of("age 3"), {"what": "age", "frame": 3})
+        self.assertEqual(note_of("move 7 2"), {"what": "move", "frame": 7, "to": 2})
         self.assertIsNone(note_of("age"))
         self.assertIsNone(note_of("1 20000"))
 
@@ -262,6 +264,36 @@ class SwapFiles(InFolder):
     def test_another_file_stays(self) -> None:
         with self.assertRaises(swapfile.Unfit):
             swapfile.make(written("text"), 8)
+
+
+class Summed(unittest.TestCase):
+    """What a run sums up to."""
+
+    def test_frames_that_merges_give_back(self) -> None:
+        lines = [("spawn 1", "ok"), ("mmap 1 12288 rw-", "map 20000")]
+        lines += [(f"write 1 {at}000 01", f"ok / new 1 {at}000 {frame}")
+                  for frame, at in enumerate((20, 21, 22))]
+        lines += [("fork 1 2", "ok"), ("merge", "ok / share 0 / join 1 21000 0 / join 1 22000 0"),
+                  ("exit 2", "ok"), ("merge", "ok"),
+                  ("write 1 21000 02", "ok / copy 1 21000 1"), ("compact", "ok")]
+        steps = [Step(number, number, line.split(" "), reply.split(" / "))
+                 for number, (line, reply) in enumerate(lines, 1)]
+        sums = sums_of(steps)
+        self.assertEqual((sums["all"].saved, "-" in sums), (0, False))
+        self.assertEqual((sums["1"].frames, sums["2"].frames, sums["all"].frames), (3, 3, 3))
+        sums = sums_of([it for it in steps if it.words[0] != "fork"])
+        self.assertEqual((sums["all"].saved, sums["-"].saved), (2, 2))
+
+    def test_a_frame_that_moves_is_one(self) -> None:
+        lines = [("spawn 1", "ok"), ("mmap 1 8192 rw-", "map 20000"),
+                 ("write 1 20000 01", "ok / new 1 20000 0"),
+                 ("write 1 21000 02", "ok / new 1 21000 1"),
+                 ("munmap 1 20000 4096", "ok"), ("compact", "ok / move 1 0"),
+                 ("write 1 21000 03", "ok"), ("munmap 1 21000 4096", "ok"),
+                 ("mmap 1 4096 rw-", "map 21000"), ("write 1 21000 01", "ok / new 1 21000 0")]
+        steps = [Step(number, number, line.split(" "), reply.split(" / "))
+                 for number, (line, reply) in enumerate(lines, 1)]
+        self.assertEqual(sums_of(steps)["all"].frames, 2)
 
 
 class Peaks(unittest.TestCase):

@@ -99,6 +99,36 @@ class Swap(unittest.TestCase):
         self.assertEqual(told.giving(), 0)
 
 
+class Frames(unittest.TestCase):
+    """What is told of frames that are merged, and of those that move."""
+
+    def test_pages_share_a_frame_until_one_is_written(self) -> None:
+        lines = [("spawn 1", "ok"), ("mmap 1 8192 rw-", "map 20000"),
+                 ("write 1 20000 01", "ok / new 1 20000 0"),
+                 ("write 1 21000 01", "ok / new 1 21000 1"),
+                 ("madvise 1 20000 8192 mergeable", "ok"),
+                 ("merge", "ok / share 0 / join 1 21000 0")]
+        told = told_of(*lines)
+        self.assertEqual((told.tables[1], told.merged), ({0x20: "F0", 0x21: "f0"}, {0}))
+        self.assertEqual(told.entry_text(1, 0x21), "frame 0 old ksm")
+        self.assertEqual(list(told.lists[1]), [0])
+        told = told_of(*lines, ("munmap 1 21000 4096", "ok"),
+                       ("write 1 20000 02", "ok / copy 1 20000 1"))
+        self.assertEqual((told.tables[1], told.merged), ({0x20: "F1"}, set()))
+
+    def test_a_frame_moves_with_all_that_names_it(self) -> None:
+        told = told_of(("swapon 0", "on 7 0"), ("spawn 1", "ok"), ("mmap 1 8192 rw-", "map 20000"),
+                       ("write 1 20000 01", "ok / new 1 20000 0"),
+                       ("write 1 21000 02", "ok / new 1 21000 1"), ("fork 1 2", "ok"),
+                       ("reclaim 1", "ok / put 1 0:1 / unmap 1 / start 0:1 / keep 1 started"),
+                       ("read 2 21000 1", "data 02 / map 2 21000 1"),
+                       ("munmap 1 20000 4096", "ok"), ("munmap 2 20000 4096", "ok"),
+                       ("compact", "ok / move 1 0"))
+        self.assertEqual(told.tables, {1: {0x21: "s0:1"}, 2: {0x21: "f0"}})
+        self.assertEqual((told.frame_at, told.slot_of), ({"0:1": 0}, {0: "0:1"}))
+        self.assertEqual((list(told.lists[1]), told.touched), ([0], {"0:1"}))
+
+
 class Making(unittest.TestCase):
     """Commands, replies, and the reports between them."""
 

@@ -51,9 +51,9 @@ abbrev pub end_at : Option Stop → ℕ → End
 end_at None page = Whole
 end_at (Some stop) page = Stopped page (stop_of stop)
 
--- pages were read or written in turn, up to the one that stopped, if one did: the events, the notes,
--- and what the kernel stands for then, with the device as it is then. The memories are those after
--- the loads, changed so
+-- pages were read or written in turn, up to the one that stopped, if one did: the events, the
+-- notes, and what the kernel stands for then, with the device as it is then. The memories are those
+-- after the loads, changed so
 pub record HasServed (d d' : Device) (s : State) (new : Mem) (p : ℕ) (turns : List (Bool × ℕ))
     (change : World → World) (before now : List Note) (stop : Option Stop) (page : ℕ)
     : Type 0 where

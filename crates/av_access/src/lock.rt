@@ -20,9 +20,9 @@ use av_swapdev::SwapDev;
 use av_trace::{Answer, Notes};
 use std::alloc::{AllocError, Global};
 
-/// Accesses pages in turn, up to the first that is not served: a page that may be written as a write
-/// does, else one that may be read as a read does, else not at all. The answer is that of a write
-/// from the first page on.
+/// Accesses pages in turn, up to the first that is not served: a page that may be written as a
+/// write does, else one that may be read as a read does, else not at all. The answer is that of a
+/// write from the first page on.
 pub fn bring_in<D: SwapDev>(
     mem: &mut Mem,
     dev: &mut D,

@@ -1,24 +1,18 @@
 -- The swap areas of a book are the ledger's.
-use Rattle.std.proofs.Common.{◌≡◌, ℕ, List, [], ◌∷◌, Bool, true, false, cond, Option, Some, None, is_some, refl, sym, ap, ◌∙◌}
+use Rattle.std.proofs.Common.{◌≡◌, ℕ, List, Bool, false, Option, Some, None, is_some, refl, sym, ap, ◌∙◌}
 use Rattle.std.specs.Prelude.{option_map}
 use Rattle.std.specs.Option.{option_map_or}
 use Rattle.av_plain.specs.Ledger.{SwapArea}
-use Rattle.std.specs.Ordering.{eq_by_cmp, nat_cmp}
+use Rattle.std.specs.Ordering.{nat_cmp}
 use Rattle.std.specs.FinMap.Entries.{find}
 use Rattle.std.specs.BTreeMap.{is_at}
 use Rattle.std.specs.Map.{lookup}
 use Rattle.av_book.specs.Book.{area_of, areas_of}
 use Rattle.av_book.specs.declared.book.Area.{Area}
+use Rattle.av_book.proofs.MapLaws.{find-says}
 
 pub find-area : (on : List (ℕ × Area)) (k : ℕ) → option_map area_of (lookup (is_at (nat_cmp k)) on) ≡ find nat_cmp k (areas_of on)
-find-area [] k = refl
-find-area (a ∷ on) k = by (eq_by_cmp nat_cmp k a.0) (find-area on k)
-  where
-    by : (b : Bool) → option_map area_of (lookup (is_at (nat_cmp k)) on) ≡ find nat_cmp k (areas_of on)
-        → option_map area_of (cond b (Some a.1) (lookup (is_at (nat_cmp k)) on))
-        ≡ cond b (Some (area_of a.1)) (find nat_cmp k (areas_of on))
-    by true rest = refl
-    by false rest = rest
+find-area on k = find-says nat_cmp area_of on k
 
 some-mapped : (o : Option Area) → is_some (option_map area_of o) ≡ is_some o
 some-mapped None = refl

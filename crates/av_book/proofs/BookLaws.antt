@@ -1,50 +1,19 @@
 -- What a book keeps of entries is the ledger's.
-use Rattle.std.proofs.Common.{◌≡◌, ℕ, ◌+◌, List, [], ◌∷◌, map, filter, Bool, true, false, not, cond, ◌||◌, ◌==◌, Option, Some, None, is_some, refl, sym, ap, ◌∙◌, arith}
+use Rattle.std.proofs.Common.{◌≡◌, ℕ, ◌+◌, List, [], ◌∷◌, map, filter, Bool, true, false, not, cond, ◌||◌, ◌==◌, Some, is_some, refl, ap, ◌∙◌, arith}
 use Rattle.std.specs.Prelude.{option_map}
 use Rattle.std.specs.List.{list_any}
-use Rattle.std.specs.declared.cmp.Ordering.{Ordering}
-use Rattle.std.specs.declared.cmp.Ordering.TheVariants.{Less, Equal, Greater}
-use Rattle.std.specs.Ordering.{eq_by_cmp, match_ordering}
-use Rattle.std.specs.FinMap.Entries.{by_order, put, find, where_key}
-use Rattle.std.specs.BTreeMap.{insert_entry, is_at}
-use Rattle.std.specs.Map.{lookup}
 use Rattle.av_base.specs.Words.{how_many}
 use Rattle.av_base.specs.declared.slot.Slot.{Slot}
-use Rattle.av_base.specs.Keys.{Key, key_cmp}
-use Rattle.av_plain.specs.Ledger.{Cached as PlainCached, Entry as PlainEntry, Ledger, cached_by, names_frame, same_slot}
+use Rattle.av_base.specs.Keys.{Key}
+use Rattle.av_plain.specs.Ledger.{Cached as PlainCached, Entry as PlainEntry, cached_by, names_frame, same_slot}
 use Rattle.std.specs.Prelude.{◌&&◌}
 use Rattle.av_base.specs.Words.{renamed}
 use Rattle.av_plain.specs.Event.{placed_entry, without_seen}
 use Rattle.av_plain.specs.Ledger.{InFrame as PlainInFrame, InSlot as PlainInSlot}
-use Rattle.av_book.specs.Book.{cached_of, entries_of, entry_of, ledger_of, moved_of, placed_of, unseen_of}
+use Rattle.av_book.specs.Book.{cached_of, entries_of, entry_of, with_frame_at, with_slot, without_seen_of}
 use Rattle.av_book.specs.declared.book.Entry.TheVariants.{InFrame, InSlot, Zero}
-use Rattle.av_book.specs.declared.book.Book.{Book}
 use Rattle.av_book.specs.declared.book.Cached.{Cached}
 use Rattle.av_book.specs.declared.book.Entry.{Entry}
-
-pub find-entry : (es : List (Key × Entry)) (k : Key)
-    → option_map entry_of (lookup (is_at (key_cmp k)) es) ≡ find key_cmp k (entries_of es)
-find-entry [] k = refl
-find-entry (e ∷ es) k = by (eq_by_cmp key_cmp k e.0) (find-entry es k)
-  where
-    by : (b : Bool) → option_map entry_of (lookup (is_at (key_cmp k)) es) ≡ find key_cmp k (entries_of es)
-        → option_map entry_of (cond b (Some e.1) (lookup (is_at (key_cmp k)) es))
-        ≡ cond b (Some (entry_of e.1)) (find key_cmp k (entries_of es))
-    by true rest = refl
-    by false rest = rest
-
-pub put-entry : (es : List (Key × Entry)) (k : Key) (v : Entry)
-    → entries_of (insert_entry key_cmp es k v) ≡ put key_cmp k (entry_of v) (entries_of es)
-put-entry [] k v = refl
-put-entry (e ∷ es) k v = by (key_cmp k e.0) (put-entry es k v)
-  where
-    by : (o : Ordering) → entries_of (insert_entry key_cmp es k v) ≡ put key_cmp k (entry_of v) (entries_of es)
-        → entries_of (match_ordering o ((k, v) ∷ e ∷ es) ((e.0, v) ∷ es) (e ∷ insert_entry key_cmp es k v))
-        ≡ by_order o ((k, entry_of v) ∷ (e.0, entry_of e.1) ∷ entries_of es) ((e.0, entry_of v) ∷ entries_of es)
-        ((e.0, entry_of e.1) ∷ put key_cmp k (entry_of v) (entries_of es))
-    by Less rest = refl
-    by Equal rest = refl
-    by Greater rest = ap (λ r. (e.0, entry_of e.1) ∷ r) rest
 
 -- each entry is changed
 pub change-entries : (g : Entry → Entry) (change : PlainEntry → PlainEntry) → ((e : Entry) → entry_of (g e) ≡ change (entry_of e))
@@ -79,7 +48,7 @@ cached-some s (c ∷ cs) = by (same_slot s c.slot) (cached-some s cs)
 
 -- ---- entries that are changed
 
-pub unseen-is : (f : ℕ) (e : Entry) → entry_of (unseen_of f e) ≡ cond (names_frame f (entry_of e)) (without_seen (entry_of e)) (entry_of e)
+pub unseen-is : (f : ℕ) (e : Entry) → entry_of (without_seen_of f e) ≡ cond (names_frame f (entry_of e)) (without_seen (entry_of e)) (entry_of e)
 unseen-is f Zero = refl
 unseen-is f (InFrame g seen) = by (f == g)
   where
@@ -88,35 +57,41 @@ unseen-is f (InFrame g seen) = by (f == g)
     by false = refl
 unseen-is f (InSlot s) = refl
 
-pub moved-is : (f : ℕ) (s : Slot) (e : Entry) → entry_of (moved_of f s e) ≡ cond (names_frame f (entry_of e)) (PlainInSlot s) (entry_of e)
-moved-is f s Zero = refl
-moved-is f s (InFrame g seen) = by (f == g)
+pub slot-is : (f : ℕ) (s : Slot) (e : Entry) → entry_of (with_slot f s e) ≡ cond (names_frame f (entry_of e)) (PlainInSlot s) (entry_of e)
+slot-is f s Zero = refl
+slot-is f s (InFrame g seen) = by (f == g)
   where
     by : (b : Bool) → entry_of (cond b (InSlot s) (InFrame g seen)) ≡ cond b (PlainInSlot s) (PlainInFrame g seen)
     by true = refl
     by false = refl
-moved-is f s (InSlot t) = refl
+slot-is f s (InSlot t) = refl
 
 -- ---- entries at other places
 
-pub placed-is : (from to : ℕ) (e : Entry) → entry_of (placed_of from to e) ≡ placed_entry (renamed from to) (entry_of e)
-placed-is from to Zero = refl
-placed-is from to (InFrame f seen) = refl
-placed-is from to (InSlot s) = refl
+pub place-is : (from to : ℕ) (e : Entry) → entry_of (with_frame_at from to e) ≡ placed_entry (renamed from to) (entry_of e)
+place-is from to Zero = refl
+place-is from to (InFrame f seen) = refl
+place-is from to (InSlot s) = refl
 
--- ---- entries that stay
-
-pub where-entries : (test : Key → Bool) (es : List (Key × Entry))
-    → entries_of (filter (λ e. test e.0) es) ≡ where_key key_cmp test (entries_of es)
-where-entries test [] = refl
-where-entries test (e ∷ es) = by (test e.0) (where-entries test es)
-  where
-    by : (b : Bool) → entries_of (filter (λ e. test e.0) es) ≡ where_key key_cmp test (entries_of es)
-        → entries_of (cond b (e ∷ filter (λ e. test e.0) es) (filter (λ e. test e.0) es))
-        ≡ cond b ((e.0, entry_of e.1) ∷ where_key key_cmp test (entries_of es)) (where_key key_cmp test (entries_of es))
-    by true rest = ap (λ r. (e.0, entry_of e.1) ∷ r) rest
-    by false rest = rest
+-- ---- keys
 
 pub keys-are : (es : List (Key × Entry)) → map (λ e. e.0) (entries_of es) ≡ map (λ e. e.0) es
 keys-are [] = refl
 keys-are (e ∷ es) = ap (λ ks. e.0 ∷ ks) (keys-are es)
+
+-- ---- entries that are counted
+
+-- how many of the entries pass a test, where none is left
+pub all-counted : (p : PlainEntry → Bool) (es : List (Key × Entry)) (n : ℕ) (rest : List Entry) → rest ≡ []
+    → n + how_many (λ e. p (entry_of e)) rest ≡ how_many (λ e. p (entry_of e)) (map (λ e. e.1) es)
+    → n ≡ how_many (λ (e : Key × PlainEntry). p e.1) (entries_of es)
+all-counted p es n rest over left =
+    plus n (how_many (λ e. p (entry_of e)) rest) _ (ap (how_many (λ e. p (entry_of e))) over) left ∙ each es
+  where
+    plus : (n r t : ℕ) → r ≡ 0 → n + r ≡ t → n ≡ t
+    plus n r t e h = omega (arith, e, h)
+
+    each : (es : List (Key × Entry)) → how_many (λ e. p (entry_of e)) (map (λ e. e.1) es)
+        ≡ how_many (λ (e : Key × PlainEntry). p e.1) (entries_of es)
+    each [] = refl
+    each (e ∷ es) = ap (λ n. cond (p (entry_of e.1)) 1 0 + n) (each es)

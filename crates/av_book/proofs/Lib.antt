@@ -1,15 +1,4 @@
 pub mod AreaLaws
 pub mod BookLaws
-pub mod Finds
-pub mod FlightLaws
-pub mod FrontLaws
-pub mod NoteLaws
+pub mod MapLaws
 pub mod RangeLaws
-pub mod ReclaimLaws
-pub mod SeekLaws
-pub mod UnitLaws
-pub mod PassLaws
-pub mod StageLaws
-pub mod VerdictLaws
-pub mod FetchLaws
-pub mod ComeLaws

@@ -20,22 +20,22 @@ entry_of (InFrame f seen) = PlainInFrame f seen
 entry_of (InSlot s) = PlainInSlot s
 
 -- the entry, unseen where it names the frame
-abbrev pub unseen_of : ℕ → Entry → Entry
-unseen_of f Zero = Zero
-unseen_of f (InFrame g seen) = InFrame g (not (f == g) && seen)
-unseen_of f (InSlot s) = InSlot s
+abbrev pub without_seen_of : ℕ → Entry → Entry
+without_seen_of f Zero = Zero
+without_seen_of f (InFrame g seen) = InFrame g (not (f == g) && seen)
+without_seen_of f (InSlot s) = InSlot s
 
 -- the slot in place of the frame
-abbrev pub moved_of : ℕ → Slot → Entry → Entry
-moved_of f s Zero = Zero
-moved_of f s (InFrame g seen) = if f == g then InSlot s else InFrame g seen
-moved_of f s (InSlot t) = InSlot t
+abbrev pub with_slot : ℕ → Slot → Entry → Entry
+with_slot f s Zero = Zero
+with_slot f s (InFrame g seen) = if f == g then InSlot s else InFrame g seen
+with_slot f s (InSlot t) = InSlot t
 
 -- the frame at its place
-abbrev pub placed_of : ℕ → ℕ → Entry → Entry
-placed_of from to Zero = Zero
-placed_of from to (InFrame f seen) = InFrame (renamed from to f) seen
-placed_of from to (InSlot s) = InSlot s
+abbrev pub with_frame_at : ℕ → ℕ → Entry → Entry
+with_frame_at from to Zero = Zero
+with_frame_at from to (InFrame f seen) = InFrame (renamed from to f) seen
+with_frame_at from to (InSlot s) = InSlot s
 
 abbrev pub entries_of : List (Key × Entry) → List (Key × PlainEntry)
 entries_of es = map (λ e. (e.0, entry_of e.1)) es
@@ -48,8 +48,8 @@ abbrev pub stale_at : Bool → Slot → PlainCached → PlainCached
 stale_at stale s c = if same_slot s c.slot then record c { stale = stale } else c
 
 -- the pair, with the frame at its place
-abbrev pub moved_cached : ℕ → ℕ → PlainCached → PlainCached
-moved_cached from to c = record c { frame = renamed from to c.frame }
+abbrev pub cached_with_frame_at : ℕ → ℕ → PlainCached → PlainCached
+cached_with_frame_at from to c = record c { frame = renamed from to c.frame }
 
 abbrev pub area_of : Area → SwapArea
 area_of a = record { slots = a.slots; bad = a.bad; priority = priority_of a.priority }
@@ -69,5 +69,5 @@ ledger_of book = record {
 }
 
 -- the frame is in neither list
-abbrev pub unlisted : ℕ → Ledger → Ledger
-unlisted f l = record l { active = without f l.active; inactive = without f l.inactive }
+abbrev pub in_neither : ℕ → Ledger → Ledger
+in_neither f l = record l { active = without f l.active; inactive = without f l.inactive }

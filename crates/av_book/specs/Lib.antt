@@ -1,13 +1,7 @@
 pub mod Book
 pub mod Filters
-pub mod Finds
-pub mod Notes
-pub mod Flight
+pub mod Follow
 pub mod Machine
-pub mod Pass
-pub mod Stage
-pub mod Verdict
-pub mod Fetch
 pub mod Need
-pub mod Come
-pub mod Says
+pub mod Shortage
+pub mod Spared

@@ -1,12 +1,10 @@
 -- The setting of a machine.
-use Rattle.std.specs.Prelude.{ℕ, ◌<◌, ◌≤◌, ◌^◌, ◌==◌, List, [], ◌∷◌, Option, Some, None}
-use Rattle.std.specs.Prelude.{if◌then◌else◌, option_map}
-use Rattle.std.specs.Prelude.{option_and_then, nat_lt, slice_index, length, ◌-◌}
+use Rattle.std.specs.Prelude.{ℕ, ◌<◌, ◌≤◌, ◌^◌, Option, Some}
+use Rattle.std.specs.Prelude.{option_map}
+use Rattle.std.specs.Prelude.{option_and_then, ◌-◌}
 use Rattle.std.specs.List.{slice_get}
 use Rattle.av_swapdev.specs.Header.{Layout as PlainLayout}
 use Rattle.av_plain.specs.Ledger.{Setting, size_of}
-use Rattle.av_plain.specs.Pass.{Spared}
-use Rattle.av_plain.specs.Pass.{is_pinned}
 use Rattle.av_book.specs.declared.machine.Head.{Head}
 use Rattle.av_book.specs.declared.machine.Layout.{Layout}
 use Rattle.av_book.specs.declared.machine.Machine.{Machine}

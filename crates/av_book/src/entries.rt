@@ -6,7 +6,7 @@ ghost use Rattle.av_plain.specs.Event.{change_entries, set_entry, without_seen};
 ghost use Rattle.av_plain.specs.Ledger.{InSlot as NamesSlot, entry, map_count, slot_entries};
 ghost use Rattle.av_plain.specs.Ledger.{names_frame as names_frame_of, names_slot as names_slot_of};
 ghost use Rattle.av_plain.specs.Reclaim.{is_referenced, names_seen as names_seen_of};
-ghost use Rattle.av_book.specs.Book.{entry_of, ledger_of, moved_of, unseen_of};
+ghost use Rattle.av_book.specs.Book.{entry_of, ledger_of, with_slot, without_seen_of};
 
 use crate::book::{Book, Entry};
 use av_base::Slot;
@@ -44,8 +44,8 @@ impl Entry {
     }
 
     /// The entry, unseen where it names the frame.
-    fn unseen(self, frame: u32) -> Entry
-        ensures { result ≡ unseen_of frame self }
+    fn without_seen(self, frame: u32) -> Entry
+        ensures { result ≡ without_seen_of frame self }
     {
         match self {
             Entry::InFrame { frame: other, seen } => Entry::InFrame {
@@ -57,8 +57,8 @@ impl Entry {
     }
 
     /// The slot in place of the frame.
-    fn moved(self, frame: u32, slot: Slot) -> Entry
-        ensures { result ≡ moved_of frame slot self }
+    fn with_slot(self, frame: u32, slot: Slot) -> Entry
+        ensures { result ≡ with_slot frame slot self }
     {
         match self {
             Entry::InFrame { frame: other, seen } => {
@@ -142,7 +142,7 @@ impl Book {
         ensures { ledger_of self.new ≡ change_entries frame without_seen (ledger_of self.old) }
     {
         self.entries.retain(|_, entry| {
-            *entry = entry.unseen(frame);
+            *entry = entry.without_seen(frame);
             true
         });
     }
@@ -153,7 +153,7 @@ impl Book {
             ≡ change_entries frame (λ _. NamesSlot slot) (ledger_of self.old) }
     {
         self.entries.retain(|_, entry| {
-            *entry = entry.moved(frame, slot);
+            *entry = entry.with_slot(frame, slot);
             true
         });
     }

@@ -1,11 +1,12 @@
 //! The ledger after a note.
 
-ghost use Rattle.std.specs.Prelude.{◌≡◌, OnOk, false, option_map};
+ghost use Rattle.std.specs.Prelude.{◌≡◌, OnOk, false, option_map, true};
 ghost use Rattle.av_plain.specs.Event.{after_note, change_frame, set_entry, settle_entry};
 ghost use Rattle.av_plain.specs.Event.{to_inactive_head};
 ghost use Rattle.av_plain.specs.Ledger.{InFrame as NamesFrame};
 ghost use Rattle.av_trace.specs.declared.note.Note.TheVariants as notes;
 ghost use Rattle.av_book.specs.Book.{entry_of, ledger_of};
+ghost use Rattle.av_book.specs.Follow.{tells_page};
 
 use crate::book::{Book, Entry};
 use av_base::Slot;
@@ -13,12 +14,20 @@ use av_trace::{Cause, Note};
 use std::alloc::AllocError;
 
 impl Book {
+    /// A page's entry is a frame. Without memory all stays.
+    fn map(&mut self, process: u16, page: u64, frame: u32) -> Result<(), AllocError>
+        ensures { OnOk result (ledger_of self.new
+            ≡ set_entry (process, page) (NamesFrame frame false) (ledger_of self.old)) }
+    {
+        self.set(process, page, Entry::InFrame { frame, seen: false })
+    }
+
     /// A page gets a frame. Without memory a part may be done.
     fn frame_up(&mut self, process: u16, page: u64, frame: u32) -> Result<(), AllocError>
         ensures { OnOk result (ledger_of self.new ≡ to_inactive_head frame
             (set_entry (process, page) (NamesFrame frame false) (ledger_of self.old))) }
     {
-        self.set(process, page, Entry::InFrame { frame, seen: false })?;
+        self.map(process, page, frame)?;
         self.to_inactive_head(frame)
     }
 
@@ -28,7 +37,7 @@ impl Book {
             ≡ change_frame (process, page) frame (ledger_of self.old)) }
     {
         let entry = self.entry(process, page);
-        self.set(process, page, Entry::InFrame { frame, seen: false })?;
+        self.map(process, page, frame)?;
         self.settle_entry(entry);
         Ok(())
     }
@@ -135,8 +144,18 @@ impl Book {
         self.to_inactive_head(frame)
     }
 
-    /// What a note tells happens. Without memory a part may be done.
-    pub fn follow(&mut self, note: Note) -> Result<(), AllocError>
+    /// A frame is merged. Without memory all stays.
+    fn follow_share(&mut self, frame: u32) -> Result<(), AllocError>
+        ensures { OnOk result (ledger_of self.new
+            ≡ after_note (notes.Shared frame) (ledger_of self.old)) }
+    {
+        self.merged.push(frame)?;
+        Ok(())
+    }
+
+    /// A page gets the entry that its note tells. Without memory a part may be done.
+    fn follow_page(&mut self, note: Note) -> Result<(), AllocError>
+        requires { tells_page note ≡ true }
         ensures { OnOk result (ledger_of self.new ≡ after_note note (ledger_of self.old)) }
     {
         match note {
@@ -151,18 +170,31 @@ impl Book {
                 address,
                 frame,
             } => self.follow_copy(process, address / 4096, frame),
-            Note::Loaded { slot, frame } => self.follow_load(slot, frame),
             Note::Mapped {
                 process,
                 address,
                 frame,
-            } => {
-                self.set(
-                    process,
-                    address / 4096,
-                    Entry::InFrame { frame, seen: false },
-                )
-            }
+            } => self.map(process, address / 4096, frame),
+            Note::Joined {
+                process,
+                address,
+                frame,
+            } => self.change_frame(process, address / 4096, frame),
+            _ => Ok(()),
+        }
+    }
+
+    /// What a note tells happens. Without memory a part may be done.
+    pub fn follow(&mut self, note: Note) -> Result<(), AllocError>
+        ensures { OnOk result (ledger_of self.new ≡ after_note note (ledger_of self.old)) }
+    {
+        match note {
+            Note::Zeroed { .. }
+            | Note::New { .. }
+            | Note::Copied { .. }
+            | Note::Mapped { .. }
+            | Note::Joined { .. } => self.follow_page(note),
+            Note::Loaded { slot, frame } => self.follow_load(slot, frame),
             Note::Put { frame, slot } => self.into_cache(slot, frame, true),
             Note::Unmapped(frame) => {
                 self.follow_unmap(frame);
@@ -177,15 +209,7 @@ impl Book {
             }
             Note::Kept { frame, cause } => self.follow_keep(frame, cause),
             Note::Aged(frame) => self.follow_age(frame),
-            Note::Shared(frame) => {
-                self.merged.push(frame)?;
-                Ok(())
-            }
-            Note::Joined {
-                process,
-                address,
-                frame,
-            } => self.change_frame(process, address / 4096, frame),
+            Note::Shared(frame) => self.follow_share(frame),
             Note::Moved { from, to } => self.replace(from, to),
         }
     }

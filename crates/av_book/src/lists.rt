@@ -4,7 +4,7 @@ ghost use Rattle.std.specs.Prelude.{◌≡◌, OnOk};
 ghost use Rattle.av_plain.specs.Event.{off_lists, to_active, to_inactive_head, to_inactive_tail};
 ghost use Rattle.av_plain.specs.Ledger.{is_merged};
 ghost use Rattle.av_base.specs.Words.{is_in};
-ghost use Rattle.av_book.specs.Book.{ledger_of, unlisted};
+ghost use Rattle.av_book.specs.Book.{in_neither, ledger_of};
 
 use crate::book::Book;
 use std::alloc::AllocError;
@@ -12,7 +12,7 @@ use std::alloc::AllocError;
 impl Book {
     /// The frame leaves its list.
     fn unlist(&mut self, frame: u32)
-        ensures { ledger_of self.new ≡ unlisted frame (ledger_of self.old) }
+        ensures { ledger_of self.new ≡ in_neither frame (ledger_of self.old) }
     {
         self.active.retain(|other| frame != *other);
         self.inactive.retain(|other| frame != *other);

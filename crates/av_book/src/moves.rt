@@ -3,13 +3,13 @@
 ghost use Rattle.std.specs.Prelude.{◌≡◌, IfOk, OnOk, map};
 ghost use Rattle.av_base.specs.Words.{renamed};
 ghost use Rattle.av_plain.specs.Event.{with_places};
-ghost use Rattle.av_book.specs.Book.{cached_of, ledger_of, moved_cached, placed_of};
+ghost use Rattle.av_book.specs.Book.{cached_of, cached_with_frame_at, ledger_of, with_frame_at};
 
 use crate::book::{Book, Cached, Entry};
 use std::alloc::{AllocError, Global};
 
 /// A frame, where one gives its place to another.
-fn renamed_at(from: u32, to: u32, frame: u32) -> u32
+fn place_of(from: u32, to: u32, frame: u32) -> u32
     ensures { result ≡ renamed from to frame }
 {
     if frame == from { to } else { frame }
@@ -17,12 +17,12 @@ fn renamed_at(from: u32, to: u32, frame: u32) -> u32
 
 impl Entry {
     /// The entry, with its frame at the other place.
-    fn placed(self, from: u32, to: u32) -> Entry
-        ensures { result ≡ placed_of from to self }
+    fn with_frame_at(self, from: u32, to: u32) -> Entry
+        ensures { result ≡ with_frame_at from to self }
     {
         match self {
             Entry::InFrame { frame, seen } => Entry::InFrame {
-                frame: renamed_at(from, to, frame),
+                frame: place_of(from, to, frame),
                 seen,
             },
             _ => self,
@@ -37,19 +37,19 @@ fn frames_at(alloc: Global, frames: &[u32], from: u32, to: u32) -> Result<Vec<u3
     let mut made = Vec::new(alloc);
     let mut rest = frames;
     while let [first, others @ ..] = rest {
-        made.push(renamed_at(from, to, *first))?;
+        made.push(place_of(from, to, *first))?;
         rest = others;
     }
     Ok(made)
 }
 
 /// A cached pair, with its frame at the other place.
-fn placed_pair(c: Cached, from: u32, to: u32) -> Cached
-    ensures { cached_of result ≡ moved_cached from to (cached_of c) }
+fn pair_at(c: Cached, from: u32, to: u32) -> Cached
+    ensures { cached_of result ≡ cached_with_frame_at from to (cached_of c) }
 {
     Cached {
         slot: c.slot,
-        frame: renamed_at(from, to, c.frame),
+        frame: place_of(from, to, c.frame),
         stale: c.stale,
     }
 }
@@ -57,12 +57,12 @@ fn placed_pair(c: Cached, from: u32, to: u32) -> Cached
 /// Cached pairs, with their frames at the other place.
 fn cached_at(alloc: Global, cache: &[Cached], from: u32, to: u32) -> Result<Vec<Cached>, AllocError>
     ensures { IfOk result (λ made. map cached_of made.items
-        ≡ map (moved_cached from to) (map cached_of cache.now)) }
+        ≡ map (cached_with_frame_at from to) (map cached_of cache.now)) }
 {
     let mut made = Vec::new(alloc);
     let mut rest = cache;
     while let [first, others @ ..] = rest {
-        made.push(placed_pair(*first, from, to))?;
+        made.push(pair_at(*first, from, to))?;
         rest = others;
     }
     Ok(made)
@@ -83,7 +83,7 @@ impl Book {
         self.inactive = inactive;
         self.merged = merged;
         self.entries.retain(|_, entry| {
-            *entry = entry.placed(from, to);
+            *entry = entry.with_frame_at(from, to);
             true
         });
         Ok(())

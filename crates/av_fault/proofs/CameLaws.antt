@@ -39,9 +39,10 @@ use Rattle.av_fault.specs.declared.fault.Stop.{Stop}
 use Rattle.av_fault.specs.declared.fault.Stop.TheVariants.{Denied, Lost, Starved}
 use Rattle.av_fault.specs.declared.fault.Touched.{Touched}
 use Rattle.av_fault.specs.declared.fault.Touched.TheVariants.{Ready, Stopped, Zeros}
-use Rattle.av_fault.proofs.Between.{between-some, setting-stays}
+use Rattle.av_mem.proofs.Between.{between-some, setting-stays}
 use Rattle.av_mem.proofs.HomeLaws.{entry-away}
-use Rattle.av_fault.proofs.Done.{done-then, noted-then}
+use Rattle.av_mem.proofs.Done.{done-then}
+use Rattle.av_fault.proofs.Noted.{noted-then}
 use Rattle.av_fault.proofs.TouchLaws.{allowed-as}
 
 -- ---- what a page needs whose entry is a slot

@@ -58,9 +58,10 @@ use Rattle.av_fault.specs.declared.fault.Stop.{Stop}
 use Rattle.av_fault.specs.declared.fault.Stop.TheVariants.{Lost, Starved}
 use Rattle.av_fault.specs.declared.seek.Got.{Got}
 use Rattle.av_fault.specs.declared.seek.Got.TheVariants.{Frame, Out}
-use Rattle.av_fault.proofs.Amid.{Amid}
-use Rattle.av_fault.proofs.Between.{SaysAsMuch, between-some, bytes-move, fit-stays, setting-stays, to-amid, to-fit}
-use Rattle.av_fault.proofs.Done.{done-by, done-none, done-then, noted-more, noted-none}
+use Rattle.av_mem.proofs.Amid.{Amid}
+use Rattle.av_mem.proofs.Between.{SaysAsMuch, between-some, bytes-move, fit-stays, setting-stays, to-amid, to-fit}
+use Rattle.av_mem.proofs.Done.{done-by, done-none, done-then}
+use Rattle.av_fault.proofs.Noted.{noted-more, noted-none}
 use Rattle.av_fault.proofs.Run.{run-done, run-none, run-then}
 use Rattle.av_fault.proofs.SeekLaws.{free-some}
 use Rattle.av_plain.proofs.Wrote.{device-itself, device-on, wrote-none}

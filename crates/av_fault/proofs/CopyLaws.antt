@@ -48,8 +48,8 @@ use Rattle.av_fault.specs.Using.{IsHere}
 use Rattle.av_fault.specs.declared.fault.Touched.TheVariants.{Ready}
 use Rattle.av_fault.specs.declared.seek.Got.{Got}
 use Rattle.av_fault.specs.declared.seek.Got.TheVariants.{Frame}
-use Rattle.av_fault.proofs.Amid.{Amid}
-use Rattle.av_fault.proofs.Between.{fit-stays, to-amid, to-fit}
+use Rattle.av_mem.proofs.Amid.{Amid}
+use Rattle.av_mem.proofs.Between.{fit-stays, to-amid, to-fit}
 use Rattle.av_fault.proofs.EntryLaws.{page-back}
 use Rattle.av_fault.proofs.Run.{Run, run-done, run-none, run-then}
 use Rattle.av_fault.proofs.SharedLaws.{is_last, keeps-use, loses-use, shared-by}

@@ -34,8 +34,9 @@ use Rattle.av_mem.specs.Mem.{held_by, plain, setting_by, view}
 use Rattle.av_mem.specs.Steps.{KeepsParts}
 use Rattle.av_mem.specs.Between.{HasDone, KeepsBetween}
 use Rattle.av_fault.specs.Using.{HasDropped, HasDroppedFull}
-use Rattle.av_fault.proofs.Between.{fit-stays, to-amid, to-fit}
-use Rattle.av_fault.proofs.Done.{done-none}
+use Rattle.av_mem.proofs.Between.{fit-stays, to-amid, to-fit}
+use Rattle.av_mem.proofs.Done.{done-none}
+use Rattle.av_mem.proofs.DropLaws.{dropped-table}
 use Rattle.av_fault.proofs.Run.{run-done, run-none, run-then}
 use Rattle.av_fault.proofs.SoughtLaws.{free-unmapped}
 use Rattle.av_plain.proofs.Wrote.{device-itself, wrote-none}
@@ -43,16 +44,6 @@ use Rattle.av_plain.proofs.Wrote.{device-itself, wrote-none}
 -- ---- the view
 
 -- what a drop leaves
-dropped-table : (f : ℕ) (s : Slot) (v : View) → (view_drop f s v).table ≡ v.table
-dropped-table f s v = by (v.maps f == 0) (v.entries s == 0)
-  where
-    by : (a b : Bool) → (cond b (view_given_back s (cond a (view_freed f (view_uncached f s v)) (view_uncached f s v)))
-        (cond a (view_freed f (view_uncached f s v)) (view_uncached f s v))).table ≡ v.table
-    by true true = refl
-    by true false = refl
-    by false true = refl
-    by false false = refl
-
 dropped-areas : (f : ℕ) (s : Slot) (v : View) → (view_drop f s v).areas ≡ v.areas
 dropped-areas f s v = by (v.maps f == 0) (v.entries s == 0)
   where

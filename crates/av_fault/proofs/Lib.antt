@@ -1,14 +1,12 @@
-pub mod Amid
-pub mod Between
 pub mod CameLaws
 pub mod ComingLaws
 pub mod CopyLaws
-pub mod Done
 pub mod DropLaws
 pub mod EntryLaws
 pub mod FullLaws
 pub mod MadeLaws
 pub mod NewLaws
+pub mod Noted
 pub mod Prepared
 pub mod Run
 pub mod SeekLaws

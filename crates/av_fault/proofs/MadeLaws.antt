@@ -17,7 +17,8 @@ use Rattle.av_mem.specs.Mem.{setting_by}
 use Rattle.av_mem.specs.Between.{HasDone}
 use Rattle.av_fault.specs.Making.{HasMade}
 use Rattle.av_fault.specs.declared.fault.Touched.TheVariants.{Ready}
-use Rattle.av_fault.proofs.Done.{done-then, noted-unfailed}
+use Rattle.av_mem.proofs.Done.{done-then}
+use Rattle.av_fault.proofs.Noted.{noted-unfailed}
 use Rattle.av_fault.proofs.DropLaws.{drops-unfailed}
 use Rattle.av_fault.proofs.UsingLaws.{entry-here, own-here}
 

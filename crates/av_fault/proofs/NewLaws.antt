@@ -44,8 +44,8 @@ use Rattle.av_fault.specs.Making.{HasMade, IsBare, IsMapped}
 use Rattle.av_fault.specs.Seek.{HasSought}
 use Rattle.av_fault.specs.declared.fault.Touched.TheVariants.{Ready}
 use Rattle.av_fault.specs.declared.seek.Got.TheVariants.{Frame}
-use Rattle.av_fault.proofs.Amid.{Amid}
-use Rattle.av_fault.proofs.Between.{fit-stays, to-amid, to-fit}
+use Rattle.av_mem.proofs.Amid.{Amid}
+use Rattle.av_mem.proofs.Between.{fit-stays, to-amid, to-fit}
 use Rattle.av_fault.proofs.EntryLaws.{entry-is, mapped-is, page-back}
 use Rattle.av_fault.proofs.Prepared.{prepared, prepared-owns}
 use Rattle.av_fault.proofs.Run.{Run, run-done, run-none, run-then}

@@ -14,9 +14,9 @@ use Rattle.av_swap_laws.specs.Held.{Held, Steps}
 use Rattle.av_mem.specs.declared.mem.Mem.{Mem}
 use Rattle.av_mem.specs.Mem.{frame_count, setting_by, view}
 use Rattle.av_mem.specs.Between.{HasDone}
-use Rattle.av_fault.proofs.Amid.{Amid, Beside, IsOfAccess, amid-after}
-use Rattle.av_fault.proofs.Between.{PartsFit}
-use Rattle.av_fault.proofs.Done.{done-by}
+use Rattle.av_mem.proofs.Amid.{Amid, Beside, IsOfAccess, amid-after}
+use Rattle.av_mem.proofs.Between.{PartsFit}
+use Rattle.av_mem.proofs.Done.{done-by}
 use Rattle.av_plain.specs.Pass.{pages_written}
 
 -- these events lead from what stands to what stands

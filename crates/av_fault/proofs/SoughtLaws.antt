@@ -32,7 +32,7 @@ use Rattle.av_mem.specs.Entries.{HasFree}
 use Rattle.av_fault.specs.Making.{IsMapped}
 use Rattle.av_fault.specs.Seek.{HasSought}
 use Rattle.av_fault.specs.declared.seek.Got.{Got}
-use Rattle.av_fault.proofs.Between.{setting-stays}
+use Rattle.av_mem.proofs.Between.{setting-stays}
 use Rattle.av_fault.proofs.SeekLaws.{free-some}
 
 -- ---- free frames

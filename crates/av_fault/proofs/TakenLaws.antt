@@ -30,7 +30,8 @@ use Rattle.av_fault.specs.Seek.{HasSought}
 use Rattle.av_fault.specs.declared.fault.Stop.TheVariants.{Starved}
 use Rattle.av_fault.specs.declared.fault.Touched.TheVariants.{Ready, Stopped}
 use Rattle.av_fault.specs.declared.seek.Got.TheVariants.{Frame, Out}
-use Rattle.av_fault.proofs.Done.{done-then, noted-more}
+use Rattle.av_mem.proofs.Done.{done-then}
+use Rattle.av_fault.proofs.Noted.{noted-more}
 use Rattle.av_fault.proofs.Run.{Run, run-then}
 use Rattle.av_fault.proofs.SoughtLaws.{ledger_now, rmap_now, world_now}
 use Rattle.av_fault.proofs.UsingLaws.{own-steps, view_own}

@@ -38,8 +38,8 @@ use Rattle.av_fault.specs.Making.{HasMade, IsMadeBy, Makes}
 use Rattle.av_fault.specs.declared.fault.Stop.TheVariants.{Denied, Lost, Starved}
 use Rattle.av_fault.specs.declared.fault.Touched.{Touched}
 use Rattle.av_fault.specs.declared.fault.Touched.TheVariants.{Ready, Stopped, Zeros}
-use Rattle.av_fault.proofs.Between.{between-of, fit-stays, to-amid, to-fit}
-use Rattle.av_fault.proofs.Done.{noted-none}
+use Rattle.av_mem.proofs.Between.{between-of, fit-stays, to-amid, to-fit}
+use Rattle.av_fault.proofs.Noted.{noted-none}
 use Rattle.av_fault.proofs.EntryLaws.{entry-is}
 use Rattle.av_fault.proofs.Run.{run-done, run-none, run-then}
 use Rattle.av_fault.proofs.UsingLaws.{entry-here}

@@ -38,8 +38,8 @@ use Rattle.av_mem.proofs.MemLaws.{entry_put_in}
 use Rattle.av_mem.specs.Steps.{KeepsParts}
 use Rattle.av_mem.specs.Between.{HasDone, KeepsBetween}
 use Rattle.av_fault.specs.Using.{IsHere}
-use Rattle.av_fault.proofs.Amid.{Amid}
-use Rattle.av_fault.proofs.Between.{fit-stays, to-amid, to-fit}
+use Rattle.av_mem.proofs.Amid.{Amid}
+use Rattle.av_mem.proofs.Between.{fit-stays, to-amid, to-fit}
 use Rattle.av_fault.proofs.Run.{run-done, run-none, run-then}
 use Rattle.av_plain.proofs.Wrote.{device-itself, wrote-none}
 

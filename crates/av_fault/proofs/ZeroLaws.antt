@@ -26,8 +26,8 @@ use Rattle.av_mem.specs.Steps.{KeepsParts}
 use Rattle.av_mem.specs.Between.{HasDone, KeepsBetween}
 use Rattle.av_fault.specs.Making.{HasMade, IsMapped}
 use Rattle.av_fault.specs.declared.fault.Touched.TheVariants.{Zeros}
-use Rattle.av_fault.proofs.Between.{fit-stays, to-amid, to-fit}
-use Rattle.av_fault.proofs.Done.{noted-unfailed}
+use Rattle.av_mem.proofs.Between.{fit-stays, to-amid, to-fit}
+use Rattle.av_fault.proofs.Noted.{noted-unfailed}
 use Rattle.av_fault.proofs.EntryLaws.{entry-is, mapped-is, page-back}
 use Rattle.av_fault.proofs.Run.{run-done, run-none, run-then}
 use Rattle.av_plain.proofs.Wrote.{device-itself, wrote-none}

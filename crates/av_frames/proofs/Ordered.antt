@@ -1,11 +1,11 @@
 -- The free list without a frame, and in order.
-use Rattle.std.proofs.Common.{◌≡◌, ℕ, zero, suc, ◌+◌, ◌≤◌, ◌<◌, Bool, true, false, cond, not, List, [], ◌∷◌, ◌++◌, length, get_or, slice_set, replicate, filter, Option, None, refl, sym, ap, subst, ◌∙◌, arith, ◌==◌, length-set, get_or-set_same, get_or-set_other}
+use Rattle.std.proofs.Common.{◌≡◌, ℕ, zero, suc, ◌+◌, ◌≤◌, ◌<◌, Bool, true, false, cond, not, ◌||◌, nat_lt, List, [], ◌∷◌, ◌++◌, length, get_or, slice_set, replicate, filter, Option, None, Some, refl, sym, ap, subst, ◌∙◌, arith, ◌==◌, length-set, get_or-set_same, get_or-set_other}
 use Rattle.std.proofs.lemmas.Bool.Decides.{nat_tests}
-use Rattle.std.specs.List.{range_with_len}
+use Rattle.std.specs.List.{position, position_or_len, range_with_len, remove}
 use Rattle.av_base.specs.declared.slot.Slot.{Slot}
 use Rattle.av_base.specs.Words.{how_many, is_in, without}
 use Rattle.av_frames.specs.Store.{IsWhole, Shown, itself, relocated, with_bytes, with_maps, with_home, with_dirty, with_slot}
-use Rattle.av_base.proofs.Without.{count-without, length-without}
+use Rattle.av_base.proofs.Without.{count-without, length-without, without-none}
 use Rattle.av_base.proofs.Counted.{count-set}
 use Rattle.av_frames.proofs.Free.{not_in, none_in, within_flags}
 use Rattle.av_frames.proofs.Fresh.{once_from, numbers-suc}
@@ -21,6 +21,53 @@ absent_without f g fs h = not_in f (without g fs) (count-without g f fs ∙ ap (
     by : (b : Bool) → ◌≡◌ {A = ℕ} (cond b 0 0) 0
     by true = refl
     by false = refl
+
+-- where a frame stands
+abbrev pub place : ℕ → List ℕ → ℕ
+place f fs = position_or_len (λ g. f == g) fs
+
+-- one that stands there once goes from where it stands
+remove-next : (x : ℕ) (xs : List ℕ) (n m : ℕ) → m ≡ suc n → remove (x ∷ xs) m ≡ x ∷ remove xs n
+remove-next x xs n m e = ap (remove (x ∷ xs)) e
+
+pub without-place : (f : ℕ) (fs : List ℕ) → how_many (λ g. f == g) fs ≤ 1 → without f fs ≡ remove fs (place f fs)
+without-place f [] once = refl
+without-place f (x ∷ xs) once = by (f == x) once (without-place f xs)
+  where
+    by : (b : Bool) → cond b 1 0 + how_many (λ g. f == g) xs ≤ 1
+        → (how_many (λ g. f == g) xs ≤ 1 → without f xs ≡ remove xs (place f xs))
+        → cond (not b) (x ∷ without f xs) (without f xs) ≡ remove (x ∷ xs) (cond (not b) (1 + place f xs) 0)
+    by true h rest = without-none f xs (omega (arith, h))
+    by false h rest = ap (λ ys. x ∷ ys) (rest (omega (arith, h)))
+        ∙ sym (remove-next x xs (place f xs) (1 + place f xs) (omega arith))
+
+-- and it is found there
+place-below : (f : ℕ) (fs : List ℕ) → is_in f fs ≡ true → nat_lt (place f fs) (length fs) ≡ true
+place-below f [] there = cc
+place-below f (x ∷ xs) there = by (f == x) there (place-below f xs)
+  where
+    by : (b : Bool) → (b || is_in f xs) ≡ true → (is_in f xs ≡ true → nat_lt (place f xs) (length xs) ≡ true)
+        → nat_lt (cond (not b) (1 + place f xs) 0) (suc (length xs)) ≡ true
+    by true h rest = grind (arith, nat_tests)
+    by false h rest = let e = rest h in grind (arith, nat_tests, e)
+
+pub place-found : (f : ℕ) (fs : List ℕ) → is_in f fs ≡ true → position (λ g. f == g) fs ≡ Some (place f fs)
+place-found f fs there = ap (λ b. cond b (Some (place f fs)) None) (place-below f fs there)
+
+pub place-is : (f : ℕ) (fs : List ℕ) (at : ℕ) → is_in f fs ≡ true → position (λ g. f == g) fs ≡ Some at → at ≡ place f fs
+place-is f fs at there is = by (sym is ∙ place-found f fs there)
+  where
+    by : Some at ≡ Some (place f fs) → at ≡ place f fs
+    by h = cc
+
+pub place-within : (f : ℕ) (fs : List ℕ) (at : ℕ) → is_in f fs ≡ true → position (λ g. f == g) fs ≡ Some at → at < length fs
+place-within f fs at there is = let same = place-is f fs at there is in let below = place-below f fs there in grind (arith, nat_tests, same, below)
+
+pub place-there : (f : ℕ) (fs : List ℕ) → is_in f fs ≡ true → position (λ g. f == g) fs ≡ None → ⊥
+place-there f fs there is = by (sym is ∙ place-found f fs there)
+  where
+    by : ◌≡◌ {A = Option ℕ} None (Some (place f fs)) → ⊥
+    by h = cc
 
 -- ---- in order
 

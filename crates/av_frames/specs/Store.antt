@@ -2,7 +2,7 @@
 -- its home, the slot at which it is cached, and whether it is dirty.
 use Rattle.std.specs.Prelude.{◌≡◌, ℕ, ◌+◌, ◌-◌, ◌^◌, ◌<◌, ◌≤◌, Bool, true, false, ◌==◌}
 use Rattle.std.specs.Prelude.{if◌then◌else◌, List, [], ◌∷◌, length, slice_index, slice_index_or}
-use Rattle.std.specs.Prelude.{Option, None, Some, filter, not}
+use Rattle.std.specs.Prelude.{Option, None, Some, filter}
 use Rattle.av_base.specs.declared.slot.Slot.{Slot}
 use Rattle.av_base.specs.Words.{how_many, is_in, with_at, within, without}
 use Rattle.std.specs.List.{range_with_len}

@@ -8,10 +8,10 @@ ghost use Rattle.av_frames.specs.Store.{with_home, with_dirty, with_slot, reloca
 ghost use Rattle.av_frames.specs.Store.{free_in_order};
 ghost use Rattle.av_base.specs.Page.{page_size};
 ghost use Rattle.av_base.specs.Words.{how_many, is_in, without};
-ghost use Rattle.std.specs.List.{range_with_len};
+ghost use Rattle.std.specs.List.{position, range_with_len};
 ghost use Rattle.std.specs.VecDeque.{deque_len, deque_capacity};
 
-use crate::pages::{Pages, SIZE};
+use crate::pages::Pages;
 use crate::slots::Slots;
 use av_base::Slot;
 use std::alloc::{AllocError, Global};
@@ -101,7 +101,7 @@ impl Frames {
 
     /// Moves what is kept of a frame that isn't free to one that is: bytes, how many entries name
     /// it, home, slot, and whether it is dirty. The frame is free instead, in front of the others.
-    /// It costs a step for each free frame, and the copy of a page.
+    /// It costs a look at each free frame in front of that one, and the copy of a page.
     pub fn relocate(&mut self, from: u32, to: u32)
         requires in_range { (from < (shown self.old).count) × (to < (shown self.old).count) }
         requires not_free { is_in from self.old.free ≡ false }
@@ -143,7 +143,10 @@ impl Frames {
             ≡ record (shown self.old) { free = without frame self.old.free } }
     {
         self.used[frame as usize] = true;
-        self.free.retain(|other| frame != *other);
+        let Some(place) = place_of(&self.free, frame) else {
+            unreachable!();
+        };
+        self.free.remove(place);
     }
 
     /// How many frames there are, free or not.
@@ -297,7 +300,7 @@ impl Frames {
         requires { frame < (shown self.old).count }
         ensures { shown self.new ≡ with_bytes frame (λ i. 0) (shown self.old) }
     {
-        self.bytes.put(frame as usize, [0; SIZE]);
+        self.bytes.clear(frame as usize);
     }
 
     /// Makes a frame's bytes those of a page, as it was read from a device.
@@ -306,8 +309,15 @@ impl Frames {
         requires long { length page.now ≡ page_size }
         ensures { shown self.new ≡ with_bytes frame (slice_index page.now) (shown self.old) }
     {
-        self.bytes.put(frame as usize, page_of(page));
+        self.bytes.put(frame as usize, page);
     }
+}
+
+/// Where a frame stands in the list of free ones.
+fn place_of(free: &VecDeque<u32>, frame: u32) -> Option<usize>
+    ensures { result ≡ position (λ other. frame == other) free.now.items }
+{
+    free.iter().position(|other| frame == *other)
 }
 
 /// Makes a list that of the frames which aren't used, the least first.
@@ -324,16 +334,6 @@ fn list_unused(used: &[bool], free: &mut VecDeque<u32>)
             free.push_back_reserved(frame as u32);
         }
     }
-}
-
-/// The same bytes as a page.
-fn page_of(bytes: &[u8]) -> [u8; SIZE]
-    requires { length bytes.now ≡ page_size }
-    ensures { result ≡ bytes.now }
-{
-    let mut page = [0; SIZE];
-    page.copy_from_slice(bytes);
-    page
 }
 
 /// The same value, this many times.

@@ -12,7 +12,7 @@ use std::alloc::{AllocError, Global};
 use std::marker::Model;
 
 /// How many bytes a page has.
-pub const SIZE: usize = PAGE_SIZE as usize;
+const SIZE: usize = PAGE_SIZE as usize;
 
 static ZEROS: [u8; SIZE] = [0; SIZE];
 
@@ -66,12 +66,23 @@ impl Pages {
     }
 
     /// Puts a page in the place of one that is there.
-    pub fn put(&mut self, frame: usize, page: [u8; SIZE])
-        requires { frame < length self.old }
-        ensures { self.new ≡ slice_set self.old frame page }
+    pub fn put(&mut self, frame: usize, page: &[u8])
+        requires in_range { frame < length self.old }
+        requires long { length page.now ≡ page_size }
+        ensures { self.new ≡ slice_set self.old frame page.now }
     {
         fill(&mut self.filled, frame + 1);
-        self.filled[frame] = page;
+        overwrite(&mut self.filled[frame], page);
+    }
+
+    /// Makes each byte of a page zero. One that was never written is so already.
+    pub fn clear(&mut self, frame: usize)
+        requires { frame < length self.old }
+        ensures { self.new ≡ slice_set self.old frame zeros }
+    {
+        if frame < self.filled.len() {
+            self.filled[frame] = ZEROS;
+        }
     }
 
     /// Puts the bytes of one page in the place of another's.
@@ -79,9 +90,14 @@ impl Pages {
         requires { (from < length self.old) × (to < length self.old) }
         ensures { self.new ≡ slice_set self.old to (slice_index_or self.old from []) }
     {
-        // Room first: so the bytes are copied once, from page to page.
-        fill(&mut self.filled, to + 1);
-        self.filled[to] = *self.get(from);
+        if to < self.filled.len() {
+            self.filled[to] = *self.get(from);
+        } else {
+            // A page that was never written is not cleared first.
+            let page = *self.get(from);
+            fill(&mut self.filled, to);
+            self.filled.push_reserved(page);
+        }
     }
 
     /// Writes a piece over a page's bytes from `at` on.
@@ -107,6 +123,14 @@ fn fill(pages: &mut Vec<[u8; SIZE]>, count: usize)
     for _ in pages.len()..count {
         pages.push_reserved(ZEROS);
     }
+}
+
+// Writes a page over another one.
+fn overwrite(page: &mut [u8; SIZE], other: &[u8])
+    requires { length other.now ≡ page_size }
+    ensures { page.new ≡ other.now }
+{
+    page.copy_from_slice(other);
 }
 
 // Writes a piece over a page from `at` on.

@@ -12,7 +12,6 @@ ghost use Rattle.av_plain.specs.Transcript.{State, at_first};
 ghost use Rattle.av_swapdev.specs.Device.{most_areas};
 ghost use Rattle.av_kernel.specs.Kernel.{Stands, Steps, Counts, IsNew, IsSpent};
 ghost use Rattle.av_step.specs.Step.{sizes_of};
-ghost use Rattle.av_trace.specs.Command.{is_in_grammar};
 ghost use Rattle.av_kernel.specs.Step.{has_device};
 
 use crate::step::perform;
@@ -93,7 +92,6 @@ impl Kernel {
         command: &Command,
         dev: &mut D,
     ) -> Result<Reply, AllocError>
-        requires grammar { is_in_grammar command.now ≡ true }
         requires few { self.old.steps < most_commands }
         requires attached { D.sizes dev.old ≡ sizes_of self.old.sizes }
         ensures stands { let d = seen_by D.sizes D.pages D.failures D.history in (s : State)
@@ -122,7 +120,6 @@ impl Kernel {
         dev: &mut D,
         reply: &mut Reply,
     ) -> Result<(), AllocError>
-        requires grammar { is_in_grammar command.now ≡ true }
         requires few { self.old.steps < most_commands }
         requires attached { D.sizes dev.old ≡ sizes_of self.old.sizes }
         ensures stands { let d = seen_by D.sizes D.pages D.failures D.history in (s : State)

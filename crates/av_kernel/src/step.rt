@@ -1,7 +1,6 @@
 //! Which command goes where, and what a refusal replies.
 
 ghost use Rattle.std.specs.Prelude.{◌≡◌, ◌≤◌, OnOk, false, length, true};
-ghost use Rattle.av_trace.specs.Command.{is_in_grammar};
 ghost use Rattle.av_trace.specs.Reply.{IsCleared};
 ghost use Rattle.av_swapdev.specs.Device.{most_areas};
 ghost use Rattle.av_plain.specs.Device.{IsSameDevice, seen_by};
@@ -16,7 +15,9 @@ use crate::map::{mmap, mprotect, munmap};
 use crate::mremap::mremap;
 use crate::process::{exit, fork, spawn};
 use av_access::{read, write};
+use av_ksm::merge;
 use av_mem::Mem;
+use av_migrate::compact;
 use av_report::{areas, entry, maps, rmap, stat};
 use av_step::Refusal;
 use av_swap::reclaim::{age, complete, reclaim};
@@ -44,7 +45,6 @@ pub fn perform<D: SwapDev>(
     reply: &mut Reply,
 ) -> Result<(), AllocError>
     requires steady { IsSteadyAt (D.sizes dev.old) mem.old }
-    requires grammar { is_in_grammar command.now ≡ true }
     requires attached { D.sizes dev.old ≡ sizes_of sizes.now }
     requires few { length sizes.now ≤ most_areas }
     ensures step { let d = seen_by D.sizes D.pages D.failures D.history in (s : State)
@@ -83,7 +83,6 @@ fn dispatch<D: SwapDev>(
     reply: &mut Reply,
 ) -> Result<(), Refusal>
     requires steady { IsSteadyAt (D.sizes dev.old) mem.old }
-    requires grammar { is_in_grammar command.now ≡ true }
     requires attached { D.sizes dev.old ≡ sizes_of sizes.now }
     requires few { length sizes.now ≤ most_areas }
     requires cleared { IsCleared reply.old }
@@ -127,7 +126,6 @@ fn do_beside(
     reply: &mut Reply,
 ) -> Result<(), Refusal>
     requires steady { IsSteady mem.old }
-    requires grammar { is_in_grammar command.now ≡ true }
     requires beside { has_device command.now ≡ false }
     requires cleared { IsCleared reply.old }
     ensures { DoesBeside mem.old mem.new command.now (reply_in reply.new result) }
@@ -136,6 +134,8 @@ fn do_beside(
         Command::Spawn { process } => spawn(mem, alloc, *process, reply),
         Command::Fork { parent, child } => fork(mem, alloc, *parent, *child, reply),
         Command::Exit { process } => exit(mem, *process, reply),
+        Command::Merge => merge(mem, alloc, reply),
+        Command::Compact => compact(mem, alloc, reply),
         Command::Maps { process } => maps(mem, *process, reply),
         Command::Areas { process } => areas(mem, alloc, *process, reply),
         Command::Rmap { process, address } => rmap(mem, alloc, *process, *address, reply),

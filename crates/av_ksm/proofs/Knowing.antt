@@ -99,18 +99,12 @@ module _ (m : Setting) (held : FrameBytes) (l : Ledger) (earlier : List ℕ) (kn
       by (Some x) true e i may = absurd (none-some x (sym new ∙ first-as m held f g i known ∙ e))
       by (Some x) false e i (inl is) = inl (record { merged = is.merged; least = is.least })
       by (Some x) false e i (inr w) = inr (record {
-        key = w.key;
-        page = w.page;
-        seen = w.seen;
-        own = w.own;
+        at = w.at;
         merged = w.merged;
         other = other-unlike held earlier f g i ∙ w.other;
       })
       by None true e i may = inr (record {
-        key = k;
-        page = refl;
-        seen = seen;
-        own = own;
+        at = record { key = k; page = refl; seen = seen; own = own };
         merged = may.0;
         other = other-more held earlier f g ∙ first (f == g) (hold_same held f g) i may.1;
       })
@@ -132,10 +126,7 @@ module _ (m : Setting) (held : FrameBytes) (l : Ledger) (earlier : List ℕ) (kn
       by None false e i may = (may.0, other-unlike held earlier f g i ∙ may.1)
       by (Some y) b e i (inl least) = inl (record { merged = least.merged; least = least.least })
       by (Some y) false e i (inr w) = inr (record {
-        key = w.key;
-        page = w.page;
-        seen = w.seen;
-        own = w.own;
+        at = w.at;
         merged = w.merged;
         other = other-unlike held earlier f g i ∙ w.other;
       })
@@ -143,10 +134,7 @@ module _ (m : Setting) (held : FrameBytes) (l : Ledger) (earlier : List ℕ) (kn
           let one : y ≡ x = some-is y x (sym e ∙ sym (first-as m held f g i known) ∙ is) in
           let at : y.0 ≡ f = ap (λ (z : Known). z.0) one ∙ same in
           inr (record {
-            key = w.key;
-            page = w.page;
-            seen = w.seen;
-            own = w.own;
+            at = w.at;
             merged = w.merged;
             other = subst (λ z. other_like held (earlier ++ f ∷ []) g ≡ cond (z == g) None (Some z)) (sym at)
                 (other-again held earlier f g (subst (λ z. other_like held earlier g ≡ cond (z == g) None (Some z)) at w.other));
@@ -163,15 +151,15 @@ module _ (m : Setting) (held : FrameBytes) (l : Ledger) (earlier : List ℕ) (kn
     (seen : Bool) (own : HasOwn l k f seen) (x : Known) (is : first_like held known f ≡ Some x) where
   -- a frame that is known by another one that holds something else isn't that of this page
   other-page : (g : ℕ) (y : Known) (w : Waits m held l earlier g y) → first_like held known g ≡ Some y → hold_same held f g ≡ false
-      → same_key w.key k ≡ false
-  other-page g y w e unlike = by (same_key w.key k) refl
+      → same_key w.at.key k ≡ false
+  other-page g y w e unlike = by (same_key w.at.key k) refl
     where
       frame : {a b : ℕ} {s t : Bool} → Some (InFrame a s) ≡ Some (InFrame b t) → a ≡ b
       frame e = cc
 
-      by : (b : Bool) → same_key w.key k ≡ b → b ≡ false
+      by : (b : Bool) → same_key w.at.key k ≡ b → b ≡ false
       by true i =
-          let same : y.0 ≡ f = frame (sym w.own.names ∙ ap (entry l) (same_key-is w.key k i) ∙ own.names) in
+          let same : y.0 ≡ f = frame (sym w.at.own.names ∙ ap (entry l) (same_key-is w.at.key k i) ∙ own.names) in
           absurd (false≢true (sym unlike ∙ subst (λ z. hold_same held z g ≡ true) same (first-holds held known g y e)))
       by false i = refl
 
@@ -189,10 +177,7 @@ module _ (m : Setting) (held : FrameBytes) (l : Ledger) (earlier : List ℕ) (kn
       by (Some y) b e i (inl one) = inl (record { merged = gone.merged y.0 ∙ one.merged; least = like-still ∙ one.least })
       by (Some y) true e i (inr w) = absurd (none-some x.0 (sym w.merged ∙ sym (merged-as m held f g i l) ∙ least.least))
       by (Some y) false e i (inr w) = inr (record {
-        key = w.key;
-        page = w.page;
-        seen = w.seen;
-        own = gone.own w.key y.0 w.seen (other-page g y w e i) w.own;
+        at = record { key = w.at.key; page = w.at.page; seen = w.at.seen; own = gone.own w.at.key y.0 w.at.seen (other-page g y w e i) w.at.own };
         merged = like-still ∙ w.merged;
         other = other-unlike held earlier f g i ∙ w.other;
       })
@@ -283,10 +268,12 @@ module _ (m : Setting) (held : FrameBytes) (l : Ledger) (earlier : List ℕ) (kn
         least = like-still i ∙ one.least;
       })
       by (Some y) false e i (inr v) = inr (record {
-        key = v.key;
-        page = v.page;
-        seen = v.seen;
-        own = gone.own v.key y.0 v.seen (other-page m held l earlier known h k f seen own x is g y v e i) apart v.own;
+        at = record {
+          key = v.at.key;
+          page = v.at.page;
+          seen = v.at.seen;
+          own = gone.own v.at.key y.0 v.at.seen (other-page m held l earlier known h k f seen own x is g y v e i) apart v.at.own;
+        };
         merged = like-still i ∙ v.merged;
         other = other-unlike held earlier f g i ∙ v.other;
       })

@@ -5,3 +5,12 @@ pub mod JoiningViews
 pub mod StepDone
 pub mod Knowing
 pub mod Turn
+pub mod MergingAsks
+pub mod MergingDone
+pub mod MergingViews
+pub mod MergingTurn
+pub mod ContentsLaws
+pub mod PagesLaws
+pub mod AtFirst
+pub mod CommandLaws
+pub mod MergesLaws

@@ -54,7 +54,7 @@ module _ (m : Setting) (held : FrameBytes) (l : Ledger) (earlier : List ℕ) (kn
         by : IsLeast m held l f x ⊎ Waits m held l earlier f x
             → IsLeast m held l f x × (merge_notes m held l earlier k (Some f) ≡ Joined k.0 (address_of k.1) x.0 ∷ [])
         by (inl least) = (least, notes-by (Some x.0) (other_like held earlier f) least.least refl)
-        by (inr w) = absurd (false≢true (sym w.own.unmerged ∙ merged))
+        by (inr w) = absurd (false≢true (sym w.at.own.unmerged ∙ merged))
 
     -- or is not, and another one
     pub turn-shares : is_merged l x.0 ≡ false → (x.0 == f) ≡ false → Waits m held l earlier f x

@@ -20,13 +20,17 @@ Known = ℕ × Option Key
 abbrev pub first_like : FrameBytes → List Known → ℕ → Option Known
 first_like held known f = find (λ x. hold_same held x.0 f) known
 
--- the frame is one that an earlier candidate has still, and the first that may be merged with f
-pub record Waits (m : Setting) (held : FrameBytes) (l : Ledger) (earlier : List ℕ) (f : ℕ)
-    (x : Known) : Type 0 where
+-- the page has the frame still, which is neither merged nor cached
+pub record WaitsAt (l : Ledger) (x : Known) : Type 0 where
   pub key : Key
   pub page : x.1 ≡ Some key
   pub seen : Bool
   pub own : HasOwn l key x.0 seen
+
+-- the frame is one that an earlier candidate has still, and the first that may be merged with f
+pub record Waits (m : Setting) (held : FrameBytes) (l : Ledger) (earlier : List ℕ) (f : ℕ)
+    (x : Known) : Type 0 where
+  pub at : WaitsAt l x
   pub merged : merged_like m held l f ≡ None
   pub other : other_like held earlier f ≡ (if x.0 == f then None else Some x.0)
 

@@ -2,3 +2,6 @@ pub mod Candidate
 pub mod Join
 pub mod Joining
 pub mod Known
+pub mod Contents
+pub mod Merging
+pub mod Pages

@@ -1,6 +1,5 @@
 //! Worked examples for lines: what one says (and nothing else, since a line has one meaning), the
-//! texts of commands that have no line yet, what an entry's answer is, and what the row of an area
-//! is.
+//! texts of commands, what an entry's answer is, and what the row of an area is.
 
 ghost use Rattle.std.specs.Prelude.{◌≡◌, [], ◌∷◌, false, true, map, None, Some, codes};
 ghost use Rattle.av_trace.specs.declared.command.Command.TheVariants.{Compact, Fork, Madvise};
@@ -30,7 +29,7 @@ pub fn lines_say()
         (Some (Mremap 1 0x10000 4096 8192 Plain)) }
 {}
 
-/// The texts of advice, locks, merging and compaction; the grammar has not all of them yet.
+/// The texts of advice, locks, merging and compaction.
 pub fn texts_stand()
     ensures advice_last { line_of (Madvise 1 0x10000 4096 DontNeed)
         ≡ codes "madvise 1 10000 4096 dontneed" }

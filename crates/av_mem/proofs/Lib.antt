@@ -7,7 +7,7 @@ pub mod WalkLaws
 pub mod KeepsLaws
 pub mod StepLaws
 mod CacheLaws
-mod DropLaws
+pub mod DropLaws
 mod LoadLaws
 pub mod ChainLaws
 pub mod EntryViews
@@ -26,3 +26,6 @@ pub mod SwapAreas
 pub mod SwapSums
 pub mod HomeLaws
 pub mod ComingBack
+pub mod Amid
+pub mod Between
+pub mod Done

@@ -352,5 +352,5 @@ module _ (old now : Mem) (low past : ℕ) (before notes : List Note) (taken take
         }) (g.added, moves, refl, refl, refl);
       }
 
-    pub going-end : specs.Compacts old new before notes taken taken'
-    going-end = record { added = g.added; notes = g.are; steps = g.steps; leaves = has-compacted }
+    pub going-end : specs.CompactsInSteps old new before notes taken taken'
+    going-end = record { adds = record { added = g.added; notes = g.are; leaves = has-compacted }; steps = g.steps }

@@ -8,3 +8,4 @@ pub mod MovingLaws
 pub mod NextMove
 pub mod ServesMove
 pub mod CompactLaws
+pub mod CommandLaws

@@ -24,7 +24,7 @@ use Rattle.av_mem.specs.Steps.{KeepsParts}
 use Rattle.av_mem.specs.declared.mem.Mem.{Mem}
 use Rattle.av_plain.specs.Sound.{no_excuse}
 use Rattle.av_migrate.specs.Move.{pte_moved, view_moved, view_ordered}
-use Rattle.av_migrate.specs.Pointed.{pointed_at}
+use Rattle.av_migrate.specs.Point.{with_frame_at}
 use Rattle.av_migrate.proofs.WalkedLaws.{walked-moved}
 
 module _ (d : Device) (k : Mem) (s : State) (keeps : Keeps d k s) where
@@ -80,7 +80,7 @@ module _ (d : Device) (k : Mem) (s : State) (keeps : Keeps d k s) where
   -- ---- what is seen then
 
   pub moved-tables : (from to : ℕ) (keys : List Key) → keys ≡ walk l from
-      → ◌≡◌ {A = ℕ → ℕ → Option Plain} (λ p page. plain (pointed_at keys to (entry_at k.tables) p page))
+      → ◌≡◌ {A = ℕ → ℕ → Option Plain} (λ p page. plain (with_frame_at keys to (entry_at k.tables) p page))
       (λ p page. option_map (pte_moved from to) ((view k).table p page))
   moved-tables from to keys are =
       λ i p page. (walked-moved m k l from to keys keeps.stands.parts.ledger keeps.stands.sound.ledger.in_order are p page) i
@@ -88,7 +88,7 @@ module _ (d : Device) (k : Mem) (s : State) (keeps : Keeps d k s) where
 -- the parts as they are then
 pub record GoneOver (old new : Mem) (from to : ℕ) (keys : List Key) : Type 0 where
   pub rest : new ≡ record old { frames = new.frames; tables = new.tables; lists = new.lists; items = new.items; swap = new.swap }
-  pub entries : entry_at new.tables ≡ pointed_at keys to (entry_at old.tables)
+  pub entries : entry_at new.tables ≡ with_frame_at keys to (entry_at old.tables)
   pub processes : has new.tables ≡ has old.tables
   pub swap : shown_swap new.swap ≡ swap_renamed from to (shown_swap old.swap)
   pub lists : new.lists ≡ lists_renamed from to old.lists

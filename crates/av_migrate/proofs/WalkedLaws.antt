@@ -14,27 +14,27 @@ use Rattle.av_swap_laws.proofs.Walks.{changed_where, walked-all}
 use Rattle.av_mem.specs.Mem.{plain, view}
 use Rattle.av_mem.specs.declared.mem.Mem.{Mem}
 use Rattle.av_migrate.specs.Move.{pte_moved}
-use Rattle.av_migrate.specs.Pointed.{pointed, pointed_at}
+use Rattle.av_migrate.specs.Point.{with_frame, with_frame_at}
 
-abbrev plain_pointed : ℕ → Plain → Plain
-plain_pointed f t = record t { entry = placed_entry (λ g. f) t.entry }
+abbrev plain_with_frame : ℕ → Plain → Plain
+plain_with_frame f t = record t { entry = placed_entry (λ g. f) t.entry }
 
-plain-pointed : (f : ℕ) (t : Pte) → plain (pointed f t) ≡ option_map (plain_pointed f) (plain t)
-plain-pointed f Empty = refl
-plain-pointed f Zero = refl
-plain-pointed f (Here g write seen) = refl
-plain-pointed f (Away s) = refl
+plain-with_frame : (f : ℕ) (t : Pte) → plain (with_frame f t) ≡ option_map (plain_with_frame f) (plain t)
+plain-with_frame f Empty = refl
+plain-with_frame f Zero = refl
+plain-with_frame f (Here g write seen) = refl
+plain-with_frame f (Away s) = refl
 
 moved-is : (from to : ℕ) (e : Entry) (write : Bool)
-    → cond (names_frame from e) (plain_pointed to (record { entry = e; write = write })) (record { entry = e; write = write })
+    → cond (names_frame from e) (plain_with_frame to (record { entry = e; write = write })) (record { entry = e; write = write })
     ≡ pte_moved from to (record { entry = e; write = write })
 moved-is from to ZeroEntry write = refl
 moved-is from to (InSlot s) write = refl
 moved-is from to (InFrame g seen) write =
-    ap (λ b. cond b (plain_pointed to (record { entry = InFrame g seen; write = write })) (record { entry = InFrame g seen; write = write }))
+    ap (λ b. cond b (plain_with_frame to (record { entry = InFrame g seen; write = write })) (record { entry = InFrame g seen; write = write }))
     (same-turned from g) ∙ by (g == from)
   where
-    by : (b : Bool) → cond b (plain_pointed to (record { entry = InFrame g seen; write = write })) (record { entry = InFrame g seen; write = write })
+    by : (b : Bool) → cond b (plain_with_frame to (record { entry = InFrame g seen; write = write })) (record { entry = InFrame g seen; write = write })
         ≡ record { entry = InFrame (cond b to g) seen; write = write }
     by true = refl
     by false = refl
@@ -42,14 +42,14 @@ moved-is from to (InFrame g seen) write =
 -- each entry of the frame, and no other, names the other one
 pub walked-moved : (m : Setting) (k : Mem) (l : Ledger) (from to : ℕ) (keys : List Key) → LedgerStands m (view k) l
     → T (is_sorted key_cmp l.entries) → keys ≡ walk l from
-    → (p page : ℕ) → plain (pointed_at keys to (entry_at k.tables) p page) ≡ option_map (pte_moved from to) (plain (entry_at k.tables p page))
+    → (p page : ℕ) → plain (with_frame_at keys to (entry_at k.tables) p page) ≡ option_map (pte_moved from to) (plain (entry_at k.tables p page))
 walked-moved m k l from to keys h sorted are p page =
-    walked-all m (view k) l from (plain_pointed to) (λ p page. plain (pointed_at keys to (entry_at k.tables) p page)) h sorted
-    (λ q among. ap (λ b. plain (cond b (pointed to (entry_at k.tables q.0 q.1)) (entry_at k.tables q.0 q.1))) (ap (list_any (same_key q)) are ∙ among)
-    ∙ plain-pointed to (entry_at k.tables q.0 q.1))
-    (λ q among. ap (λ b. plain (cond b (pointed to (entry_at k.tables q.0 q.1)) (entry_at k.tables q.0 q.1))) (ap (list_any (same_key q)) are ∙ among))
+    walked-all m (view k) l from (plain_with_frame to) (λ p page. plain (with_frame_at keys to (entry_at k.tables) p page)) h sorted
+    (λ q among. ap (λ b. plain (cond b (with_frame to (entry_at k.tables q.0 q.1)) (entry_at k.tables q.0 q.1))) (ap (list_any (same_key q)) are ∙ among)
+    ∙ plain-with_frame to (entry_at k.tables q.0 q.1))
+    (λ q among. ap (λ b. plain (cond b (with_frame to (entry_at k.tables q.0 q.1)) (entry_at k.tables q.0 q.1))) (ap (list_any (same_key q)) are ∙ among))
     p page ∙ each (plain (entry_at k.tables p page))
   where
-    each : (o : Option Plain) → option_map (changed_where from (plain_pointed to)) o ≡ option_map (pte_moved from to) o
+    each : (o : Option Plain) → option_map (changed_where from (plain_with_frame to)) o ≡ option_map (pte_moved from to) o
     each None = refl
     each (Some t) = ap Some (moved-is from to t.entry t.write)

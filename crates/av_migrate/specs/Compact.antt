@@ -32,11 +32,14 @@ pub record HasCompacted (d : Device) (old new : Mem) (w : World) (r : Rmap) (l :
   pub leaves : IsCompacted (setting_by d old) l
       (after_all l (note_events added ++ FreeSorted ∷ []))
 
--- so it is with the notes that were added, whatever stood before; and these steps were taken: those
--- of the walks of the frames that moved, as they stood before
-pub record Compacts (old new : Mem) (before now : List Note) (taken taken' : ℕ) : Type 0 where
+-- so it is with the notes that were added, whatever stood before
+pub record AddsMoves (old new : Mem) (before now : List Note) : Type 0 where
   pub added : List Note
   pub notes : now ≡ before ++ added
-  pub steps : taken' ≡ taken + steps_of_all old added
   pub leaves : (d : Device) (w : World) (r : Rmap) (l : Ledger) → KeepsBetween d old w r l
       → HasCompacted d old new w r l added
+
+-- and these steps were taken: those of the walks of the frames that moved, as they stood before
+pub record CompactsInSteps (old new : Mem) (before now : List Note) (taken taken' : ℕ) : Type 0 where
+  pub adds : AddsMoves old new before now
+  pub steps : taken' ≡ taken + steps_of_all old adds.added

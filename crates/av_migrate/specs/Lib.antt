@@ -1,4 +1,4 @@
 pub mod Move
-pub mod Pointed
+pub mod Point
 pub mod Next
 pub mod Compact

@@ -8,7 +8,7 @@ ghost use Rattle.av_mem.specs.Mem.{IsSteady, frame_count, view};
 ghost use Rattle.av_mem.specs.Steps.{KeepsParts};
 ghost use Rattle.av_mem.specs.Walk.{areas_of_frame};
 ghost use Rattle.av_migrate.specs.Move.{view_moved};
-ghost use Rattle.av_migrate.specs.Pointed.{pointed, pointed_at};
+ghost use Rattle.av_migrate.specs.Point.{with_frame, with_frame_at};
 
 use av_base::Steps;
 use av_mem::Mem;
@@ -20,8 +20,8 @@ use std::sync::ledger::Ledger;
 /// A frame in use goes over to a free one. Its entries are found by its walk alone, with exactly
 /// the steps of that; without memory for it all stays.
 ///
-/// It costs its walk, the copy of a page, and a step for each free frame: the free one is taken
-/// from wherever it stands in the list.
+/// It costs its walk, the copy of a page, and a look at each free frame in front of that one: it
+/// is taken from wherever it stands in their list.
 pub fn move_frame<L: Ledger>(
     mem: &mut Mem,
     alloc: Global,
@@ -49,7 +49,7 @@ pub fn move_frame<L: Ledger>(
 
 /// The entries of frames at these keys name this frame, seen and written as they were.
 fn point_all(tables: &mut Tables<PageTable>, keys: &[(u16, u64)], frame: u32)
-    ensures entries { entry_at tables.new ≡ pointed_at keys.now frame (entry_at tables.old) }
+    ensures entries { entry_at tables.new ≡ with_frame_at keys.now frame (entry_at tables.old) }
     ensures processes { has tables.new ≡ has tables.old }
 {
     for key in keys {
@@ -60,7 +60,7 @@ fn point_all(tables: &mut Tables<PageTable>, keys: &[(u16, u64)], frame: u32)
 /// The entry of a page, if it is that of a frame, names this frame.
 fn point(tables: &mut Tables<PageTable>, key: (u16, u64), frame: u32)
     ensures entries { entry_at tables.new ≡ with_entry key.0 key.1
-        (pointed frame (entry_at tables.old key.0 key.1)) (entry_at tables.old) }
+        (with_frame frame (entry_at tables.old key.0 key.1)) (entry_at tables.old) }
     ensures processes { has tables.new ≡ has tables.old }
 {
     if let Pte::Here { write, seen, .. } = tables.get(key.0, key.1) {

@@ -7,7 +7,7 @@ use Rattle.std.proofs.lemmas.Fmt.{decimal_digit}
 use Rattle.std.proofs.lemmas.List.{length-map}
 use Rattle.std.proofs.lemmas.List.Elements.{All-cons, All-nil}
 use Rattle.std.proofs.lemmas.List.FromFn.{length-map-range_with_len}
-use Rattle.av_trace.specs.Command.{IsCommand, line_of}
+use Rattle.av_trace.specs.Command.{IsInRange, line_of}
 use Rattle.av_trace.specs.declared.command.Command.{Command}
 use Rattle.av_trace.specs.declared.command.Command.TheVariants as commands
 use Rattle.av_trace.specs.declared.place.Place.TheVariants.{Fixed}
@@ -23,7 +23,7 @@ use Rattle.av_replay.proofs.Ranges.{drawn-command}
 
 -- ---- each line
 
-good : (c : Command) → IsCommand c → IsShort c → IsGood (line_of c)
+good : (c : Command) → IsInRange c → IsShort c → IsGood (line_of c)
 good c within plain = record { is_line = record { one = plain.0; short = plain.1 }; said = Some c; says = (within, refl) }
 
 drawn : (x : ℕ) → IsDrawn (draws_of x)
@@ -38,20 +38,20 @@ turn-on-good : (area : ℕ) → area < most_names → IsGood (line_of (turn_on a
 turn-on-good area few =
     let draws = record no_draws { process = area } in
     let is : text_with draws (codes "swapon P") ≡ line_of (turn_on area) = rw (decimal_digit area (omega (arith, few))) refl in
-    good (turn_on area) (refl, (record { least = omega arith; most = omega (arith, few) }, tt))
+    good (turn_on area) (record { least = omega arith; most = omega (arith, few) }, tt)
     (short draws (codes "swapon P") (turn_on area) is refl (omega arith))
 
 spawn-good : IsGood (line_of (commands.Spawn 1))
 unfolding digits
 spawn-good =
-    good (commands.Spawn 1) (refl, record { least = omega arith; most = omega arith })
+    good (commands.Spawn 1) (record { least = omega arith; most = omega arith })
     (short no_draws (codes "spawn 1") (commands.Spawn 1) refl refl (omega arith))
 
 mmap-good : IsGood (line_of (commands.Mmap 1 65536 reads_and_writes (Fixed (address_of 0))))
 unfolding digits
 mmap-good =
     let c = commands.Mmap 1 65536 reads_and_writes (Fixed (address_of 0)) in
-    good c (refl, (record { least = omega arith; most = omega arith }, omega arith, omega arith))
+    good c (record { least = omega arith; most = omega arith }, omega arith, omega arith)
     (short no_draws (codes "mmap 1 65536 rw- fixed 10000000") c refl refl (omega arith))
 
 good-turns : (a n : ℕ) (first drawn : List Command) → a + n ≤ most_names → AllByRecursion IsGood (map line_of (first ++ drawn)) →

@@ -6,7 +6,6 @@ ghost use Rattle.av_base.specs.Limits.{most_commands};
 ghost use Rattle.av_plain.specs.Transcript.{State};
 ghost use Rattle.av_kernel.specs.Kernel.{Counts, IsSpent, Stands, Steps};
 ghost use Rattle.av_kernel.specs.Step.{has_device};
-ghost use Rattle.av_trace.specs.Command.{is_in_grammar};
 ghost use Rattle.av_replay.specs.KernelPorts.{ports_by};
 ghost use Rattle.av_replay.specs.KernelPorts.{IsAttached, OnlyDevice};
 
@@ -27,7 +26,6 @@ pub trait KernelPorts: Ports {
         command: &Command,
         reply: &mut Reply,
     ) -> Result<(), AllocError>
-        requires grammar { is_in_grammar command.now ≡ true }
         requires few { kernel.old.steps < most_commands }
         requires attached { IsAttached (Self.view self.old).device kernel.old }
         ensures stands { (s : State) → Stands kernel.old (Self.view self.old).device s → OnOk result

@@ -37,7 +37,7 @@ fn commands_of_test(alloc: Global) -> Result<[Command; 3], AllocError> {
     ])
 }
 
-/// Does a command of the grammar, one of the first three, and puts the text of its reply into
+/// Does a command, one of the first three, and puts the text of its reply into
 /// `text`.
 fn step<D: SwapDev>(
     alloc: Global,
@@ -49,7 +49,7 @@ fn step<D: SwapDev>(
     requires { D.sizes dev.old ≡ sizes_of kernel.old.sizes }
     ensures { D.sizes dev.new ≡ sizes_of kernel.new.sizes }
 {
-    if kernel.steps_done() > 2 || !command.is_in_grammar() {
+    if kernel.steps_done() > 2 {
         return Ok(false);
     }
     let reply = kernel.step(alloc, command, dev)?;

@@ -86,6 +86,15 @@ impl Spaces {
         let _ = &self.trees;
     }
 
+    /// What holds of the areas at any time: those of each process are laid, so they are below the
+    /// top.
+    pub fn keeps_laid(&self)
+        ensures { (p : ℕ) → AreLaid (pages_of self.now.processes p) }
+    {
+        // The invariant is known once a field was read.
+        let _ = &self.trees;
+    }
+
     /// Whether a process lives.
     pub fn lives(&self, process: u16) -> bool
         ensures { result ≡ is_some (areas_of self.now.processes process) }

@@ -62,6 +62,8 @@ pub struct Swap {
     flight: VecDeque<Slot>,
     // Whether the slot that a frame caches is in flight, so that no one has to search it.
     writing: Vec<bool>,
+    // Where a page is read to. It is kept, so that no load has to clear one.
+    page: [u8; PAGE_LEN],
 }
 
 impl Model for Swap {
@@ -92,14 +94,14 @@ impl Swap {
             closing: None,
             flight: VecDeque::with_capacity(alloc, frames as usize)?,
             writing: no_flags(alloc, frames)?,
+            page: [0; PAGE_LEN],
         })
     }
 
     /// Turns an area on, which has so many pages on the device, by the header on its page 0. Of two
     /// areas the one with the greater priority gives its slots first. `Err` is want of memory
     /// alone: all stays then, as where the answer is another than `On`.
-    // Never inlined, nor is `load`: its page would be on the stack of each caller, also of one that
-    // reads none.
+    // Never inlined: its page would be on the stack of each caller, also of one that reads none.
     #[inline(never)]
     pub fn swapon<D: SwapDev>(
         &mut self,
@@ -219,12 +221,11 @@ impl Swap {
             unreachable!();
         };
         area.keeps();
-        let mut page = [0; PAGE_LEN];
-        if dev.read(slot.area, slot.page, &mut page).is_err() {
+        if dev.read(slot.area, slot.page, &mut self.page).is_err() {
             return Err(Failed);
         }
         area.cache(slot.page, frame);
-        frames.load(frame, &page);
+        frames.load(frame, &self.page);
         frames.set_slot(frame, Some(slot));
         frames.set_dirty(frame, false);
         Ok(())

@@ -11,7 +11,7 @@ use Rattle.av_trace.specs.declared.command.Command.{Command}
 use Rattle.av_trace.specs.declared.command.Command.TheVariants as commands
 use Rattle.av_trace.specs.declared.place.Place.{Place}
 use Rattle.av_trace.specs.declared.mode.Mode.{Mode}
-use Rattle.av_trace.specs.Command.{IsAreaNumber, IsFrameCount, is_in_grammar, IsCommand, IsInRange, line_of, at_end, whole, no_words, fork_words, range_words, mmap_words, mprotect_words, mremap_words, read_words, write_words, CommandReader, fork_at, mmap_at, munmap_at, mprotect_at, mremap_at, madvise_at, madvise_words, mlock_at, munlock_at, read_at, write_at, area_at, frames_at, rmap_at, entry_of, swapon_words, swapon_at, slot_at, slot_words, readers, command_in, of_grammar, command_of}
+use Rattle.av_trace.specs.Command.{IsAreaNumber, IsFrameCount, IsInRange, line_of, at_end, whole, no_words, fork_words, range_words, mmap_words, mprotect_words, mremap_words, read_words, write_words, CommandReader, fork_at, mmap_at, munmap_at, mprotect_at, mremap_at, madvise_at, madvise_words, mlock_at, munlock_at, read_at, write_at, area_at, frames_at, rmap_at, entry_of, swapon_words, swapon_at, slot_at, slot_words, readers, command_in, command_of}
 use Rattle.av_text.specs.Hex.{hex, hex_text, IsData}
 use Rattle.av_text.specs.Number.{IsNumberIn, IsProcess, IsWide, process_at}
 use Rattle.av_trace.specs.declared.advice.Advice.{Advice}
@@ -193,21 +193,9 @@ words-found bytes c e =
     let s = is.fits reader.value.1 c reader.second in
     (s.0, is.is ∙ s.1)
 
--- what the grammar lets through was read, and it has it
-lets-through : (o : Option Command) (c : Command) → of_grammar o ≡ Some c → (is_in_grammar c ≡ true) × (o ≡ Some c)
-lets-through None c e = absurd cc
-lets-through (Some d) c e = by (is_in_grammar d) refl e
-  where
-    by : (b : Bool) → is_in_grammar d ≡ b → (if b then Some d else None) ≡ Some c → (is_in_grammar c ≡ true) × (Some d ≡ Some c)
-    by true has e = (subst (λ (x : Command). is_in_grammar x ≡ true) (same_Some d c e) has, e)
-    by false has e = absurd cc
-
-pub command_of-found : (bytes : List ℕ) (c : Command) → command_of bytes ≡ Some c → IsCommand c × (bytes ≡ line_of c)
+pub command_of-found : (bytes : List ℕ) (c : Command) → command_of bytes ≡ Some c → IsInRange c × (bytes ≡ line_of c)
 unfolding command_of
-command_of-found bytes c e =
-    let has = lets-through (command_in readers bytes) c e in
-    let is = words-found bytes c has.1 in
-    ((has.0, is.0), is.1)
+command_of-found bytes c e = words-found bytes c e
 
 -- ---- what is read again
 
@@ -250,10 +238,9 @@ words-again (commands.Entry p address) h = whole-again entries tt _ (p, address)
 words-again (commands.Slot k page) h = whole-again slots tt _ (k, page) h
 words-again commands.Stat h = whole-again nothing tt (λ x. commands.Stat) tt tt
 
-pub command_of-again : (c : Command) → IsCommand c → command_of (line_of c) ≡ Some c
+pub command_of-again : (c : Command) → IsInRange c → command_of (line_of c) ≡ Some c
 unfolding command_of
-command_of-again c h =
-    ap of_grammar (words-again c h.1) ∙ ap (λ (b : Bool). if b then Some c else None) h.0
+command_of-again c h = words-again c h
 
 -- ---- want of memory
 

@@ -2,7 +2,7 @@
 use Rattle.std.proofs.Common.{true, false, ◌≡◌, ℕ, List, [], ◌∷◌, Option, Some, None, refl, ap, ◌∙◌}
 use Rattle.std.proofs.lemmas.Bool.{eqb-true}
 use Rattle.av_trace.specs.declared.command.Command.{Command}
-use Rattle.av_trace.specs.Command.{IsInRange, command_in, command_of, is_in_grammar, line_of, readers}
+use Rattle.av_trace.specs.Command.{command_in, command_of, line_of, readers}
 use Rattle.av_trace.specs.Line.{is_blank, Says}
 use Rattle.av_text.specs.Word.{after}
 use Rattle.av_trace.proofs.CommandLaws.{command_of-again, words-again}
@@ -18,7 +18,7 @@ comment : (bytes : List ℕ) → command_in readers (35 ∷ bytes) ≡ None
 unfolding after
 comment bytes = refl
 
--- no command is read of a blank line, in the grammar or not
+-- no command is read of a blank line
 blank_none : (line : List ℕ) → is_blank line ≡ true → command_in readers line ≡ None
 unfolding after
 blank_none [] h = refl
@@ -26,7 +26,7 @@ blank_none (b ∷ bytes) h = ap (λ (c : ℕ). command_in readers (c ∷ bytes))
 
 never_both : (line : List ℕ) (c : Command) → is_blank line ≡ true → Says line (Some c) → ⊥
 never_both line c blank says =
-    let read : command_in readers line ≡ Some c = ap (command_in readers) says.1 ∙ words-again c says.0.1 in
+    let read : command_in readers line ≡ Some c = ap (command_in readers) says.1 ∙ words-again c says.0 in
     let none = blank_none line blank in
     cc
 
@@ -37,17 +37,4 @@ says_one line (Some c) None says others = absurd (never_both line c others says)
 says_one line (Some c) (Some d) says others =
     let read : command_of line ≡ Some c = ap command_of says.1 ∙ command_of-again c says.0 in
     let read' : command_of line ≡ Some d = ap command_of others.1 ∙ command_of-again d others.0 in
-    cc
-
--- the text of a command that the grammar doesn't have is no line
-pub says_nothing : (command : Command) → IsInRange command → is_in_grammar command ≡ false
-    → (said : Option Command) → Says (line_of command) said → ⊥
-says_nothing command fits lacks None says =
-    let read = words-again command fits in
-    let none = blank_none (line_of command) says in
-    cc
-says_nothing command fits lacks (Some c) says =
-    let read = words-again command fits in
-    let other : command_in readers (line_of command) ≡ Some c = ap (command_in readers) says.1 ∙ words-again c says.0.1 in
-    let has = says.0.0 in
     cc

@@ -8,7 +8,6 @@ use Rattle.av_base.specs.declared.prot.Prot.{Prot}
 use Rattle.av_trace.specs.declared.place.Place.{Place}
 use Rattle.av_trace.specs.declared.mode.Mode.{Mode}
 use Rattle.av_trace.specs.declared.advice.Advice.{Advice}
-use Rattle.av_trace.specs.declared.advice.Advice.TheVariants.{Mergeable, Unmergeable}
 use Rattle.av_trace.specs.declared.command.Command.{Command}
 use Rattle.av_trace.specs.declared.command.Command.TheVariants as commands
 use Rattle.av_text.specs.Word.{line, ◌>>=◌, Reader, both, by_name}
@@ -59,19 +58,7 @@ IsInRange (commands.Entry p address) = IsProcess p × IsWide address
 IsInRange (commands.Slot k page) = IsAreaNumber k × IsNumberIn 0 (2 ^ 32 - 1) page
 IsInRange commands.Stat = Unit {0}
 
--- whether the grammar has the command: the others have a text and a meaning, and no line yet
-abbrev pub is_in_grammar : Command → Bool
-is_in_grammar (commands.Madvise p address len Mergeable) = false
-is_in_grammar (commands.Madvise p address len Unmergeable) = false
-is_in_grammar commands.Merge = false
-is_in_grammar commands.Compact = false
-is_in_grammar c = true
-
--- a command of the grammar, with values in range
-abbrev pub IsCommand : Command → Type 0
-IsCommand c = (is_in_grammar c ≡ true) × IsInRange c
-
--- the one text of a command, which is its line where the grammar has it
+-- the one text of a command, which is its line
 abbrev pub line_of : Command → List ℕ
 line_of (commands.Spawn p) = line (codes "spawn") (decimal p ∷ [])
 line_of (commands.Fork p q) = line (codes "fork") (decimal p ∷ decimal q ∷ [])
@@ -287,11 +274,6 @@ readers =
 abbrev pub command_in : List (List ℕ × CommandReader) → CommandReader
 command_in names line = by_name names line >>= λ found. found.0 found.1
 
--- the command that was read, if there is one and the grammar has it
-abbrev pub of_grammar : Option Command → Option Command
-of_grammar None = None
-of_grammar (Some c) = if is_in_grammar c then Some c else None
-
--- the command of a whole line: what its words read as, if the grammar has that
+-- the command of a whole line: what its words read as
 unfoldable pub command_of : CommandReader
-command_of line = of_grammar (command_in readers line)
+command_of line = command_in readers line

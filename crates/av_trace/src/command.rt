@@ -7,7 +7,7 @@ ghost use Rattle.av_trace.specs.Command.{advice_readers, madvise_at, mlock_at, m
 ghost use Rattle.av_trace.specs.Command.{frames_at, rmap_at, entry_of, slot_at, swapon_at};
 ghost use Rattle.av_trace.specs.Command.{command_in, command_of, process_readers, range_readers};
 ghost use Rattle.av_trace.specs.Command.{swap_readers, frame_readers, report_readers};
-ghost use Rattle.av_trace.specs.Command.{is_in_grammar, of_grammar, range_words};
+ghost use Rattle.av_trace.specs.Command.{range_words};
 ghost use Rattle.av_text.specs.Number.{process_at};
 ghost use Rattle.av_text.specs.Word.{BeginsWith};
 
@@ -26,7 +26,7 @@ use std::alloc::{AllocError, Global};
 /// What a line asks for, with the words of the line in order.
 ///
 /// Addresses and lengths are in bytes; each length but that of `Read` is rounded up to whole pages.
-/// Swap areas are 0 to 7. For what `is_in_grammar` leaves out no line asks yet.
+/// Swap areas are 0 to 7.
 #[derive(Drop)]
 pub enum Command {
     Spawn {
@@ -127,23 +127,6 @@ pub enum Command {
         page: u32,
     },
     Stat,
-}
-
-impl Command {
-    /// Whether the grammar has the command. Lines of the others say nothing yet, and no kernel
-    /// answers these.
-    pub fn is_in_grammar(&self) -> bool
-        ensures { result ≡ is_in_grammar self.now }
-    {
-        !matches!(
-            self,
-            Command::Madvise {
-                advice: Advice::Mergeable | Advice::Unmergeable,
-                ..
-            } | Command::Merge
-                | Command::Compact
-        )
-    }
 }
 
 /// The command, if nothing is left.
@@ -558,17 +541,6 @@ fn read_change(line: &[u8], command: &mut Option<Command>)
     }
 }
 
-/// Leaves a command only if the grammar has it.
-fn keep_of_grammar(command: &mut Option<Command>)
-    ensures { command.new ≡ of_grammar command.old }
-{
-    if let Some(read) = command
-        && !read.is_in_grammar()
-    {
-        *command = None;
-    }
-}
-
 /// Reads the command of a whole line. Only a write takes memory, and first that of `spare`.
 #[tactic(auto, unfolding(crate::specs::Command::command_of))]
 pub fn read_command(
@@ -587,6 +559,5 @@ pub fn read_command(
     } else {
         read_change(line, command);
     }
-    keep_of_grammar(command);
     Ok(())
 }

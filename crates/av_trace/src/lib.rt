@@ -1,11 +1,10 @@
 //! A trace: what its lines command, and the text of each reply.
 //!
 //! Proved: a line is accepted exactly where it is one of the grammar (`specs/Command.antt`), and
-//! says one thing (`parse_line`, `one_meaning`); a command that the grammar doesn't have yet has a
-//! text, and that is no line (`is_in_grammar`, `no_line_yet`); the text of every reply, exactly
-//! (`reply_text`), of its answer (`answer_line`) and of each note (`note_text`); two replies with
-//! one text are equal, whatever the commands (`one_reply`). Without memory `parse_line` fails only
-//! at a write, and what adds a text may have added a part of it.
+//! says one thing (`parse_line`, `one_meaning`); the text of every reply, exactly (`reply_text`), of
+//! its answer (`answer_line`) and of each note (`note_text`); two replies with one text are equal,
+//! whatever the commands (`one_reply`). Without memory `parse_line` fails only at a write, and what
+//! adds a text may have added a part of it.
 //!
 //! Only tested: nothing. Which reply a command has is no matter of this crate.
 #![tactic(auto)]
@@ -23,7 +22,7 @@ mod row;
 
 pub use advice::Advice;
 pub use command::Command;
-pub use line::{LineErr, no_line_yet, one_meaning, parse_line, parse_line_into};
+pub use line::{LineErr, one_meaning, parse_line, parse_line_into};
 pub use mode::Mode;
 pub use note::{Cause, Note, Notes};
 pub use place::Place;

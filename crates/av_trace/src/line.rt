@@ -1,8 +1,7 @@
 //! What a line says.
 
-ghost use Rattle.std.specs.Prelude.{◌≡◌, List, ℕ, Option, codes, false, IfOk, OnOk, IsErrOf};
+ghost use Rattle.std.specs.Prelude.{◌≡◌, List, ℕ, Option, codes, IfOk, OnOk, IsErrOf};
 ghost use Rattle.av_trace.specs.declared.command.Command.{Command as AnyCommand};
-ghost use Rattle.av_trace.specs.Command.{IsInRange, is_in_grammar, line_of};
 ghost use Rattle.av_trace.specs.Line.{is_blank, Says};
 ghost use Rattle.av_text.specs.Word.{BeginsWith};
 
@@ -77,10 +76,4 @@ pub fn parse_line_into(
 /// A line says one thing at most.
 pub fn one_meaning()
     ensures { (line : List ℕ) (a b : Option AnyCommand) → Says line a → Says line b → a ≡ b }
-{}
-
-/// The text of a command that the grammar doesn't have says nothing, not even as a comment.
-pub fn no_line_yet()
-    ensures { (command : AnyCommand) → IsInRange command → is_in_grammar command ≡ false
-        → (said : Option AnyCommand) → Says (line_of command) said → ⊥ }
 {}

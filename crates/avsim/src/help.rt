@@ -41,7 +41,7 @@ Trace
                          priority, 0 to 32767
   HEX                    bytes, two hexadecimal digits for each, at most 4096
   PROT                   rw-, r--, --- or another of the eight
-  ADVICE                 what is said of pages: one of five words
+  ADVICE                 what is said of pages: one of seven words
   K, M                   a swap area, 0 to 7, and a page of it
 
 Commands
@@ -69,6 +69,8 @@ Commands
     .. dofork            it does again
     .. wipeonfork        a child has zeros in its place
     .. keeponfork        it doesn't any more
+    .. mergeable         a merge looks at it
+    .. unmergeable       it doesn't any more
   mlock P A LEN          the pages of the range are locked, and come in: no
                          reclaim and no pass takes their frames
   munlock P A LEN        they are locked no more
@@ -88,6 +90,9 @@ Commands
   reclaim N              send the last N inactive frames out, or keep them
   age N                  move the last N active frames to the inactive list
   complete N             end the first N writes that are in flight
+  merge                  let pages that hold the same bytes share a frame, where
+                         they are advised so
+  compact                move frames, so that those in use are the lowest
 
 Replies
   ok, map A, data HEX, on SLOTS BAD, err NAME, what a report shows; or byte k
@@ -95,7 +100,7 @@ Replies
   segv k                 its page isn't mapped, or the protection forbids it
   oom k pinned= noslot= fault=
                          no frame could be freed; the numbers say why, with
-                         locked= behind them where frames are locked
+                         locked= and ksm= where frames are locked or merged
   bus k                  the device didn't give its page
   err ENOMEM pinned= noslot= fault=
                          swapoff: no frame could be freed; what it brought
@@ -111,9 +116,12 @@ Replies
   start K:M              the write of a slot is in flight
   done K:M, fail K:M     it ended well, or not
   drop K:M               the slot is cached no longer
-  keep f CAUSE           reclaim kept frame f: locked, writeback, referenced,
-                         noslot, or its write has just started
+  keep f CAUSE           reclaim kept frame f: locked, ksm, writeback,
+                         referenced, noslot, or its write has just started
   age f                  frame f is inactive now
+  share f                frame f is merged: equal pages may share it
+  join P A g             the page's entry is the merged frame g now
+  move g f               frame f is now what frame g was
 
 Example
   printf 'spawn 1\\nmmap 1 4096 rw-\\nwrite 1 7fffffffe000 41\\n' | avsim run 4

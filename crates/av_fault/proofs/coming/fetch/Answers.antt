@@ -4,7 +4,7 @@ use Rattle.av_plain.specs.Device.{as_told, seen_by}
 use Rattle.av_mem.proofs.ComingBack.{got-told, seen-same, told-still}
 use Rattle.av_fault.specs.Coming.{Fetches, HasCome}
 use Rattle.av_fault.specs.Seek.{HasSought}
-use Rattle.av_fault.proofs.Between.{seen-says}
+use Rattle.av_mem.proofs.Between.{seen-says}
 use Rattle.av_fault.proofs.ComingLaws.{come-cached, come-loaded, come-lost, come-out, to-load, told-rose, told-asked}
 use Rattle.av_fault.proofs.coming.fetch.Goals as goal
 

@@ -3,7 +3,7 @@ use Rattle.av_plain.specs.Device.{Calls, as_told, device_by, seen_by}
 use Rattle.av_plain.specs.Fault.{CopyOnWrite}
 use Rattle.av_fault.specs.Seek.{HasSought}
 use Rattle.av_fault.specs.declared.seek.Got.TheVariants.{Frame, Out}
-use Rattle.av_fault.proofs.Between.{between-some}
+use Rattle.av_mem.proofs.Between.{between-some}
 use Rattle.av_fault.proofs.CopyLaws.{copy-made, copy-mapped, copy-names, copy-needs}
 use Rattle.av_fault.proofs.SharedLaws.{shared-in}
 use Rattle.av_fault.proofs.SoughtLaws.{free-sought}

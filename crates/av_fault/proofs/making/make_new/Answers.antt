@@ -5,7 +5,7 @@ use Rattle.av_plain.specs.Ledger.{entry}
 use Rattle.av_pagetable.specs.Entries.{entry_at}
 use Rattle.av_fault.specs.Seek.{HasSought}
 use Rattle.av_fault.specs.declared.seek.Got.TheVariants.{Frame}
-use Rattle.av_fault.proofs.Between.{between-some}
+use Rattle.av_mem.proofs.Between.{between-some}
 use Rattle.av_fault.proofs.EntryLaws.{entry-is}
 use Rattle.av_fault.proofs.NewLaws.{bare-blank, blank-needs, free-taken, new-made}
 use Rattle.av_fault.proofs.SoughtLaws.{lives-sought, mapped-sought}

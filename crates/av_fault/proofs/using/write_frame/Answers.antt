@@ -7,7 +7,7 @@ use Rattle.av_plain.specs.Ledger.{slot_of}
 use Rattle.av_plain.specs.Load.{with_loads}
 use Rattle.av_plain.proofs.Access.{note_events-all}
 use Rattle.av_mem.specs.Mem.{setting_by}
-use Rattle.av_fault.proofs.Between.{between-some}
+use Rattle.av_mem.proofs.Between.{between-some}
 use Rattle.av_fault.proofs.DropLaws.{dropped-alone}
 use Rattle.av_fault.proofs.MadeLaws.{used-made, write-needs}
 use Rattle.av_fault.proofs.SharedLaws.{shared-in}

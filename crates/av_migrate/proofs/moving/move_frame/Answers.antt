@@ -2,7 +2,7 @@ use Rattle.std.proofs.Common.{List, ap, refl, ◌∙◌}
 use Rattle.av_base.specs.Keys.{Key}
 use Rattle.av_pagetable.specs.Entries.{entry_at}
 use Rattle.av_mem.specs.declared.mem.Mem.{Mem}
-use Rattle.av_migrate.specs.Pointed.{pointed_at}
+use Rattle.av_migrate.specs.Point.{with_frame_at}
 use Rattle.av_migrate.proofs.MovingLaws.{cached-as, gone-view, no-items, not-active, not-cached, not-inactive}
 use Rattle.av_migrate.proofs.moving.move_frame.Goals as goal
 
@@ -38,7 +38,7 @@ returns-clause-moved g c =
     gone-view old new c.args.from c.args.to c.in_ok-keys.keys.items (record {
       rest = refl;
       entries = c.point_all.ensures.entries
-          ∙ ap (λ (keys : List Key). pointed_at keys c.args.to (entry_at old.tables)) c.deref.ensures.value;
+          ∙ ap (λ (keys : List Key). with_frame_at keys c.args.to (entry_at old.tables)) c.deref.ensures.value;
       processes = c.point_all.ensures.processes;
       swap = c.rename.ensures;
       lists = c.rename-2.ensures;

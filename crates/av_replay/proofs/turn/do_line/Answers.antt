@@ -3,10 +3,6 @@ use Rattle.std.proofs.lemmas.Result.{err_from_is_err_and}
 use Rattle.av_replay.proofs.Turns.{handed_or_left}
 use Rattle.av_replay.proofs.turn.do_line.Goals as goal
 
--- what a line says is of the grammar
-pub answer-requires-clause-grammar : goal.answer-requires-clause-grammar
-answer-requires-clause-grammar g c = let says = rw c.in-Some.is at c.in-Ok.ensures.found in says.0.0
-
 pub returns-clause-ok : goal.returns-clause-ok
 returns-clause-ok g c =
     let counted = c.in_ok-answer.ensures.counts in

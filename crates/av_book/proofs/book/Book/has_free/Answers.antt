@@ -1,4 +1,4 @@
-use Rattle.std.proofs.Common.{sym, ◌∙◌, arith}
+use Rattle.std.proofs.Common.{sym, ◌∙◌}
 use Rattle.av_plain.specs.Ledger.{is_free}
 use Rattle.av_book.specs.Book.{ledger_of}
 use Rattle.av_book.proofs.RangeLaws.{any-next}

@@ -1,9 +1,9 @@
-use Rattle.std.proofs.Common.{not, rules, ap, ◌∙◌, ◌++◌}
+use Rattle.std.proofs.Common.{rules, ap, ◌∙◌, ◌++◌}
 use Rattle.std.specs.Prelude.{filter, reverse}
 use Rattle.std.proofs.lemmas.Fn.{filter_same}
 use Rattle.av_plain.specs.Pass.{has_turn}
 use Rattle.av_book.specs.Book.{ledger_of}
-use Rattle.av_book.specs.Pass.{spared_of}
+use Rattle.av_book.specs.Spared.{spared_of}
 use Rattle.av_book.proofs.book.Book.in_turn.Goals as goal
 
 pub returns : goal.returns

@@ -1,4 +1,4 @@
-use Rattle.std.proofs.Common.{ap, sym, ◌∙◌}
+use Rattle.std.proofs.Common.{ap, ◌∙◌}
 use Rattle.std.specs.Prelude.{nat_lt}
 use Rattle.av_base.specs.Keys.{Key}
 use Rattle.av_plain.specs.Ledger.{Entry}

@@ -1,4 +1,4 @@
-use Rattle.std.proofs.Common.{ap, ◌∙◌, not, rules, ◌==◌, filter}
+use Rattle.std.proofs.Common.{ap, ◌∙◌, not, rules, ◌==◌}
 use Rattle.std.proofs.lemmas.Fn.{filter_same}
 use Rattle.av_base.specs.Words.{without}
 use Rattle.av_plain.specs.Ledger.{Ledger}

@@ -1,12 +1,13 @@
 use Rattle.std.proofs.Common.{ap, map, ◌∙◌}
-use Rattle.av_book.specs.Book.{areas_of, cached_of, entries_of}
-use Rattle.av_book.proofs.BookLaws.{put-entry}
+use Rattle.av_base.specs.Keys.{key_cmp}
+use Rattle.av_book.specs.Book.{areas_of, cached_of, entries_of, entry_of}
+use Rattle.av_book.proofs.MapLaws.{put-says}
 use Rattle.av_book.proofs.book.Book.set.Goals as goal
 
 pub returns : goal.returns
 returns c =
     let same = ap entries_of c.in_ok-insert.ensures.entries
-    ∙ put-entry c.args.self.now.entries.entries (c.args.process, c.args.page) c.args.entry in
+    ∙ put-says key_cmp entry_of c.args.self.now.entries.entries (c.args.process, c.args.page) c.args.entry in
     λ i. record {
       entries = same i;
       cache = map cached_of c.args.self.now.cache.items;

@@ -2,14 +2,14 @@ use Rattle.std.proofs.Common.{ap, cond, map, rules, ◌∙◌}
 use Rattle.std.proofs.lemmas.Map.Made.{map_same_pairs}
 use Rattle.av_plain.specs.Ledger.{InSlot as PlainInSlot}
 use Rattle.av_plain.specs.Ledger.{names_frame}
-use Rattle.av_book.specs.Book.{areas_of, cached_of, entries_of, moved_of}
-use Rattle.av_book.proofs.BookLaws.{change-entries, moved-is}
+use Rattle.av_book.specs.Book.{areas_of, cached_of, entries_of, with_slot}
+use Rattle.av_book.proofs.BookLaws.{change-entries, slot-is}
 use Rattle.av_book.proofs.book.Book.unmap.Goals as goal
 
 pub returns : goal.returns
 returns c =
-    let same = ap entries_of (map_same_pairs _ (moved_of c.args.frame c.args.slot) _ (λ k v b w f' t. search rules) _ _ c.retain.ensures.filtered)
-    ∙ change-entries (moved_of c.args.frame c.args.slot) (λ e. cond (names_frame c.args.frame e) (PlainInSlot c.args.slot) e) (moved-is c.args.frame c.args.slot)
+    let same = ap entries_of (map_same_pairs _ (with_slot c.args.frame c.args.slot) _ (λ k v b w f' t. search rules) _ _ c.retain.ensures.filtered)
+    ∙ change-entries (with_slot c.args.frame c.args.slot) (λ e. cond (names_frame c.args.frame e) (PlainInSlot c.args.slot) e) (slot-is c.args.frame c.args.slot)
     c.args.self.now.entries.entries in
     λ i. record {
       entries = same i;

@@ -2,14 +2,14 @@ use Rattle.std.proofs.Common.{ap, cond, map, rules, ◌∙◌}
 use Rattle.std.proofs.lemmas.Map.Made.{map_same_pairs}
 use Rattle.av_plain.specs.Event.{without_seen}
 use Rattle.av_plain.specs.Ledger.{names_frame}
-use Rattle.av_book.specs.Book.{areas_of, cached_of, entries_of, unseen_of}
+use Rattle.av_book.specs.Book.{areas_of, cached_of, entries_of, without_seen_of}
 use Rattle.av_book.proofs.BookLaws.{change-entries, unseen-is}
 use Rattle.av_book.proofs.book.Book.unsee.Goals as goal
 
 pub returns : goal.returns
 returns c =
-    let same = ap entries_of (map_same_pairs _ (unseen_of c.args.frame) _ (λ k v b w f' t. search rules) _ _ c.retain.ensures.filtered)
-    ∙ change-entries (unseen_of c.args.frame) (λ e. cond (names_frame c.args.frame e) (without_seen e) e) (unseen-is c.args.frame)
+    let same = ap entries_of (map_same_pairs _ (without_seen_of c.args.frame) _ (λ k v b w f' t. search rules) _ _ c.retain.ensures.filtered)
+    ∙ change-entries (without_seen_of c.args.frame) (λ e. cond (names_frame c.args.frame e) (without_seen e) e) (unseen-is c.args.frame)
     c.args.self.now.entries.entries in
     λ i. record {
       entries = same i;

@@ -1,4 +1,4 @@
-use Rattle.std.proofs.Common.{◌<◌, length, subst, sym, ◌∙◌, ap, ℕ, List, get_or}
+use Rattle.std.proofs.Common.{◌<◌, length, subst, sym, refl, ◌∙◌, ap}
 use Rattle.av_frames.specs.Store.{Store, shown}
 use Rattle.av_frames.specs.contracts.frames.Frames.{the_view}
 use Rattle.av_frames.proofs.Free.{seen_laid}
@@ -8,5 +8,4 @@ pub returns : goal.returns
 returns c =
     let s = the_view c.self.inside in
     let below : c.args.frame < length s.bytes = subst (λ (v : Store). c.args.frame < length v.bytes) (sym c.self.view_is) c.requires.in_range in
-    rw (← c.self.view_is) (ap (λ b. shown (record s { bytes = b })) c.put.ensures ∙ seen_laid s c.args.frame c.page_of.result _ below
-    (λ i. ap (λ (b : List ℕ). get_or b i 0) c.page_of.ensures))
+    rw (← c.self.view_is) (ap (λ b. shown (record s { bytes = b })) c.put.ensures ∙ seen_laid s c.args.frame c.args.page.now _ below (λ i. refl))

@@ -8,4 +8,4 @@ pub returns : goal.returns
 returns c =
     let s = the_view c.self.inside in
     let below : c.args.frame < length s.bytes = subst (λ (v : Store). c.args.frame < length v.bytes) (sym c.self.view_is) c.requires in
-    rw (← c.self.view_is) (ap (λ b. shown (record s { bytes = b })) c.put.ensures ∙ seen_laid s c.args.frame _ _ below (zeros 4096))
+    rw (← c.self.view_is) (ap (λ b. shown (record s { bytes = b })) c.clear.ensures ∙ seen_laid s c.args.frame _ _ below (zeros 4096))

@@ -11,8 +11,10 @@ returns c =
       arith,
       length_pages s.filled.items s.count few,
       subst (λ (v : List (List ℕ)). c.args.frame < length v)
-          (sym c.self.view_is) c.requires,
+          (sym c.self.view_is) c.requires.in_range,
     ) in
-    ap (λ l. all_pages (slice_set l c.args.frame c.args.page) s.count) c.fill.ensures.items
-    ∙ page_set s.filled.items c.args.frame s.count c.args.page below
-    ∙ ap (λ v. slice_set v c.args.frame c.args.page) c.self.view_is
+    let page = c.overwrite.new.page in
+    ap (λ l. all_pages (slice_set l c.args.frame page) s.count) c.fill.ensures.items
+    ∙ page_set s.filled.items c.args.frame s.count page below
+    ∙ ap (λ v. slice_set v c.args.frame page) c.self.view_is
+    ∙ ap (slice_set c.args.self.now c.args.frame) c.overwrite.ensures

@@ -1,0 +1,3 @@
+pub mod SparingLaws
+pub mod TakeLaws
+pub mod ComeLaws

@@ -1,0 +1,4 @@
+pub mod Sparing
+pub mod Take
+pub mod Come
+pub mod Drop

@@ -1,0 +1,47 @@
+//! What a pass spares in an access.
+
+ghost use Rattle.std.specs.Prelude.{◌≡◌, IfOk};
+ghost use Rattle.av_plain.specs.Fault.{sparing as sparing_of};
+ghost use Rattle.av_plain.specs.World.{World};
+ghost use Rattle.av_book.specs.Book.{ledger_of};
+ghost use Rattle.av_book.specs.Spared.{spared_of};
+ghost use Rattle.av_world.specs.Memories.{IsWorld};
+ghost use Rattle.av_access_judge.specs.Sparing.{locked_of};
+
+use av_book::{Book, Entry, Spared};
+use av_world::Memories;
+use std::alloc::{AllocError, Global};
+
+/// The frames of locked pages.
+fn locked_frames(alloc: Global, book: &Book, memories: &Memories) -> Result<Vec<u32>, AllocError>
+    ensures { IfOk result (λ made. (w : World) → IsWorld memories.now w
+        → made.items ≡ locked_of w book.now.entries.entries) }
+{
+    let mut made = Vec::new(alloc);
+    for (key, entry) in book.entries.iter() {
+        if let Entry::InFrame { frame, .. } = *entry {
+            if memories.locks(key.0, key.1) {
+                made.push(frame)?;
+            }
+        }
+    }
+    Ok(made)
+}
+
+/// What a pass spares for a page of an access, beside the frame that is to be copied.
+pub fn sparing(
+    alloc: Global,
+    book: &Book,
+    memories: &Memories,
+    pinned: Option<u32>,
+) -> Result<Spared, AllocError>
+    ensures { IfOk result (λ spared. (w : World) → IsWorld memories.now w
+        → spared_of spared ≡ sparing_of w (ledger_of book.now) pinned) }
+{
+    let locked = locked_frames(alloc, book, memories)?;
+    Ok(Spared {
+        pinned,
+        locked,
+        closing: None,
+    })
+}

@@ -1,0 +1,196 @@
+-- Units of commands that have one reply.
+use Rattle.std.proofs.Common.{◌≡◌, ℕ, Bool, true, false, cond, List, [], Some, None, refl, sym, ap, subst, ◌∙◌}
+use Rattle.std.specs.Prelude.{◌+◌, ◌∷◌, ◌||◌, ◌==◌, MatchBool, MatchOption, is_some, nat_lt, not}
+use Rattle.av_trace.specs.declared.command.Command.{Command}
+use Rattle.av_trace.specs.declared.command.Command.TheVariants.{Age, Complete, Munmap, Spawn}
+use Rattle.av_trace.specs.declared.reply.Errno.{Errno}
+use Rattle.av_trace.specs.declared.reply.Errno.TheVariants.{Einval, Esrch}
+use Rattle.av_base.specs.Page.{is_on_page}
+use Rattle.av_trace.specs.declared.reply.Answer.{Answer}
+use Rattle.av_trace.specs.declared.reply.Answer.TheVariants.{Done, Refused}
+use Rattle.av_trace.specs.declared.reply.Reply.{Reply}
+use Rattle.av_trace.specs.declared.row.Row.{Row}
+use Rattle.av_trace.specs.Print.{text_of}
+use Rattle.av_trace.specs.Reply.{IsReply, answer_only}
+use Rattle.av_plain.specs.Event.{Event, notes_of}
+use Rattle.av_plain.specs.Ledger.{Ledger, Setting}
+use Rattle.av_plain.specs.Load.{after_loads, with_loads}
+use Rattle.av_plain.specs.Refusal.{Refuses, refusal, tests, top}
+use Rattle.av_plain.specs.Step.{Follows, IsLegal, next, next_world}
+use Rattle.av_plain.specs.World.{World, lives, no_pages, set_process}
+use Rattle.av_plain.proofs.Refusal.{refused-next}
+use Rattle.av_audit_laws.specs.Unit.{IsUnit, Leaves}
+use Rattle.av_book.specs.Book.{ledger_of}
+use Rattle.av_book.specs.declared.book.Book.{Book}
+use Rattle.av_judge.specs.Says.{SaysOnly}
+use Rattle.av_judge.specs.Verdict.{IsVerdict}
+use Rattle.av_world.specs.Memories.{IsWorld}
+use Rattle.av_world.specs.declared.memories.Memories.{Memories}
+use Rattle.av_audit.specs.Judge.{IsAt, IsLeft, IsRight, IsSeen, verdict_of}
+use Rattle.av_audit.specs.declared.auditor.Verdict.{Verdict}
+use Rattle.av_audit.specs.declared.auditor.Auditor.{Auditor}
+
+-- where devices tell their pages nothing is forgotten
+pub loads-told : (m : Setting) (w : World) (l : Ledger) (es : List Event) → is_some m.headers ≡ true → with_loads m w l es ≡ w
+loads-told m w l es told = ap (λ b. cond b w (after_loads w l es)) told
+
+-- a command has this answer alone, and nothing happens
+pub record IsPlain (m : Setting) (w : World) (l : Ledger) (command : Command) (answer : Answer) : Type 0 where
+  pub legal : IsLegal m w l command (answer_only answer) []
+  pub only : (reply : Reply) (events : List Event) → IsLegal m w l command reply events
+      → reply ≡ answer_only answer
+
+-- where these are the next memories, this is what is said
+pub plain-seen : (m : Setting) (w : World) (l : Ledger) (command : Command) (unit : List ℕ) (answer : Answer)
+    (legal : Bool) (new : Memories) → IsPlain m w l command answer → SaysOnly legal unit answer
+    → IsReply (answer_only answer)
+    → (legal ≡ true → IsWorld new (next_world m w l [] command answer))
+    → IsSeen m w l command unit legal new
+plain-seen m w l command unit answer true new h says form at = (
+  next_world m w l [] command answer,
+  (answer_only answer, [], record { form = form; text = says; legal = h.legal }, refl, refl),
+  at refl,
+)
+plain-seen m w l command unit answer false new h says form at = λ u.
+    says (u.2.text ∙ ap text_of (h.only u.0 u.1 u.2.legal))
+
+same-reply : (reply : Reply) (answer : Answer) → reply.answer ≡ answer → reply.notes ≡ [] → reply.rows ≡ []
+    → reply ≡ answer_only answer
+same-reply reply answer a n r = λ i. record { answer = a i; notes = n i; rows = r i }
+
+-- ---- a refusal
+
+refused-plain : (m : Setting) (w : World) (l : Ledger) (command : Command) (error : Errno)
+    → refusal (tests m w l command) ≡ Some error → IsPlain m w l command (Refused error)
+refused-plain m w l command error is = record {
+  legal = record {
+    answer = subst (λ o. MatchOption o (Follows m w l command [] (Refused error) [])
+        (λ e. Refuses e [] (Refused error) [])) (sym is) (refl, refl, refl);
+    notes = refl;
+  };
+  only = λ reply events h. only reply events h.notes
+      (subst (λ o. MatchOption o (Follows m w l command events reply.answer reply.rows)
+      (λ e. Refuses e events reply.answer reply.rows)) is h.answer);
+}
+  where
+    only : (reply : Reply) (events : List Event) → reply.notes ≡ notes_of events
+        → Refuses error events reply.answer reply.rows → reply ≡ answer_only (Refused error)
+    only reply events notes h = same-reply reply (Refused error) h.0 (notes ∙ ap notes_of h.1) h.2
+
+pub refused-seen : (m : Setting) (w : World) (l : Ledger) (command : Command) (unit : List ℕ) (error : Errno) (legal : Bool)
+    (memories : Memories) → is_some m.headers ≡ true → refusal (tests m w l command) ≡ Some error
+    → SaysOnly legal unit (Refused error) → IsWorld memories w → IsSeen m w l command unit legal memories
+refused-seen m w l command unit error legal memories told is says at =
+    let stays : next_world m w l [] command (Refused error) ≡ w =
+    ap (λ v. next v command (Refused error)) (loads-told m w l [] told) ∙ refused-next m w w l command error is in
+    plain-seen m w l command unit (Refused error) legal memories (refused-plain m w l command error is) says
+    (record { answer = tt; rest = (tt, refl) }) (λ _. subst (IsWorld memories) (sym stays) at)
+
+-- ---- a command that isn't refused, and has one answer without events
+
+followed-plain : (m : Setting) (w : World) (l : Ledger) (command : Command) (answer : Answer)
+    → refusal (tests m w l command) ≡ None → Follows m w l command [] answer []
+    → ((events : List Event) (other : Answer) (rows : List Row) → Follows m w l command events other rows
+    → (other ≡ answer) × (events ≡ []) × (rows ≡ []))
+    → IsPlain m w l command answer
+followed-plain m w l command answer is does one = record {
+  legal = record {
+    answer = subst (λ o. MatchOption o (Follows m w l command [] answer [])
+        (λ e. Refuses e [] answer [])) (sym is) does;
+    notes = refl;
+  };
+  only = λ reply events h. only reply events h.notes
+      (subst (λ o. MatchOption o (Follows m w l command events reply.answer reply.rows)
+      (λ e. Refuses e events reply.answer reply.rows)) is h.answer);
+}
+  where
+    only : (reply : Reply) (events : List Event) → reply.notes ≡ notes_of events
+        → Follows m w l command events reply.answer reply.rows → reply ≡ answer_only answer
+    only reply events notes h =
+        let same = one events reply.answer reply.rows h in
+        same-reply reply answer same.0 (notes ∙ ap notes_of same.1) same.2
+
+pub spawn-seen : (m : Setting) (w : World) (l : Ledger) (p : ℕ) (unit : List ℕ) (legal : Bool) (new : Memories)
+    → is_some m.headers ≡ true → refusal (tests m w l (Spawn p)) ≡ None → SaysOnly legal unit Done
+    → (legal ≡ true → IsWorld new (set_process w p no_pages)) → IsSeen m w l (Spawn p) unit legal new
+spawn-seen m w l p unit legal new told is says now =
+    plain-seen m w l (Spawn p) unit Done legal new
+    (followed-plain m w l (Spawn p) Done is (refl, refl, refl) (λ events other rows h. h)) says
+    (record { answer = tt; rest = (tt, refl) })
+    (λ yes. subst (λ v. IsWorld new (set_process v p no_pages)) (sym (loads-told m w l [] told)) (now yes))
+
+-- ---- what the auditor says
+
+pub seen-right : (m : Setting) (w : World) (l : Ledger) (command : Command) (unit : List ℕ) (legal : Bool) (new : Auditor)
+    → IsSeen m w l command unit legal new.memories → l ≡ ledger_of new.book
+    → IsRight m w l command unit (verdict_of legal) new
+seen-right m w l command unit true new h same = (h.0, l, h.1, record { world = h.2; ledger = same })
+seen-right m w l command unit false new h same = h
+
+pub left-right : (m : Setting) (w : World) (l : Ledger) (command : Command) (unit : List ℕ) (legal : Bool) (new : Auditor)
+    → IsLeft m w l command unit legal new.memories new.book → IsRight m w l command unit (verdict_of legal) new
+left-right m w l command unit true new h = (h.0, ledger_of new.book, h.1, record { world = h.2; ledger = refl })
+left-right m w l command unit false new h = h
+
+-- what is said of one command is said of the same
+pub right-is : (m : Setting) (w : World) (l : Ledger) (command other : Command) (unit : List ℕ) (verdict said : Verdict) (new : Auditor)
+    → other ≡ command → said ≡ verdict → IsRight m w l command unit verdict new → IsRight m w l other unit said new
+right-is m w l command other unit verdict said new c v h =
+    subst (λ c. IsRight m w l c unit said new) (sym c) (subst (λ v. IsRight m w l command unit v new) (sym v) h)
+
+-- a refusal leaves all
+pub refused-left : (m : Setting) (w : World) (book : Book) (command : Command) (unit : List ℕ) (error : Errno) (legal : Bool)
+    (memories : Memories) → is_some m.headers ≡ true → refusal (tests m w (ledger_of book) command) ≡ Some error
+    → SaysOnly legal unit (Refused error) → IsWorld memories w → IsLeft m w (ledger_of book) command unit legal memories book
+refused-left m w book command unit error true memories told is says at =
+    refused-seen m w (ledger_of book) command unit error true memories told is says at
+refused-left m w book command unit error false memories told is says at =
+    refused-seen m w (ledger_of book) command unit error false memories told is says at
+
+-- a command that answers ok alone
+pub done-left : (m : Setting) (w next' : World) (l : Ledger) (command : Command) (unit : List ℕ) (memories : Memories) (book : Book)
+    → is_some m.headers ≡ true → refusal (tests m w l command) ≡ None
+    → ((es : List Event) (answer : Answer) (rows : List Row) → Follows m w l command es answer rows → answer ≡ Done)
+    → next w command Done ≡ next' → IsVerdict m w l command unit true (ledger_of book) → IsWorld memories next'
+    → IsLeft m w l command unit true memories book
+done-left m w next' l command unit memories book told none done after h at =
+    let follows = subst (λ o. MatchOption o (Follows m w l command h.events h.reply.answer h.reply.rows)
+    (λ error. Refuses error h.events h.reply.answer h.reply.rows)) none h.legal.answer in
+    let answer = done h.events h.reply.answer h.reply.rows follows in
+    let same : next_world m w l h.events command h.reply.answer ≡ next' =
+    (λ i. next (loads-told m w l h.events told i) command (answer i)) ∙ after in (
+      next_world m w l h.events command h.reply.answer,
+      (h.reply, h.events, record { form = h.form; text = h.text; legal = h.legal }, refl, h.after),
+      subst (IsWorld memories) (sym same) at,
+    )
+
+pub not-left : (m : Setting) (w : World) (l l' : Ledger) (command : Command) (unit : List ℕ) (memories : Memories) (book : Book)
+    → IsVerdict m w l command unit false l' → IsLeft m w l command unit false memories book
+not-left m w l l' command unit memories book h = λ u. h u.0 u.1 u.2.form u.2.text u.2.legal
+
+-- what isn't refused is asked of a process that lives
+pub alive : (m : Setting) (w : World) (l : Ledger) (p a len : ℕ) → refusal (tests m w l (Munmap p a len)) ≡ None → lives w p ≡ true
+alive m w l p a len h = by (lives w p) h
+  where
+    by : (b : Bool) → refusal ((not b, Esrch) ∷ (not (is_on_page a) || len == 0 || nat_lt top (a + len), Einval) ∷ []) ≡ None → b ≡ true
+    by true e = refl
+    by false e = cc
+
+-- a command that changes no memories
+pub book-right : (m : Setting) (w : World) (l : Ledger) (command : Command) (unit : List ℕ) (legal : Bool) (new : Auditor)
+    → is_some m.headers ≡ true → ((v : World) (answer : Answer) → next v command answer ≡ v)
+    → IsVerdict m w l command unit legal (ledger_of new.book) → IsWorld new.memories w
+    → IsRight m w l command unit (verdict_of legal) new
+book-right m w l command unit true new told stays h at = (
+  w,
+  ledger_of new.book,
+  (
+    h.reply,
+    h.events,
+    record { form = h.form; text = h.text; legal = h.legal },
+    sym (stays (with_loads m w l h.events) h.reply.answer ∙ loads-told m w l h.events told),
+    h.after,
+  ),
+  record { world = at; ledger = refl },
+)
+book-right m w l command unit false new told stays h at = λ u. h u.0 u.1 u.2.form u.2.text u.2.legal

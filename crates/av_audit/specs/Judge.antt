@@ -1,0 +1,52 @@
+-- What an auditor answers.
+use Rattle.std.specs.Prelude.{◌≡◌, ℕ, Bool, true, false, if◌then◌else◌, List, MatchBool}
+use Rattle.av_trace.specs.declared.command.Command.{Command}
+use Rattle.av_trace.specs.declared.command.Command.TheVariants.{Age, Complete, Exit, Munmap, Spawn}
+use Rattle.av_plain.specs.Ledger.{Ledger, Setting}
+use Rattle.av_plain.specs.World.{World}
+use Rattle.av_audit_laws.specs.Unit.{IsUnit, Leaves}
+use Rattle.av_book.specs.Book.{ledger_of}
+use Rattle.av_book.specs.declared.book.Book.{Book}
+use Rattle.av_world.specs.Memories.{IsWorld}
+use Rattle.av_world.specs.declared.memories.Memories.{Memories}
+use Rattle.av_audit.specs.declared.auditor.Auditor.{Auditor}
+use Rattle.av_audit.specs.declared.auditor.Verdict.{Verdict}
+use Rattle.av_audit.specs.declared.auditor.Verdict.TheVariants.{Legal, Illegal, Unjudged}
+
+-- the auditor keeps these memories and this ledger
+pub record IsAt (a : Auditor) (w : World) (l : Ledger) : Type 0 where
+  pub world : IsWorld a.memories w
+  pub ledger : l ≡ ledger_of a.book
+
+-- what is said of a command that is judged
+abbrev pub verdict_of : Bool → Verdict
+verdict_of legal = if legal then Legal else Illegal
+
+-- the commands that are judged
+abbrev pub is_judged : Command → Bool
+is_judged (Spawn p) = true
+is_judged (Exit p) = true
+is_judged (Munmap p a len) = true
+is_judged (Complete n) = true
+is_judged (Age n) = true
+is_judged command = false
+
+-- the unit is legal, and the auditor is at what it leaves; or it isn't legal; or the command isn't
+-- judged
+abbrev pub IsRight : Setting → World → Ledger → Command → List ℕ → Verdict → Auditor → Type 0
+IsRight m w l command unit Legal new =
+    (w' : World) × (l' : Ledger) × Leaves m w l command unit w' l' × IsAt new w' l'
+IsRight m w l command unit Illegal new = IsUnit m w l command unit → ⊥
+IsRight m w l command unit Unjudged new = is_judged command ≡ false
+
+-- the unit is legal, and leaves what these keep; or it isn't
+abbrev pub IsLeft : Setting → World → Ledger → Command → List ℕ → Bool → Memories → Book → Type 0
+IsLeft m w l command unit legal memories book = MatchBool legal
+    ((w' : World) × Leaves m w l command unit w' (ledger_of book) × IsWorld memories w')
+    (IsUnit m w l command unit → ⊥)
+
+-- the unit is legal, leaves the ledger, and these are the memories that it leaves; or it isn't
+abbrev pub IsSeen : Setting → World → Ledger → Command → List ℕ → Bool → Memories → Type 0
+IsSeen m w l command unit legal new = MatchBool legal
+    ((w' : World) × Leaves m w l command unit w' l × IsWorld new w')
+    (IsUnit m w l command unit → ⊥)

@@ -1,0 +1,148 @@
+//! What an auditor keeps, and what it answers.
+
+ghost use Rattle.std.specs.Prelude.{◌≡◌, [], IfOk, IsErr, OnErr};
+ghost use Rattle.av_plain.specs.Ledger.{Ledger, first_ledger};
+ghost use Rattle.av_plain.specs.World.{World};
+ghost use Rattle.av_book.specs.Machine.{setting_of};
+ghost use Rattle.av_audit.specs.Judge.{IsAt, IsRight, verdict_of};
+
+use crate::leaving::{audits_exit, audits_munmap};
+use crate::spawn::audits_spawn;
+use av_book::{Book, Machine};
+use av_judge::{judges_age, judges_complete};
+use av_trace::Command;
+use av_world::Memories;
+use std::alloc::{AllocError, Global};
+
+/// What is said of a unit: it is legal, or it isn't; or units of that command aren't judged yet.
+#[derive(Clone, Copy, Drop)]
+pub enum Verdict {
+    Legal,
+    Illegal,
+    Unjudged,
+}
+
+/// Whether the auditor goes on. Else a unit wasn't legal; or it was of a command that isn't judged,
+/// so what it leaves isn't known; or memory was wanting.
+#[derive(Clone, Copy, Drop)]
+pub enum Phase {
+    Going,
+    Over,
+    Blind,
+    Spent,
+}
+
+/// The frames and swap areas of a machine, what is kept of frames and slots, what processes see,
+/// and whether it goes on.
+#[derive(Drop)]
+pub struct Auditor {
+    pub alloc: Global,
+    pub machine: Machine,
+    pub book: Book,
+    pub memories: Memories,
+    pub phase: Phase,
+}
+
+/// What is said of a unit of a command that is judged.
+fn said(legal: bool) -> Verdict
+    ensures { result ≡ verdict_of legal }
+{
+    if legal {
+        Verdict::Legal
+    } else {
+        Verdict::Illegal
+    }
+}
+
+impl Auditor {
+    /// No process lives, and no frame or slot is used.
+    pub fn new(alloc: Global, machine: Machine) -> Auditor
+        ensures going { result.phase ≡ Phase.Going }
+        ensures first { IsAt result [] first_ledger }
+        ensures machine { result.machine ≡ machine }
+    {
+        Auditor {
+            alloc,
+            machine,
+            book: Book::new(alloc),
+            memories: Memories::new(alloc),
+            phase: Phase::Going,
+        }
+    }
+
+    /// What is said of a unit for a command, while the auditor goes on.
+    fn judge_next(&mut self, command: &Command, unit: &[u8]) -> Result<Verdict, AllocError>
+        ensures machine { self.new.machine ≡ self.old.machine }
+        ensures phase { self.new.phase ≡ self.old.phase }
+        ensures right { IfOk result (λ verdict. (w : World) (l : Ledger) → IsAt self.old w l
+            → IsRight (setting_of self.old.machine) w l command.now unit.now verdict self.new) }
+    {
+        let alloc = self.alloc;
+        match command {
+            Command::Spawn { process } => {
+                Ok(said(audits_spawn(alloc, &mut self.memories, *process, unit)?))
+            }
+            Command::Exit { process } => {
+                let (memories, book) = (&mut self.memories, &mut self.book);
+                Ok(said(audits_exit(alloc, memories, book, *process, unit)?))
+            }
+            Command::Munmap {
+                process,
+                address,
+                len,
+            } => {
+                let (memories, book) = (&mut self.memories, &mut self.book);
+                let legal = audits_munmap(alloc, memories, book, *process, *address, *len, unit)?;
+                Ok(said(legal))
+            }
+            Command::Complete { slots } => {
+                Ok(said(judges_complete(&mut self.book, alloc, *slots, unit)?))
+            }
+            Command::Age { frames } => Ok(said(judges_age(&mut self.book, alloc, *frames, unit)?)),
+            _ => Ok(Verdict::Unjudged),
+        }
+    }
+
+    /// What is said of a unit for a command.
+    pub fn judge(&mut self, command: &Command, unit: &[u8]) -> Result<Verdict, AllocError>
+        ensures going { self.old.phase ≡ Phase.Going → IfOk result (λ verdict. (w : World)
+            (l : Ledger) → IsAt self.old w l
+            → IsRight (setting_of self.old.machine) w l command.now unit.now verdict self.new) }
+        ensures machine { self.new.machine ≡ self.old.machine }
+        ensures goes_on { IfOk result (λ verdict. verdict ≡ Verdict.Legal
+            → self.new.phase ≡ Phase.Going) }
+        ensures over { self.old.phase ≡ Phase.Over
+            → (result ≡ Ok Verdict.Illegal) × (self.new.phase ≡ Phase.Over) }
+        ensures blind { self.old.phase ≡ Phase.Blind
+            → (result ≡ Ok Verdict.Unjudged) × (self.new.phase ≡ Phase.Blind) }
+        ensures spent { self.old.phase ≡ Phase.Spent
+            → IsErr result × (self.new.phase ≡ Phase.Spent) }
+        ensures ends { IfOk result (λ verdict. verdict ≡ Verdict.Illegal
+            → self.new.phase ≡ Phase.Over) }
+        ensures stops { IfOk result (λ verdict. verdict ≡ Verdict.Unjudged
+            → self.new.phase ≡ Phase.Blind) }
+        ensures wants { OnErr result (self.new.phase ≡ Phase.Spent) }
+    {
+        match self.phase {
+            Phase::Going => {}
+            Phase::Over => return Ok(Verdict::Illegal),
+            Phase::Blind => return Ok(Verdict::Unjudged),
+            Phase::Spent => return Err(AllocError),
+        }
+        match self.judge_next(command, unit) {
+            Ok(Verdict::Legal) => Ok(Verdict::Legal),
+            Ok(Verdict::Illegal) => {
+                self.phase = Phase::Over;
+                Ok(Verdict::Illegal)
+            }
+            Ok(Verdict::Unjudged) => {
+                self.phase = Phase::Blind;
+                Ok(Verdict::Unjudged)
+            }
+            Err(error) => {
+                self.phase = Phase::Spent;
+                Err(error)
+            }
+        }
+    }
+}

@@ -1,0 +1,38 @@
+-- Entries that go.
+use Rattle.std.proofs.Common.{◌≡◌, ◌<◌, List, [], ◌∷◌, ◌++◌, length, refl, sym, ap, ◌∙◌, append_assoc, append-nil, arith}
+use Rattle.std.specs.Prelude.{◌&&◌, ◌==◌}
+use Rattle.std.specs.BTreeMap.{is_at}
+use Rattle.std.proofs.lemmas.Bool.Decides.{nat_tests}
+use Rattle.av_base.specs.Keys.{Key, key_cmp}
+use Rattle.av_trace.specs.declared.note.Note.{Note}
+use Rattle.av_plain.specs.Event.{after_all, notes_of}
+use Rattle.av_plain.specs.Ledger.{Ledger}
+use Rattle.av_plain.specs.Zap.{zap_of, zaps_of}
+use Rattle.av_plain.proofs.Access.{after_all-append, notes_of-append}
+
+pub same-key : (k q : Key) → is_at (key_cmp k) q ≡ (k.0 == q.0 && k.1 == q.1)
+same-key k q = grind (arith, nat_tests)
+
+-- ---- one, and then the others
+
+pub zap-then : (l now : Ledger) (k : Key) (ks : List Key) → now ≡ after_all l (zap_of l k)
+    → after_all now (zaps_of now ks) ≡ after_all l (zaps_of l (k ∷ ks))
+zap-then l now k ks is =
+    ap (λ n. after_all n (zaps_of n ks)) is
+    ∙ sym (after_all-append l (zap_of l k) (zaps_of (after_all l (zap_of l k)) ks))
+
+pub zap-notes : (l now : Ledger) (k : Key) (ks : List Key) (told more : List Note) → now ≡ after_all l (zap_of l k)
+    → more ≡ told ++ notes_of (zap_of l k)
+    → more ++ notes_of (zaps_of now ks) ≡ told ++ notes_of (zaps_of l (k ∷ ks))
+zap-notes l now k ks told more is added =
+    (λ i. added i ++ notes_of (zaps_of (is i) ks))
+    ∙ append_assoc told (notes_of (zap_of l k)) (notes_of (zaps_of (after_all l (zap_of l k)) ks))
+    ∙ ap (λ ns. told ++ ns) (sym (notes_of-append (zap_of l k) (zaps_of (after_all l (zap_of l k)) ks)))
+
+pub zaps-over : (l : Ledger) (ks : List Key) → length ks < 1 → l ≡ after_all l (zaps_of l ks)
+zaps-over l [] h = refl
+zaps-over l (k ∷ ks) h = absurd (omega (arith, h))
+
+pub notes-over : (l : Ledger) (ks : List Key) (told : List Note) → length ks < 1 → told ≡ told ++ notes_of (zaps_of l ks)
+notes-over l [] told h = sym (append-nil told)
+notes-over l (k ∷ ks) told h = absurd (omega (arith, h))

@@ -1,0 +1,13 @@
+pub mod ComeLaws
+pub mod FetchLaws
+pub mod Finds
+pub mod FlightLaws
+pub mod FrontLaws
+pub mod KnownLaws
+pub mod NoteLaws
+pub mod PassLaws
+pub mod ReclaimLaws
+pub mod SeekLaws
+pub mod StageLaws
+pub mod UnitLaws
+pub mod VerdictLaws

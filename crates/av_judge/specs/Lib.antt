@@ -1,0 +1,9 @@
+pub mod Come
+pub mod Fetch
+pub mod Finds
+pub mod Flight
+pub mod Notes
+pub mod Pass
+pub mod Says
+pub mod Stage
+pub mod Verdict

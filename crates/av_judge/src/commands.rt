@@ -1,0 +1,107 @@
+//! Units for commands that answer `ok` and tell the rest by notes.
+
+ghost use Rattle.std.specs.Prelude.{◌≡◌, IfOk, None, reverse, take};
+ghost use Rattle.av_trace.specs.declared.command.Command.TheVariants as commands;
+ghost use Rattle.av_plain.specs.Ledger.{Setting};
+ghost use Rattle.av_plain.specs.World.{World};
+ghost use Rattle.av_plain.specs.Fault.{sparing};
+ghost use Rattle.av_book.specs.Spared.{spared_of};
+ghost use Rattle.av_book.specs.Book.{ledger_of};
+ghost use Rattle.av_book.specs.Machine.{AreNamed, setting_of};
+ghost use Rattle.av_judge.specs.Verdict.{IsVerdict};
+
+use crate::flight::completes;
+use crate::reclaim::{ages, outcomes};
+use crate::seek::same_slots;
+use crate::unit::Unit;
+use av_base::Slot;
+use av_book::{Book, Machine, Spared, from_end};
+use av_text::word::after;
+use std::alloc::{AllocError, Global};
+
+/// The first slots of some, n at most.
+fn first(alloc: Global, slots: &[Slot], n: u16) -> Result<Vec<Slot>, AllocError>
+    ensures { IfOk result (λ made. made.items ≡ take n slots.now) }
+{
+    let mut made = same_slots(alloc, slots)?;
+    made.truncate(usize::from(n));
+    Ok(made)
+}
+
+/// The last frames of some, n at most, from the end.
+fn last(alloc: Global, frames: &[u32], n: u16) -> Result<Vec<u32>, AllocError>
+    ensures { IfOk result (λ made. made.items ≡ take n (reverse frames.now)) }
+{
+    let mut made = from_end(alloc, frames)?;
+    made.truncate(usize::from(n));
+    Ok(made)
+}
+
+/// Whether a unit is legal for `complete`.
+pub fn judges_complete(
+    book: &mut Book,
+    alloc: Global,
+    n: u16,
+    text: &[u8],
+) -> Result<bool, AllocError>
+    ensures { IfOk result (λ legal. (m : Setting) (w : World) → IsVerdict m w
+        (ledger_of book.old) (commands.Complete n) text.now legal (ledger_of book.new)) }
+{
+    let slots = first(alloc, book.flight.as_slice(), n)?;
+    match after(text, b"ok\n") {
+        None => Ok(false),
+        Some(rest) => {
+            let mut unit = Unit { alloc, rest };
+            if !completes(book, &mut unit, slots.as_slice())? {
+                return Ok(false);
+            }
+            Ok(unit.rest.is_empty())
+        }
+    }
+}
+
+/// Whether a unit is legal for `age`.
+pub fn judges_age(book: &mut Book, alloc: Global, n: u16, text: &[u8]) -> Result<bool, AllocError>
+    ensures { IfOk result (λ legal. (m : Setting) (w : World) → IsVerdict m w
+        (ledger_of book.old) (commands.Age n) text.now legal (ledger_of book.new)) }
+{
+    let frames = last(alloc, book.active.as_slice(), n)?;
+    match after(text, b"ok\n") {
+        None => Ok(false),
+        Some(rest) => {
+            let mut unit = Unit { alloc, rest };
+            if !ages(book, &mut unit, frames.as_slice())? {
+                return Ok(false);
+            }
+            Ok(unit.rest.is_empty())
+        }
+    }
+}
+
+/// Whether a unit is legal for `reclaim`, where frames of locked pages are spared.
+pub fn judges_reclaim(
+    book: &mut Book,
+    machine: &Machine,
+    spared: &Spared,
+    alloc: Global,
+    n: u16,
+    text: &[u8],
+) -> Result<bool, AllocError>
+    requires { AreNamed (setting_of machine.now) }
+    ensures { IfOk result (λ legal. (w : World)
+        → spared_of spared.now ≡ sparing w (ledger_of book.old) None
+        → IsVerdict (setting_of machine.now) w (ledger_of book.old) (commands.Reclaim n) text.now
+        legal (ledger_of book.new)) }
+{
+    let frames = last(alloc, book.inactive.as_slice(), n)?;
+    match after(text, b"ok\n") {
+        None => Ok(false),
+        Some(rest) => {
+            let mut unit = Unit { alloc, rest };
+            if !outcomes(book, &mut unit, machine, spared, frames.as_slice())? {
+                return Ok(false);
+            }
+            Ok(unit.rest.is_empty())
+        }
+    }
+}

@@ -1,0 +1,186 @@
+//! The direct pass, as its notes tell.
+
+ghost use Rattle.std.specs.Prelude.{◌≡◌, IfOk};
+ghost use Rattle.av_plain.specs.Pass.{Turns};
+ghost use Rattle.av_book.specs.Book.{ledger_of};
+ghost use Rattle.av_judge.specs.Finds.{Gets, Reads};
+ghost use Rattle.av_book.specs.Machine.{AreNamed, setting_of};
+ghost use Rattle.av_judge.specs.Pass.{AreCleaned, AreWriteNotes, GoesTo, IsPut};
+ghost use Rattle.av_book.specs.Spared.{spared_of};
+ghost use Rattle.av_judge.specs.Pass.{IsTurn, IsTurnEnd, Unmaps};
+
+use crate::flight::ending;
+use crate::notes::{fits, take_slot};
+use crate::unit::{Unit, reads, reads_when};
+use av_base::Slot;
+use av_book::{Book, Machine, Spared};
+use av_trace::Note;
+use std::alloc::AllocError;
+
+/// A frame that isn't cached is put at a slot that may be given.
+fn puts(
+    book: &mut Book,
+    unit: &mut Unit<'_>,
+    machine: &Machine,
+    spared: &Spared,
+    frame: u32,
+) -> Result<Option<Slot>, AllocError>
+    requires fits { AreNamed (setting_of machine.now) }
+    ensures { IfOk result (λ found. Gets (IsPut (setting_of machine.now) (spared_of spared.now)
+        (ledger_of book.old) frame) (ledger_of book.old) unit.old.rest.now found
+        (ledger_of book.new) unit.new.rest.now) }
+{
+    match take_slot(unit.alloc, unit.rest, frame)? {
+        None => Ok(None),
+        Some((slot, rest)) => {
+            fits(Note::Put { frame, slot });
+            if !book.may_give(machine, spared.closing, slot) {
+                return Ok(None);
+            }
+            unit.rest = rest;
+            book.follow(Note::Put { frame, slot })?;
+            Ok(Some(slot))
+        }
+    }
+}
+
+/// A frame's slot: that at which it is cached, or one that it is put at; and whether it is dirty.
+fn goes_to(
+    book: &mut Book,
+    unit: &mut Unit<'_>,
+    machine: &Machine,
+    spared: &Spared,
+    frame: u32,
+) -> Result<Option<(Slot, bool)>, AllocError>
+    requires fits { AreNamed (setting_of machine.now) }
+    ensures { IfOk result (λ found. Gets (GoesTo (setting_of machine.now) (spared_of spared.now)
+        (ledger_of book.old) frame) (ledger_of book.old) unit.old.rest.now found
+        (ledger_of book.new) unit.new.rest.now) }
+{
+    match book.slot_of(frame) {
+        None => match puts(book, unit, machine, spared, frame)? {
+            None => Ok(None),
+            Some(slot) => Ok(Some((slot, true))),
+        },
+        Some(slot) => Ok(Some((slot, book.is_stale(slot)))),
+    }
+}
+
+/// A frame goes to its slot, and has no entry any more; and whether it was dirty.
+pub fn unmaps(
+    book: &mut Book,
+    unit: &mut Unit<'_>,
+    machine: &Machine,
+    spared: &Spared,
+    frame: u32,
+) -> Result<Option<(Slot, bool)>, AllocError>
+    requires fits { AreNamed (setting_of machine.now) }
+    ensures { IfOk result (λ found. Gets (Unmaps (setting_of machine.now) (spared_of spared.now)
+        (ledger_of book.old) frame) (ledger_of book.old) unit.old.rest.now found
+        (ledger_of book.new) unit.new.rest.now) }
+{
+    match goes_to(book, unit, machine, spared, frame)? {
+        None => Ok(None),
+        Some(found) => {
+            let due = book.maps(frame) != 0;
+            if !reads_when(book, unit, due, Note::Unmapped(frame))? {
+                return Ok(None);
+            }
+            Ok(Some(found))
+        }
+    }
+}
+
+/// A write of the slot begins, and ends at once: whether it failed.
+fn writes(book: &mut Book, unit: &mut Unit<'_>, slot: Slot) -> Result<Option<bool>, AllocError>
+    ensures { IfOk result (λ found. Gets (AreWriteNotes slot) (ledger_of book.old)
+        unit.old.rest.now found (ledger_of book.new) unit.new.rest.now) }
+{
+    if !reads(book, unit, Note::Started(slot))? {
+        return Ok(None);
+    }
+    ending(book, unit, slot)
+}
+
+/// Where a frame is dirty it is written at once: whether that failed, and it stays cached.
+fn stays(
+    book: &mut Book,
+    unit: &mut Unit<'_>,
+    slot: Slot,
+    dirty: bool,
+) -> Result<Option<bool>, AllocError>
+    ensures { IfOk result (λ found. Gets (AreCleaned slot dirty) (ledger_of book.old)
+        unit.old.rest.now found (ledger_of book.new) unit.new.rest.now) }
+{
+    if !dirty {
+        return Ok(Some(false));
+    }
+    writes(book, unit, slot)
+}
+
+/// A frame's turn: whether it stays cached. Else it is free.
+fn turn(
+    book: &mut Book,
+    unit: &mut Unit<'_>,
+    machine: &Machine,
+    spared: &Spared,
+    frame: u32,
+) -> Result<Option<bool>, AllocError>
+    requires fits { AreNamed (setting_of machine.now) }
+    ensures { IfOk result (λ found. Gets (IsTurn (setting_of machine.now) (spared_of spared.now)
+        (ledger_of book.old) frame) (ledger_of book.old) unit.old.rest.now found
+        (ledger_of book.new) unit.new.rest.now) }
+{
+    match unmaps(book, unit, machine, spared, frame)? {
+        None => Ok(None),
+        Some((slot, dirty)) => frees(book, unit, slot, dirty),
+    }
+}
+
+/// What ends a turn: a write where the frame is dirty, and the drop of its slot unless that failed.
+fn frees(
+    book: &mut Book,
+    unit: &mut Unit<'_>,
+    slot: Slot,
+    dirty: bool,
+) -> Result<Option<bool>, AllocError>
+    ensures { IfOk result (λ found. Gets (IsTurnEnd slot dirty) (ledger_of book.old)
+        unit.old.rest.now found (ledger_of book.new) unit.new.rest.now) }
+{
+    match stays(book, unit, slot, dirty)? {
+        None => Ok(None),
+        Some(stays) => {
+            if !reads_when(book, unit, !stays, Note::Dropped(slot))? {
+                return Ok(None);
+            }
+            Ok(Some(stays))
+        }
+    }
+}
+
+/// The frames in turn, up to the first that becomes free.
+pub fn turns(
+    book: &mut Book,
+    unit: &mut Unit<'_>,
+    machine: &Machine,
+    spared: &Spared,
+    frames: &[u32],
+) -> Result<bool, AllocError>
+    requires fits { AreNamed (setting_of machine.now) }
+    ensures { IfOk result (λ read. Reads (Turns (setting_of machine.now) (spared_of spared.now)
+        (ledger_of book.old) frames.now) (ledger_of book.old) unit.old.rest.now read
+        (ledger_of book.new) unit.new.rest.now) }
+{
+    let mut rest = frames;
+    while let [first, others @ ..] = rest {
+        if !book.is_stuck(machine, spared, *first) {
+            match turn(book, unit, machine, spared, *first)? {
+                None => return Ok(false),
+                Some(false) => return Ok(true),
+                Some(true) => {}
+            }
+        }
+        rest = others;
+    }
+    Ok(true)
+}

@@ -1,0 +1,94 @@
+//! A frame is sought, behind a pass where none is free, and taken.
+
+ghost use Rattle.std.specs.Prelude.{◌≡◌, ◌<◌, IfOk};
+ghost use Rattle.av_plain.specs.Pass.{IsPass, Seeks};
+ghost use Rattle.av_book.specs.Book.{ledger_of};
+ghost use Rattle.av_judge.specs.Finds.{Gets, Reads};
+ghost use Rattle.av_book.specs.Machine.{AreNamed, setting_of};
+ghost use Rattle.av_book.specs.Spared.{spared_of};
+ghost use Rattle.av_judge.specs.Pass.{IsTakenFree};
+
+use crate::flight::completes;
+use crate::notes::{Taking, fits, take_frame};
+use crate::pass::turns;
+use crate::unit::Unit;
+use av_base::Slot;
+use av_book::{Book, Machine, Spared};
+use std::alloc::{AllocError, Global};
+
+/// The same slots.
+pub fn same_slots(alloc: Global, slots: &[Slot]) -> Result<Vec<Slot>, AllocError>
+    ensures { IfOk result (λ copy. copy.items ≡ slots.now) }
+{
+    let mut copy = Vec::new(alloc);
+    copy.extend_from_slice(slots)?;
+    Ok(copy)
+}
+
+/// A direct pass.
+fn passes(
+    book: &mut Book,
+    unit: &mut Unit<'_>,
+    machine: &Machine,
+    spared: &Spared,
+) -> Result<bool, AllocError>
+    requires fits { AreNamed (setting_of machine.now) }
+    ensures { IfOk result (λ read. Reads (IsPass (setting_of machine.now) (spared_of spared.now)
+        (ledger_of book.old)) (ledger_of book.old) unit.old.rest.now read (ledger_of book.new)
+        unit.new.rest.now) }
+{
+    let slots = same_slots(unit.alloc, book.flight.as_slice())?;
+    if !completes(book, unit, slots.as_slice())? {
+        return Ok(false);
+    }
+    if book.has_free(machine) {
+        return Ok(true);
+    }
+    let frames = book.in_turn(unit.alloc, spared)?;
+    turns(book, unit, machine, spared, frames.as_slice())
+}
+
+/// What comes before a frame is taken: a pass exactly where none is free.
+pub fn seeks(
+    book: &mut Book,
+    unit: &mut Unit<'_>,
+    machine: &Machine,
+    spared: &Spared,
+) -> Result<bool, AllocError>
+    requires fits { AreNamed (setting_of machine.now) }
+    ensures { IfOk result (λ read. Reads (Seeks (setting_of machine.now) (spared_of spared.now)
+        (ledger_of book.old)) (ledger_of book.old) unit.old.rest.now read (ledger_of book.new)
+        unit.new.rest.now) }
+{
+    if book.has_free(machine) {
+        return Ok(true);
+    }
+    passes(book, unit, machine, spared)
+}
+
+/// A free frame is taken.
+pub fn takes(
+    book: &mut Book,
+    unit: &mut Unit<'_>,
+    machine: &Machine,
+    taking: Taking,
+) -> Result<Option<u32>, AllocError>
+    requires { 0 < machine.now.frames }
+    ensures { IfOk result (λ found. Gets (IsTakenFree (setting_of machine.now)
+        (ledger_of book.old) taking) (ledger_of book.old) unit.old.rest.now found
+        (ledger_of book.new) unit.new.rest.now) }
+{
+    match take_frame(unit.alloc, unit.rest, taking, machine.frames)? {
+        None => Ok(None),
+        Some((frame, rest)) => {
+            let note = taking.note(frame);
+            fits(note);
+            if !book.is_free(frame) {
+                return Ok(None);
+            }
+            unit.rest = rest;
+            book.follow(note)?;
+            Ok(Some(frame))
+        }
+    }
+}

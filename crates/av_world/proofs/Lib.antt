@@ -1,0 +1,4 @@
+pub mod RangeLaws
+pub mod HoleLaws
+pub mod SpaceLaws
+pub mod WorldLaws

@@ -1,0 +1,7 @@
+use Rattle.av_world.specs.declared.ranges.Change.TheVariants.{Mark}
+use Rattle.av_world.proofs.SpaceLaws.{on-ok, pages-changed}
+use Rattle.av_world.proofs.space.Space.mark.Goals as goal
+
+pub returns : goal.returns
+returns c = on-ok c.change.result c.change.ensures (λ is q h.
+    pages-changed c.args.self.now c.change.new.self q c.args.from c.args.n (Mark c.args.flag c.args.set) h is)

@@ -1,0 +1,4 @@
+pub mod Space
+pub mod Ranges
+pub mod Memories
+pub mod Holes

@@ -1,0 +1,25 @@
+//! What processes see, as data. It knows the definitions alone, and no kernel.
+//!
+//! Proved: a process's pages are those that the definitions have, after each call: pages that are
+//! mapped, unmapped, protected, marked or wiped (`Space::edit`), and processes that come and go
+//! (`Memories`). And what the definitions ask of them: whether a page may be accessed or is locked,
+//! how many pages come before a hole, the greatest gap. Bytes are not written yet.
+//!
+//! Pages are kept as ranges, so a call doesn't cost more where its own range is long. But it goes
+//! over all ranges of the process and, where it unmaps or wipes, over all its pages with bytes; and
+//! ranges that become alike are not joined. Right, and slow where there are many.
+//!
+//! Only tested: nothing.
+#![tactic(auto)]
+
+mod edit;
+mod holes;
+mod mapping;
+mod memories;
+mod ranges;
+mod space;
+
+pub use edit::Edit;
+pub use memories::Memories;
+pub use ranges::Change;
+pub use space::{Marks, Range, Space};

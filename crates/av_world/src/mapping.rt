@@ -1,0 +1,85 @@
+//! Pages are mapped, unmapped, protected and flagged.
+
+ghost use Rattle.std.specs.Prelude.{◌≡◌, ◌+◌, ◌<◌, ◌^◌, OnOk, Some};
+ghost use Rattle.av_plain.specs.World.{Process, no_pages, wiped, with_change_on, with_page_flag};
+ghost use Rattle.av_plain.specs.World.{with_pages, with_prot_on, zeros};
+ghost use Rattle.av_world.specs.Space.{IsSpace};
+ghost use Rattle.av_world.specs.Ranges.{AreChanged, AreWiped};
+
+use crate::ranges::{Change, with_change};
+use crate::space::{Marks, Range, Space};
+use av_base::{Flag, Flags, Prot};
+use std::alloc::AllocError;
+
+impl Space {
+    /// What is said of n pages from one on changes, and their bytes stay. Without memory all stays.
+    fn change(&mut self, from: u64, n: u64, change: Change) -> Result<(), AllocError>
+        requires { from + n < 2 ^ 64 }
+        ensures { OnOk result (AreChanged self.old self.new from n change) }
+    {
+        let ranges = with_change(self.alloc, self.ranges.as_slice(), from, from + n, change)?;
+        self.ranges = ranges;
+        Ok(())
+    }
+
+    /// n pages from one on have zeros.
+    pub fn wipe(&mut self, from: u64, n: u64)
+        requires { from + n < 2 ^ 64 }
+        ensures bytes { AreWiped self.old self.new from n }
+        ensures pages { (q : Process) → IsSpace self.old q
+            → IsSpace self.new (with_change_on q from n wiped) }
+    {
+        let end = from + n;
+        self.bytes.retain(|page, _| *page < from || end <= *page);
+    }
+
+    /// n pages from one on aren't mapped any more. Without memory all stays.
+    pub fn unmap(&mut self, from: u64, n: u64) -> Result<(), AllocError>
+        requires { from + n < 2 ^ 64 }
+        ensures { OnOk result ((q : Process) → IsSpace self.old q
+            → IsSpace self.new (with_pages q from n no_pages)) }
+    {
+        self.change(from, n, Change::Unmap)?;
+        self.wipe(from, n);
+        Ok(())
+    }
+
+    /// n pages from one on are mapped, with zeros and no flag. Without memory a part may be done.
+    pub fn map(&mut self, from: u64, n: u64, prot: Prot) -> Result<(), AllocError>
+        requires { from + n < 2 ^ 64 }
+        ensures { OnOk result ((q : Process) → IsSpace self.old q
+            → IsSpace self.new (with_pages q from n (λ _. Some (zeros prot)))) }
+    {
+        self.change(from, n, Change::Unmap)?;
+        self.wipe(from, n);
+        let marks = Marks {
+            prot,
+            flags: Flags::NONE,
+        };
+        self.ranges.push(Range {
+            start: from,
+            end: from + n,
+            marks,
+        })?;
+        Ok(())
+    }
+
+    /// Those of n pages from one on that are mapped get a protection. Without memory all stays.
+    pub fn protect(&mut self, from: u64, n: u64, prot: Prot) -> Result<(), AllocError>
+        requires { from + n < 2 ^ 64 }
+        ensures { OnOk result ((q : Process) → IsSpace self.old q
+            → IsSpace self.new (with_prot_on q from n prot)) }
+    {
+        self.change(from, n, Change::Protect(prot))
+    }
+
+    /// A flag of those of n pages from one on that are mapped is set, or cleared. Without memory
+    /// all stays.
+    pub fn mark(&mut self, from: u64, n: u64, flag: Flag, set: bool) -> Result<(), AllocError>
+        requires { from + n < 2 ^ 64 }
+        ensures { OnOk result ((q : Process) → IsSpace self.old q
+            → IsSpace self.new (with_change_on q from n (with_page_flag flag set))) }
+    {
+        self.change(from, n, Change::Mark { flag, set })
+    }
+}

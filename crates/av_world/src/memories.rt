@@ -1,0 +1,124 @@
+//! The processes that live.
+
+ghost use Rattle.std.specs.Prelude.{◌≡◌, [], OnOk, length, option_map, true, false};
+ghost use Rattle.av_plain.specs.Fault.{is_allowed};
+ghost use Rattle.av_plain.specs.Mremap.{marks_at};
+ghost use Rattle.av_world.specs.Space.{marks_of};
+ghost use Rattle.av_plain.specs.World.{World, is_locked_page, end_process, lives, pages};
+ghost use Rattle.av_plain.specs.World.{process as process_of, set_process};
+ghost use Rattle.av_world.specs.Memories.{Ends, IsProcess, IsWorld, pages_after};
+ghost use Rattle.av_world.specs.Space.{IsSpace};
+ghost use Rattle.av_plain.specs.World.{Process as AnyProcess};
+
+use crate::edit::Edit;
+use crate::space::{Marks, Space};
+use std::alloc::{AllocError, Global};
+use std::collections::BTreeMap;
+
+/// What each process that lives has mapped, by its number.
+#[derive(Drop)]
+pub struct Memories {
+    pub alloc: Global,
+    pub spaces: BTreeMap<u16, Space>,
+}
+
+impl Memories {
+    /// No process lives.
+    pub fn new(alloc: Global) -> Memories
+        ensures { IsWorld result [] }
+    {
+        Memories {
+            alloc,
+            spaces: BTreeMap::new(alloc),
+        }
+    }
+
+    /// How many processes live.
+    pub fn count(&self) -> usize
+        ensures { (w : World) → IsWorld self.now w → result ≡ length w }
+    {
+        self.spaces.len()
+    }
+
+    /// What a process has mapped, if it lives.
+    pub fn get(&self, number: u16) -> Option<&Space>
+        ensures { (w : World) → IsWorld self.now w
+            → IsProcess (option_map (λ s. s.now) result) (process_of w number) }
+    {
+        self.spaces.get(&number)
+    }
+
+    /// Whether a process lives.
+    pub fn lives(&self, number: u16) -> bool
+        ensures { (w : World) → IsWorld self.now w → result ≡ lives w number }
+    {
+        self.spaces.contains_key(&number)
+    }
+
+    /// What is said of a page of a process, if it is mapped.
+    fn marks(&self, number: u16, page: u64) -> Option<Marks>
+        ensures { (w : World) → IsWorld self.now w
+            → option_map marks_of result ≡ marks_at (pages w number) page }
+    {
+        match self.spaces.get(&number) {
+            None => None,
+            Some(space) => space.marks(page),
+        }
+    }
+
+    /// Whether a process may read a page, or write it.
+    pub fn allows(&self, write: bool, number: u16, page: u64) -> bool
+        ensures { (w : World) → IsWorld self.now w
+            → result ≡ is_allowed w write (number, page) }
+    {
+        match self.marks(number, page) {
+            None => false,
+            Some(marks) => {
+                if write {
+                    marks.prot.writable()
+                } else {
+                    marks.prot.readable()
+                }
+            }
+        }
+    }
+
+    /// Whether a page of a process is locked.
+    pub fn locks(&self, number: u16, page: u64) -> bool
+        ensures { (w : World) → IsWorld self.now w
+            → result ≡ is_locked_page (pages w number page) }
+    {
+        match self.marks(number, page) {
+            None => false,
+            Some(marks) => marks.flags.locked,
+        }
+    }
+
+    /// The process has these pages now, and lives. Without memory all stays.
+    pub fn set(&mut self, number: u16, space: Space) -> Result<(), AllocError>
+        ensures { OnOk result ((w : World) (q : AnyProcess) → IsWorld self.old w
+            → IsSpace space q → IsWorld self.new (set_process w number q)) }
+    {
+        self.spaces.insert(number, space)?;
+        Ok(())
+    }
+
+    /// The process is gone.
+    pub fn remove(&mut self, number: u16)
+        ensures { (w : World) → IsWorld self.old w → IsWorld self.new (end_process w number) }
+    {
+        self.spaces.remove(&number);
+    }
+
+    /// Pages of a process change. Without memory a part may be done.
+    pub fn edit(&mut self, number: u16, edit: Edit) -> Result<(), AllocError>
+        requires { Ends edit }
+        ensures { OnOk result ((w : World) → IsWorld self.old w → lives w number ≡ true
+            → IsWorld self.new (set_process w number (pages_after edit (pages w number)))) }
+    {
+        match self.spaces.get_mut(&number) {
+            None => Ok(()),
+            Some(space) => space.edit(edit),
+        }
+    }
+}
