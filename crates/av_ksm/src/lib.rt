@@ -5,12 +5,12 @@
 //! earlier candidate, which is merged then. What frames hold is found by a hash of it (`Contents`),
 //! and compared before a page joins.
 //!
-//! Proved: for every state that the memory system stands for, the notes of `merge` are exactly those
-//! of the definitions, by what the frames hold, and it stands for what they leave (`DoesBeside`).
-//! `share` makes the frame of a page a merged one: its home becomes its first item. `join` lets a
-//! page join it, whose own frame is free then where that was its last entry. That all stands after
-//! each has laws of views alone (`frames_are_shared`, `pages_join`); and what is to be known of what
-//! frames hold, so that it says at each candidate what it joins, is a law, too
+//! Proved: for every state that the memory system stands for, the notes of `merge` are exactly
+//! those of the definitions, by what the frames hold, and it stands for what they leave
+//! (`DoesBeside`). `share` makes the frame of a page a merged one: its home becomes its first item.
+//! `join` lets a page join it, whose own frame is free then where that was its last entry. That all
+//! stands after each has laws of views alone (`frames_are_shared`, `pages_join`); and what is to be
+//! known of what frames hold, so that it says at each candidate what it joins, is a law, too
 //! (`candidates_take_their_turn`). Without memory part of a merge may be done. Not proved: that few
 //! frames that hold something else have one hash; each such frame costs a look at its bytes.
 #![tactic(auto)]

@@ -40,6 +40,7 @@ pub record AddsMoves (old new : Mem) (before now : List Note) : Type 0 where
       → HasCompacted d old new w r l added
 
 -- and these steps were taken: those of the walks of the frames that moved, as they stood before
-pub record CompactsInSteps (old new : Mem) (before now : List Note) (taken taken' : ℕ) : Type 0 where
+pub record CompactsInSteps (old new : Mem) (before now : List Note) (taken taken' : ℕ)
+    : Type 0 where
   pub adds : AddsMoves old new before now
   pub steps : taken' ≡ taken + steps_of_all old adds.added
