@@ -1,19 +1,11 @@
 -- How a page that is touched may be served, or not.
-use Rattle.std.specs.Prelude.{◌≡◌, Bool, false, List, ◌++◌, Option, Some, None}
+use Rattle.std.specs.Prelude.{◌≡◌, Bool, List, ◌++◌}
 use Rattle.av_base.specs.Keys.{Key}
 use Rattle.av_trace.specs.declared.note.Note.{Note}
 use Rattle.av_plain.specs.Event.{after_notes}
 use Rattle.av_plain.specs.Fault.{FindsNone, IsLost, IsMade, RunsOut, Sparing, drop_at, need}
-use Rattle.av_plain.specs.Fault.{Stop, Denied, Starved, Lost, was_slot}
+use Rattle.av_plain.specs.Fault.{Stop, Denied, Starved, Lost}
 use Rattle.av_plain.specs.Ledger.{Ledger, Setting, entry}
-use Rattle.av_access_judge.specs.declared.coming.Coming.{Coming}
-use Rattle.av_access_judge.specs.declared.coming.Coming.TheVariants.{Here, Kept}
-
--- once a page is here its entry is no slot
-abbrev pub HasNoSlot : Bool → Ledger → Key → Option Coming → Type 0
-HasNoSlot write l k None = Unit {0}
-HasNoSlot write l k (Some Here) = was_slot (need write l (entry l k)) ≡ false
-HasNoSlot write l k (Some (Kept stop)) = Unit {0}
 
 -- a page that is here gets what it needs, and its slot goes if that is needed no more
 abbrev pub IsMadeReady : Setting → Sparing → Ledger → Bool → Bool → Key → List Note → Type 0

@@ -24,15 +24,6 @@ pub enum End {
     Stopped { page: u64, stop: Stop },
 }
 
-/// Where an access ends whose pages are all served, if no notes are left.
-fn ends_whole(rest: &[u8]) -> Option<End> {
-    if rest.is_empty() {
-        Some(End::Whole)
-    } else {
-        None
-    }
-}
-
 /// The pages of a process in turn, each read or written, as a unit's notes tell: where that ends.
 /// None where the notes tell no access of these pages. Without memory a part may be done.
 pub fn accesses(
@@ -54,14 +45,18 @@ pub fn accesses(
 {
     let mut unit = Unit { alloc, rest: notes };
     let mut rest = pages;
-    while let [(write, page), others @ ..] = rest {
-        match touches(book, &mut unit, machine, memories, *write, process, *page)? {
+    while let [first, others @ ..] = rest {
+        let (write, page) = *first;
+        match touches(book, &mut unit, machine, memories, write, process, page)? {
             None => return Ok(None),
-            Some(Coming::Kept(stop)) => return Ok(Some(End::Stopped { page: *page, stop })),
-            Some(Coming::Here) => {}
+            Some(Coming::Kept(stop)) => return Ok(Some(End::Stopped { page, stop })),
+            Some(Coming::Here) => touch(book, write, process, page)?,
         }
-        touch(book, *write, process, *page)?;
         rest = others;
     }
-    Ok(ends_whole(unit.rest))
+    if unit.rest.is_empty() {
+        Ok(Some(End::Whole))
+    } else {
+        Ok(None)
+    }
 }
