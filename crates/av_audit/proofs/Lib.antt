@@ -1,3 +1,4 @@
 pub mod JudgeLaws
 pub mod KnownUnits
 pub mod ForkLaws
+pub mod RemapLaws

@@ -18,6 +18,7 @@ mod known;
 mod leaving;
 mod lengths;
 mod mapping;
+mod remapping;
 mod spawn;
 
 pub use auditor::{Auditor, Phase, Verdict};
