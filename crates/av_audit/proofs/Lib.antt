@@ -1,1 +1,3 @@
 pub mod JudgeLaws
+pub mod KnownUnits
+pub mod ForkLaws

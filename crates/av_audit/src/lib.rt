@@ -11,8 +11,13 @@
 //! Only tested: nothing.
 #![tactic(auto)]
 
+mod advising;
 mod auditor;
+mod forking;
+mod known;
 mod leaving;
+mod lengths;
+mod mapping;
 mod spawn;
 
 pub use auditor::{Auditor, Phase, Verdict};
