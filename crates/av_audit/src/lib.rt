@@ -11,8 +11,11 @@
 //! Only tested: nothing.
 #![tactic(auto)]
 
+mod accessing;
 mod auditor;
 mod leaving;
+mod lengths;
+mod locking;
 mod spawn;
 
 pub use auditor::{Auditor, Phase, Verdict};
