@@ -5,3 +5,4 @@ pub mod AccessLaws
 pub mod EndLaws
 pub mod AccessUnits
 pub mod LockLaws
+pub mod ForkLaws
