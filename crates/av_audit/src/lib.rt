@@ -13,6 +13,7 @@
 
 mod auditor;
 mod leaving;
+mod reporting;
 mod spawn;
 
 pub use auditor::{Auditor, Phase, Verdict};

@@ -1,1 +1,5 @@
+pub mod MapLaws
+mod PlainMaps
+mod PlainRuns
 pub mod ReportLaws
+pub mod RunLaws
