@@ -6,3 +6,4 @@ pub mod EndLaws
 pub mod AccessUnits
 pub mod LockLaws
 pub mod ForkLaws
+pub mod ReportingLaws

@@ -20,6 +20,7 @@ mod leaving;
 mod lengths;
 mod locking;
 mod mapping;
+mod reporting;
 mod spawn;
 
 pub use auditor::{Auditor, Phase, Verdict};
