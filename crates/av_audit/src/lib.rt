@@ -14,5 +14,6 @@
 mod auditor;
 mod leaving;
 mod spawn;
+mod swapping;
 
 pub use auditor::{Auditor, Phase, Verdict};
