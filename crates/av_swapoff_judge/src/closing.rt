@@ -1,7 +1,7 @@
 //! The slots of an area that is turned off are emptied, as notes tell.
 
-ghost use Rattle.std.specs.Prelude.{◌≡◌, ◌<◌, IfOk, Some, option_map};
-ghost use Rattle.av_plain.specs.Swapoff.{end_at, sparing_area};
+ghost use Rattle.std.specs.Prelude.{◌≡◌, ◌<◌, IfOk, option_map};
+ghost use Rattle.av_plain.specs.Swapoff.{sparing_area};
 ghost use Rattle.av_plain.specs.World.{World};
 ghost use Rattle.av_book.specs.Book.{ledger_of};
 ghost use Rattle.av_book.specs.Machine.{AreNamed, setting_of};
@@ -12,7 +12,6 @@ ghost use Rattle.av_swapoff_judge.specs.Close.{AreEmptied, Closes, IsWhole, clos
 use crate::emptying::{Emptying, empties};
 use crate::users::least_in_use;
 use av_access_judge::sparing;
-use av_base::Slot;
 use av_book::{Book, Machine, Spared};
 use av_judge::{Unit, completes};
 use av_trace::OutOf;
@@ -38,12 +37,9 @@ fn sparing_closing(
     ensures { IfOk result (λ spared. (w : World) → IsWorld memories.now w
         → spared_of spared ≡ sparing_area w area (ledger_of book.now)) }
 {
-    let Spared { pinned, locked, .. } = sparing(alloc, book, memories, None)?;
-    Ok(Spared {
-        pinned,
-        locked,
-        closing: Some(area),
-    })
+    let mut spared = sparing(alloc, book, memories, None)?;
+    spared.closing = Some(area);
+    Ok(spared)
 }
 
 /// The slots of an area in use are emptied, each the least in its turn.

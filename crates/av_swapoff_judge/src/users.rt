@@ -1,6 +1,6 @@
 //! The slots of an area in use, and the entries that name a slot.
 
-ghost use Rattle.std.specs.Prelude.{◌≡◌, ◌*◌, IfOk, map};
+ghost use Rattle.std.specs.Prelude.{◌≡◌, ◌∷◌, [], IfOk, map};
 ghost use Rattle.av_base.specs.Keys.{Key};
 ghost use Rattle.av_base.specs.Page.{address_of};
 ghost use Rattle.av_trace.specs.declared.note.Note.TheVariants as notes;
