@@ -1,4 +1,5 @@
 pub mod JudgeLaws
+pub mod SwapLaws
 pub mod KnownUnits
 pub mod ShownLaws
 pub mod AccessLaws

@@ -22,5 +22,6 @@ mod locking;
 mod mapping;
 mod reporting;
 mod spawn;
+mod swapping;
 
 pub use auditor::{Auditor, Phase, Verdict};
