@@ -1,5 +1,5 @@
 pub mod Access
-pub mod Known
 pub mod Judge
-pub mod Swap
+pub mod Kind
 pub mod Known
+pub mod Swap

@@ -23,5 +23,6 @@ mod mapping;
 mod reporting;
 mod spawn;
 mod swapping;
+mod units;
 
 pub use auditor::{Auditor, Phase, Verdict};
