@@ -11,7 +11,7 @@ AreCounted machine = (k : ℕ)
     (λ layout. length layout.bad.items < 2 ^ 32)
 
 -- a machine that words can say: it has a frame, and numbers for its slots and bad pages
-pub record IsMachine (machine : Machine) : Type 0 where
+pub record FitsWords (machine : Machine) : Type 0 where
   pub some : 0 < machine.frames
   pub named : AreNamed (setting_of machine)
   pub counted : AreCounted machine

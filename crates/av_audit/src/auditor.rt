@@ -5,7 +5,7 @@ ghost use Rattle.av_plain.specs.Ledger.{Ledger, first_ledger};
 ghost use Rattle.av_plain.specs.World.{World};
 ghost use Rattle.av_book.specs.Machine.{setting_of};
 ghost use Rattle.av_audit.specs.Judge.{IsAt, IsRight, verdict_of};
-ghost use Rattle.av_audit.specs.Swap.{IsMachine};
+ghost use Rattle.av_audit.specs.Swap.{FitsWords};
 
 use crate::units::{is_judged, is_legal};
 use av_book::{Book, Machine};
@@ -71,7 +71,7 @@ impl Auditor {
 
     /// What is said of a unit for a command, while the auditor goes on.
     fn judge_next(&mut self, command: &Command, unit: &[u8]) -> Result<Verdict, AllocError>
-        requires { IsMachine self.old.machine }
+        requires { FitsWords self.old.machine }
         ensures machine { self.new.machine ≡ self.old.machine }
         ensures phase { self.new.phase ≡ self.old.phase }
         ensures right { IfOk result (λ verdict. (w : World) (l : Ledger) → IsAt self.old w l
@@ -87,7 +87,7 @@ impl Auditor {
 
     /// What is said of a unit for a command.
     pub fn judge(&mut self, command: &Command, unit: &[u8]) -> Result<Verdict, AllocError>
-        requires { IsMachine self.old.machine }
+        requires { FitsWords self.old.machine }
         ensures going { self.old.phase ≡ Phase.Going → IfOk result (λ verdict. (w : World)
             (l : Ledger) → IsAt self.old w l
             → IsRight (setting_of self.old.machine) w l command.now unit.now verdict self.new) }

@@ -8,7 +8,7 @@ ghost use Rattle.av_book.specs.Machine.{setting_of};
 ghost use Rattle.av_world.specs.Memories.{IsWorld};
 ghost use Rattle.av_audit.specs.Judge.{IsLeft, is_judged};
 ghost use Rattle.av_audit.specs.Kind.{OfFrames, OfPages, OfProcesses, Reports, kind_of};
-ghost use Rattle.av_audit.specs.Swap.{IsMachine};
+ghost use Rattle.av_audit.specs.Swap.{FitsWords};
 
 use crate::accessing::{audits_read, audits_write};
 use crate::advising::{audits_madvise, audits_munlock};
@@ -48,7 +48,7 @@ pub fn is_legal(
     command: &Command,
     unit: &[u8],
 ) -> Result<bool, AllocError>
-    requires machine { IsMachine machine.now }
+    requires machine { FitsWords machine.now }
     requires judged { is_judged command.now ≡ true }
     ensures { IfOk result (λ legal. (w : World) → IsWorld memories.old w
         → AllSound (setting_of machine.now) w (ledger_of book.old)
@@ -119,7 +119,7 @@ fn is_legal_for_pages(
     command: &Command,
     unit: &[u8],
 ) -> Result<bool, AllocError>
-    requires machine { IsMachine machine.now }
+    requires machine { FitsWords machine.now }
     requires judged { is_judged command.now ≡ true }
     requires kind { kind_of command.now ≡ OfPages }
     ensures { IfOk result (λ legal. (w : World) → IsWorld memories.old w
@@ -194,7 +194,7 @@ fn is_legal_for_frames(
     command: &Command,
     unit: &[u8],
 ) -> Result<bool, AllocError>
-    requires machine { IsMachine machine.now }
+    requires machine { FitsWords machine.now }
     requires judged { is_judged command.now ≡ true }
     requires kind { kind_of command.now ≡ OfFrames }
     ensures { IfOk result (λ legal. (w : World) → IsWorld memories.old w
