@@ -1,4 +1,3 @@
 pub mod Access
-pub mod Known
 pub mod Judge
 pub mod Known
