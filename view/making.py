@@ -308,8 +308,8 @@ def window_of(wanted: tuple[int, int] | None, count: int) -> tuple[int, int]:
 def data_of(
     title: str, frames: int, run: Run, wanted: tuple[int, int] | None, illegal: int = 0
 ) -> dict:
-    """What the page shows, as it stands in it. `illegal` is the number of the reply that isn't legal
-    in a transcript that was judged; 0 for none.
+    """What the page shows, as it stands in it. `illegal` is the number of the reply that isn't
+    legal in a transcript that was judged; 0 for none.
     """
     progress, steps, base, said, size = Progress("view"), [], [], [run.said], 0
     first, last = window_of(wanted, len(run))
