@@ -125,6 +125,8 @@ class Machine:
             told = tell([self.program, "audit", *self.words], joined(trace, transcript), out)
             print(b"".join(bytes_in(out)).decode(errors="replace"), end="", flush=True)
         print(told.said, end="", file=sys.stderr, flush=True)
+        if told.status < 0:
+            raise Refused(why_ended(*told))
         return told
 
     def answer(self, trace: BinaryIO, end: int, out: BinaryIO) -> str:
@@ -170,10 +172,13 @@ def fault_of(found: Found, number: int, command: Command | None, names: list[str
 
 def sentences_of(found: Found, why: str) -> Iterator[str]:
     """What is said of avsim's own reply."""
+    is_same = found.own.lines == found.reply.lines
     if why:
         yield f"avsim itself gives no reply there: {why}."
-    elif found.own.lines == found.reply.lines:
+    elif is_same and found.parted:
         yield "That is the same reply, and legal behind avsim's own replies before it alone."
+    elif is_same:
+        yield "That is the same reply: so it is a fault of avsim, please tell."
     if found.parted:
         yield (
             f"Reply {found.parted} is the first that avsim gives otherwise, and legal, too: so "
@@ -205,7 +210,7 @@ def explain(number: int, files: list[BinaryIO], names: list[str], machine: Machi
     trace, transcript = files
     command = command_at(number, trace)
     with tempfile.TemporaryFile() as answers:
-        why = machine.answer(trace, command.end if command else sys.maxsize, answers)
+        why = machine.answer(trace, command.end, answers) if command else ""
         found = found_at(number, transcript, answers)
     print(f"{fault_of(found, number, command, names)}.")
     for lines in sections_of(found, command, names, why):
@@ -220,11 +225,11 @@ def command_at(number: int, trace: BinaryIO) -> Command | None:
 def hint_of(told: Told, trace: BinaryIO, name: str) -> str:
     """What is said behind the program's own line, if something is."""
     number = told.number()
+    if told.status == BAD_LINE and name == "-":
+        return "nothing is judged: ./avsim why says why the line is none"
     if told.status == BAD_LINE:
-        return (
-            f"nothing is judged: ./avsim why < {name} says why the line is none; "
-            f"head -n {number - 1} {name} is the trace up to it"
-        )
+        before = f"; head -n {number - 1} {name} is the trace up to it" if number > 1 else ""
+        return f"nothing is judged: ./avsim why < {name} says why the line is none{before}"
     command = command_at(number, trace) if told.status == NOT_JUDGED else None
     return f"its command is line {command.line}: {shown(command.text)}" if command else ""
 

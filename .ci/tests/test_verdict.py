@@ -140,7 +140,8 @@ class Explained(unittest.TestCase):
     def test_other_choices_before_it(self) -> None:
         said = self.said(3, ANSWERS.replace(b"map 7", b"map 6"))
         self.assertIn("Reply 2 is the first that avsim gives otherwise", said)
-        self.assertIn("That is the same reply", said)
+        self.assertIn("That is the same reply, and legal behind", said)
+        self.assertIn("a fault of avsim", self.said(3, ANSWERS))
 
     def test_what_is_wrong(self) -> None:
         command = Command(1, b"stat", 5)
@@ -158,6 +159,7 @@ class Explained(unittest.TestCase):
         for status, said, wanted in (
             (0, "", ""),
             (3, "avsim: line 3: not a command\n", "head -n 2 my.trace"),
+            (3, "avsim: line 1: not a command\n", "says why the line is none"),
             (10, "avsim: transcript too long\n", ""),
             (11, "avsim: reply 2: not judged yet\n", "line 3: mmap 1 4096 rw-"),
         ):
