@@ -1,1 +1,4 @@
+pub mod Access
+pub mod Known
 pub mod Judge
+pub mod Known

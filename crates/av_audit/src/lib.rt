@@ -11,8 +11,15 @@
 //! Only tested: nothing.
 #![tactic(auto)]
 
+mod accessing;
+mod advising;
 mod auditor;
+mod forking;
+mod known;
 mod leaving;
+mod lengths;
+mod locking;
+mod mapping;
 mod spawn;
 
 pub use auditor::{Auditor, Phase, Verdict};
