@@ -1,6 +1,5 @@
 pub mod JudgeLaws
 pub mod KnownUnits
-pub mod ShownLaws
 pub mod AccessLaws
 pub mod EndLaws
 pub mod AccessUnits

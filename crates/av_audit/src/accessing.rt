@@ -44,12 +44,7 @@ pub fn first_line(unit: &[u8]) -> Option<(&[u8], &[u8])>
 }
 
 /// Those of n pages from one on that have addresses of 64 bits, each read or each written.
-fn turns(
-    alloc: Global,
-    write: bool,
-    from: u64,
-    n: u64,
-) -> Result<Vec<(bool, u64)>, AllocError>
+fn turns(alloc: Global, write: bool, from: u64, n: u64) -> Result<Vec<(bool, u64)>, AllocError>
     requires { (from ≤ 2 ^ 52) × (n ≤ 2 ^ 53) }
     ensures pages { IfOk result (λ made. made.items
         ≡ turns_of write from (min (from + n) (2 ^ 52) - from)) }
@@ -105,7 +100,15 @@ fn ends_at(
     let from = address / PAGE_SIZE;
     let count = pages_met(address, n);
     let pages = turns(alloc, write, from, count)?;
-    let found = accesses(book, alloc, machine, memories, process, pages.as_slice(), notes)?;
+    let found = accesses(
+        book,
+        alloc,
+        machine,
+        memories,
+        process,
+        pages.as_slice(),
+        notes,
+    )?;
     Ok(stops_below(found, from + count))
 }
 
@@ -189,7 +192,9 @@ pub fn audits_read(
         return Ok(false);
     };
     let n = u64::from(length);
-    match ends_at(alloc, machine, memories, book, process, false, address, n, notes)? {
+    match ends_at(
+        alloc, machine, memories, book, process, false, address, n, notes,
+    )? {
         None => Ok(false),
         Some(end) => {
             let k = served(address, n, end);
@@ -223,7 +228,9 @@ pub fn audits_write(
         return Ok(false);
     };
     let n = bytes.len() as u64;
-    match ends_at(alloc, machine, memories, book, process, true, address, n, notes)? {
+    match ends_at(
+        alloc, machine, memories, book, process, true, address, n, notes,
+    )? {
         None => Ok(false),
         Some(end) => {
             let k = served(address, n, end);

@@ -155,5 +155,15 @@ pub fn audits_mlock(
     if mapped < n {
         return is_answer(alloc, &Answer::Refused(Errno::Enomem), unit);
     }
-    comes_in(alloc, machine, memories, book, process, from, n, pages.as_slice(), unit)
+    comes_in(
+        alloc,
+        machine,
+        memories,
+        book,
+        process,
+        from,
+        n,
+        pages.as_slice(),
+        unit,
+    )
 }
