@@ -1,7 +1,9 @@
 pub mod JudgeLaws
+pub mod SwapLaws
 pub mod KnownUnits
 pub mod AccessLaws
 pub mod EndLaws
 pub mod AccessUnits
 pub mod LockLaws
 pub mod ForkLaws
+pub mod ReportingLaws
