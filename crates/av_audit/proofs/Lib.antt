@@ -1,7 +1,6 @@
 pub mod JudgeLaws
 pub mod SwapLaws
 pub mod KnownUnits
-pub mod ShownLaws
 pub mod AccessLaws
 pub mod EndLaws
 pub mod AccessUnits
