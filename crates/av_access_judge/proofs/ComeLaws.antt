@@ -15,7 +15,7 @@ use Rattle.av_judge.specs.Stage.{Meets}
 use Rattle.av_judge.proofs.Finds.{stand-none}
 use Rattle.av_access_judge.specs.Come.{IsKept, IsKeptBy}
 
-abbrev Comes : Setting → Sparing → Ledger → Key → Need → Unit {0} → List Note → Type 0
+abbrev pub Comes : Setting → Sparing → Ledger → Key → Need → Unit {0} → List Note → Type 0
 Comes m sp l k n u = ComesIn m sp l k n
 
 module _ (m : Setting) (sp : Sparing) (l : Ledger) (k : Key) (s : Slot) (bytes rest : List ℕ) where

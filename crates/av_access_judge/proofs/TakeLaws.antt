@@ -135,10 +135,10 @@ module _ (m : Setting) (sp : Spared) (l : Ledger) (taking : Taking) (bytes rest 
 
 -- ---- by what the page needs
 
-abbrev Makes : Setting → Sparing → Ledger → Key → Need → Unit {0} → List Note → Type 0
+abbrev pub Makes : Setting → Sparing → Ledger → Key → Need → Unit {0} → List Note → Type 0
 Makes m sp l k n u = IsMade m sp l k n
 
-abbrev Finds : Setting → Sparing → Ledger → Need → OutOf → List Note → Type 0
+abbrev pub Finds : Setting → Sparing → Ledger → Need → OutOf → List Note → Type 0
 Finds m sp l n out notes = FindsNone m sp l n notes out
 
 finds-none : (m : Setting) (sp : Sparing) (l : Ledger) (n : Need) (out : OutOf) (ns : List Note) → FindsNone m sp l n ns out

@@ -10,14 +10,18 @@
 //! Only tested: nothing.
 #![tactic(auto)]
 
+mod accessing;
 mod coming;
 mod dropping;
 mod making;
 mod spared;
 mod taking;
+mod touching;
 
+pub use accessing::{End, accesses};
 pub use coming::{Coming, Stop, comes};
 pub use dropping::{drops, unneeded};
 pub use making::{Making, makes};
 pub use spared::sparing;
 pub use taking::{Take, takes_behind};
+pub use touching::touches;

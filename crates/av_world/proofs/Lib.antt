@@ -2,3 +2,4 @@ pub mod RangeLaws
 pub mod HoleLaws
 pub mod SpaceLaws
 pub mod WorldLaws
+pub mod BytesLaws

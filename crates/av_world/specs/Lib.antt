@@ -2,3 +2,4 @@ pub mod Space
 pub mod Ranges
 pub mod Memories
 pub mod Holes
+pub mod Bytes

@@ -2,8 +2,8 @@
 //!
 //! Proved: a process's pages are those that the definitions have, after each call: pages that are
 //! mapped, unmapped, protected, marked or wiped (`Space::edit`), and processes that come and go
-//! (`Memories`). And what the definitions ask of them: whether a page may be accessed or is locked,
-//! how many pages come before a hole, the greatest gap. Bytes are not written yet.
+//! (`Memories`), and their bytes are written and read. And what the definitions ask of them: whether
+//! a page may be accessed or is locked, how many pages come before a hole, the greatest gap.
 //!
 //! Pages are kept as ranges, so a call doesn't cost more where its own range is long. But it goes
 //! over all ranges of the process and, where it unmaps or wipes, over all its pages with bytes; and
@@ -12,6 +12,7 @@
 //! Only tested: nothing.
 #![tactic(auto)]
 
+mod bytes;
 mod edit;
 mod holes;
 mod mapping;
