@@ -16,7 +16,7 @@ use Rattle.av_plain.proofs.Sound.Pass.{count-reverse}
 
 -- ---- the first and the last of a range
 
-find-first : (p : ℕ → Bool) (a n y : ℕ) → a ≤ y → y < a + n → p y ≡ true → ((x : ℕ) → a ≤ x → x < y → p x ≡ false)
+pub find-first : (p : ℕ → Bool) (a n y : ℕ) → a ≤ y → y < a + n → p y ≡ true → ((x : ℕ) → a ≤ x → x < y → p x ≡ false)
     → find p (range_with_len a n) ≡ Some y
 find-first p a zero y low high is none = absurd (omega (arith, low, high))
 find-first p a (suc n) y low high is none = by (a == y) refl
@@ -28,6 +28,12 @@ find-first p a (suc n) y low high is none = by (a == y) refl
         ap (λ b. cond b (Some a) (find p (range_with_len (a + 1) n))) (ap p same ∙ is) ∙ ap Some same
     by false e later = ap (λ b. cond b (Some a) (find p (range_with_len (a + 1) n))) (none a (omega arith) (grind (arith, nat_tests, e, low)))
         ∙ later (grind (arith, nat_tests, e, low))
+
+-- none of a range passes
+pub find-nothing : (p : ℕ → Bool) (a n : ℕ) → ((x : ℕ) → a ≤ x → x < a + n → p x ≡ false) → find p (range_with_len a n) ≡ None
+find-nothing p a zero none = refl
+find-nothing p a (suc n) none = ap (λ b. cond b (Some a) (find p (range_with_len (a + 1) n))) (none a (omega arith) (omega arith))
+    ∙ find-nothing p (a + 1) n (λ x l h. none x (omega (arith, l)) (omega (arith, h)))
 
 none-above : (p : ℕ → Bool) (a n : ℕ) (ys : List ℕ) → ((x : ℕ) → a ≤ x → x < a + n → p x ≡ false)
     → find p (reverse_aux (range_with_len a n) ys) ≡ find p ys
