@@ -1,5 +1,5 @@
 -- Pages in turn: one is touched, and then the rest.
-use Rattle.std.proofs.Common.{◌≡◌, ◌⊎◌, inl, inr, ℕ, ◌<◌, length, arith, Bool, Option, Some, None, List, [], ◌∷◌, ◌++◌, refl, sym, ap, subst, ◌∙◌, append-nil}
+use Rattle.std.proofs.Common.{◌≡◌, inl, inr, ℕ, ◌<◌, ◌≤◌, ◌-◌, length, take, drop, arith, Bool, Option, Some, None, List, [], ◌∷◌, ◌++◌, refl, sym, ap, subst, ◌∙◌, append-nil}
 use Rattle.std.proofs.lemmas.List.{append_cancel_left}
 use Rattle.std.specs.List.{AllByRecursion}
 use Rattle.av_base.specs.Keys.{Key}
@@ -13,10 +13,10 @@ use Rattle.av_plain.specs.Ledger.{Ledger, Setting}
 use Rattle.av_plain.specs.World.{World}
 use Rattle.av_plain.proofs.Access.{after_all-append, note_events-all, notes_of-append, notes_of-note_events}
 use Rattle.av_audit_laws.proofs.ToldPage.{touches-told}
-use Rattle.av_judge.specs.Finds.{IsFound, Stand}
+use Rattle.av_judge.specs.Finds.{Stand}
 use Rattle.av_judge.specs.Stage.{Meets}
-use Rattle.av_judge.proofs.Finds.{front-of, go-on, stand-both, stand-parts}
-use Rattle.av_access_judge.specs.Access.{AreTold, Ends}
+use Rattle.av_judge.proofs.Finds.{front-of, go-on, slice-cons, stand-both, stand-parts}
+use Rattle.av_access_judge.specs.Access.{Ends}
 use Rattle.av_access_judge.proofs.TouchLaws.{Served, Stops}
 
 -- ---- events and their notes
@@ -155,3 +155,18 @@ module _ (m : Setting) (w : World) (l : Ledger) (p : ℕ) (page : Bool × ℕ) (
             after = rest.after ∙ ap (λ n. after_all n rest.events) (sym here)
                 ∙ sym (after_all-append l (page_events page.0 k first.notes None) rest.events);
           }
+
+-- where what is told from here on is what is told, so is that a page isn't served
+pub ends-kept : (m : Setting) (w : World) (l first l' : Ledger) (p : ℕ) (page : Bool × ℕ) (pages left all : List (Bool × ℕ))
+    (bytes mid notes : List ℕ) (stop : Stop) → page ∷ pages ≡ left
+    → Meets (Served m w l page.0 (p, page.1)) (Stops m w l page.0 (p, page.1)) l bytes (Some (inr stop)) l' mid
+    → ((found : Option End) (l' : Ledger) → Ends (Goes m w l p left) l bytes found l' → Ends (Goes m w first p all) first notes found l')
+    → Ends (Goes m w first p all) first notes (Some (Stopped page.1 stop)) l'
+ends-kept m w l first l' p page pages left all bytes mid notes stop same here told =
+    told (Some (Stopped page.1 stop)) l'
+    (subst (λ ps. Ends (Goes m w l p ps) l bytes (Some (Stopped page.1 stop)) l') same (ends-stop m w l p page pages bytes l' mid stop here))
+
+-- what all of a list have, those behind the first have
+pub all-behind : {A : Type 0} (P : A → Type 0) (xs : List A) (d : A) → 1 ≤ length xs → AllByRecursion P xs
+    → AllByRecursion P (take (length xs - 1) (drop 1 xs))
+all-behind P xs d h all = (subst (AllByRecursion P) (sym (slice-cons xs d h)) all).1

@@ -1,5 +1,5 @@
 -- The pages of an access in turn, and where that ends.
-use Rattle.std.specs.Prelude.{◌≡◌, ℕ, List, MatchOption, Option, Some, None}
+use Rattle.std.specs.Prelude.{◌≡◌, ℕ, List, MatchOption, Option}
 use Rattle.std.specs.List.{AllByRecursion}
 use Rattle.av_trace.specs.Note.{IsNote}
 use Rattle.av_trace.specs.Print.{notes_text}

@@ -1,5 +1,5 @@
 -- A process's pages after a change.
-use Rattle.std.proofs.Common.{◌≡◌, ℕ, ◌+◌, ◌<◌, ◌≤◌, Bool, true, false, cond, ◌&&◌, ◌||◌, arith, List, [], ◌∷◌, ◌++◌, Option, Some, None, refl, sym, ap, subst, ◌∙◌, nat_le, nat_lt}
+use Rattle.std.proofs.Common.{◌≡◌, ℕ, ◌+◌, ◌≤◌, Bool, true, false, cond, ◌&&◌, ◌||◌, arith, List, [], ◌∷◌, ◌++◌, Option, Some, None, refl, sym, ap, subst, ◌∙◌, nat_le, nat_lt}
 use Rattle.std.specs.Prelude.{Result, Ok, Err, OnOk, filter, option_and_then, option_map}
 use Rattle.std.specs.Ordering.{is_eq, nat_cmp}
 use Rattle.std.specs.declared.cmp.Ordering.{Ordering}
@@ -13,9 +13,8 @@ use Rattle.std.specs.BTreeMap.{BTreeMap, get, is_at}
 use Rattle.av_base.specs.Flags.{no_flags}
 use Rattle.av_base.specs.Limits.{top_page}
 use Rattle.av_base.specs.Words.{within}
-use Rattle.av_base.specs.declared.flags.Flag.{Flag}
 use Rattle.av_base.specs.declared.prot.Prot.{Prot}
-use Rattle.av_plain.specs.World.{Page, Process, no_pages, wiped, with_change_on, with_page_flag, with_pages, with_prot, with_prot_on, zeros}
+use Rattle.av_plain.specs.World.{Page, Process, no_pages, wiped, with_change_on, with_page_flag, with_pages, with_prot, zeros}
 use Rattle.av_world.specs.Ranges.{AreChanged, AreWiped, change_of}
 use Rattle.av_world.specs.Space.{IsPage, IsSpace, byte_in, has, marks_in}
 use Rattle.av_world.specs.declared.ranges.Change.{Change}
@@ -75,7 +74,7 @@ on-ok (Err e) h f = tt
 
 -- ---- zeros
 
-kept-at : (t : ℕ → Bool) (es : List (ℕ × Vec ℕ Global)) (k : ℕ)
+pub kept-at : (t : ℕ → Bool) (es : List (ℕ × Vec ℕ Global)) (k : ℕ)
     → lookup (is_at (nat_cmp k)) (filter (λ e. t e.0) es) ≡ cond (t k) (lookup (is_at (nat_cmp k)) es) None
 kept-at t [] k = none (t k)
   where
@@ -164,7 +163,7 @@ pages-wiped old new q from n h w = record {
 
 -- ---- pages that are mapped anew
 
-marks-last : (rs : List Range) (r : Range) (page : ℕ)
+pub marks-last : (rs : List Range) (r : Range) (page : ℕ)
     → marks_in (rs ++ r ∷ []) page ≡ elim (marks_in rs page) [ None ↦ cond (has r page) (Some r.marks) None | Some k ↦ Some k ]
 marks-last [] r page = refl
 marks-last (e ∷ es) r page = by (has e page) (marks-last es r page)

@@ -1,5 +1,5 @@
 -- What is kept of processes goes with the memories.
-use Rattle.std.proofs.Common.{◌≡◌, ℕ, suc, ◌<◌, ◌≤◌, List, [], ◌∷◌, Bool, true, false, cond, not, ◌&&◌, ◌==◌, Option, Some, None, T, is_some, length, refl, sym, ap, subst, ◌∙◌, arith}
+use Rattle.std.proofs.Common.{◌≡◌, ℕ, suc, ◌<◌, ◌≤◌, List, [], ◌∷◌, Bool, true, false, cond, not, ◌&&◌, ◌==◌, Option, Some, None, T, is_some, length, refl, sym, ap, subst, ◌∙◌, arith, zero, ◌+◌}
 use Rattle.std.specs.Prelude.{IfSome, option_and_then, option_map}
 use Rattle.std.specs.Option.{option_map_or}
 use Rattle.av_base.specs.Limits.{top_page}
@@ -17,7 +17,7 @@ use Rattle.std.specs.Ordering.{nat_cmp, eq_by_cmp, match_ordering, is_eq, is_lt}
 use Rattle.std.specs.FinMap.Entries.{by_order, put, find, is_sorted, below_all, where_key, is_sorted-where_key}
 use Rattle.std.specs.BTreeMap.{insert_entry, is_at}
 use Rattle.std.specs.Map.{lookup, remove_entry, set_value}
-use Rattle.av_plain.specs.World.{Page, Process, World, allows, is_locked_page, end_process, lives, no_pages, pages, process, set_process}
+use Rattle.av_plain.specs.World.{Page, Process, World, allows, is_locked_page, end_process, lives, no_pages, pages, process, set_process, meets, pages_to_hole, pages_to_locked}
 use Rattle.av_plain.proofs.World.{is_sorted-set}
 use Rattle.av_world.specs.Memories.{AreSpaces, IsProcess, IsWorld}
 use Rattle.av_world.specs.Space.{IsPage, IsSpace, marks_in, marks_of}
@@ -253,3 +253,28 @@ pub world-claimed : (memories : Memories) (w : World) (p page : ℕ) → IsWorld
     → IfSome (pages w p page) (λ (p : Page). (i : ℕ) → i < page_size → is_some (p.bytes i) ≡ true)
 world-claimed memories w p page h = of-world (λ q. IfSome (q page) (λ (p : Page). (i : ℕ) → i < page_size → is_some (p.bytes i) ≡ true))
     memories w p h tt (λ s q is. page-claimed (marks_in s.ranges.items page) _ (q page) (is.pages page))
+-- ---- a process that doesn't live has no pages
+pub no-pages : (o : Option Space) (w : World) (p : ℕ) → IsProcess o (process w p) → o ≡ None → pages w p ≡ no_pages
+no-pages o w p h is = by (process w p) refl (subst (λ o. IsProcess o (process w p)) is h)
+  where
+    by : (q : Option Process) → process w p ≡ q → IsProcess None q → pages w p ≡ no_pages
+    by None e h = λ i page. option_and_then (λ (q : Process). q page) (e i)
+    by (Some q) e h = absurd h
+none-met : (from n : ℕ) → meets no_pages from n ≡ false
+none-met from zero = refl
+none-met from (suc n) = none-met (from + 1) n
+hole-at-once : (from n : ℕ) → pages_to_hole no_pages from n ≡ 0
+hole-at-once from zero = refl
+hole-at-once from (suc n) = refl
+none-locked : (from n : ℕ) → pages_to_locked no_pages from n ≡ n
+none-locked from zero = refl
+none-locked from (suc n) = ap (λ x. x + 1) (none-locked (from + 1) n) ∙ one n
+  where
+    one : (n : ℕ) → n + 1 ≡ suc n
+    one n = omega arith
+pub dead-meets : (q : Process) (from n : ℕ) → q ≡ no_pages → false ≡ meets q from n
+dead-meets q from n is = sym (ap (λ q. meets q from n) is ∙ none-met from n)
+pub dead-hole : (q : Process) (from n : ℕ) → q ≡ no_pages → 0 ≡ pages_to_hole q from n
+dead-hole q from n is = sym (ap (λ q. pages_to_hole q from n) is ∙ hole-at-once from n)
+pub dead-locked : (q : Process) (from n : ℕ) → q ≡ no_pages → n ≡ pages_to_locked q from n
+dead-locked q from n is = sym (ap (λ q. pages_to_locked q from n) is ∙ none-locked from n)

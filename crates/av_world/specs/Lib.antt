@@ -3,3 +3,4 @@ pub mod Ranges
 pub mod Memories
 pub mod Holes
 pub mod Bytes
+pub mod Child

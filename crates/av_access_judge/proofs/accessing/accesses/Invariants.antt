@@ -1,4 +1,4 @@
-use Rattle.std.proofs.Common.{◌<◌, ◌^◌, Bool, ℕ, List, Option, length}
+use Rattle.std.proofs.Common.{◌<◌, ◌^◌, Bool, ℕ, Option, length}
 use Rattle.std.specs.List.{AllByRecursion}
 use Rattle.av_plain.specs.Access.{End}
 use Rattle.av_plain.specs.Ledger.{Ledger}

@@ -1,4 +1,4 @@
-use Rattle.std.proofs.Common.{ℕ, List, None, Option, Some, ap, subst, ◌∙◌}
+use Rattle.std.proofs.Common.{None, Option, Some, ap, subst, ◌∙◌}
 use Rattle.av_base.specs.Keys.{Key}
 use Rattle.av_plain.specs.Fault.{sparing}
 use Rattle.av_plain.specs.Pass.{Spared}

@@ -1,4 +1,4 @@
-use Rattle.std.proofs.Common.{◌≡◌, ap, subst, sym, ◌∙◌, false, true, List, Some}
+use Rattle.std.proofs.Common.{◌≡◌, ap, subst, ◌∙◌, false, true, List, Some}
 use Rattle.av_base.specs.Keys.{Key}
 use Rattle.av_trace.specs.declared.note.Note.{Note}
 use Rattle.av_plain.specs.Fault.{sparing, was_slot}

@@ -1,4 +1,4 @@
-use Rattle.std.proofs.Common.{◌≡◌, Bool, ap, subst, sym, ◌∙◌, Some, Option}
+use Rattle.std.proofs.Common.{Bool, ap, subst, ◌∙◌, Some, Option}
 use Rattle.av_base.specs.Keys.{Key}
 use Rattle.av_plain.specs.Fault.{sparing, was_slot}
 use Rattle.av_plain.specs.World.{World}
@@ -11,7 +11,6 @@ use Rattle.av_world.specs.Memories.{IsWorld}
 use Rattle.av_access_judge.specs.Come.{HasNoSlot, coming_of, stop_of}
 use Rattle.av_access_judge.specs.Touch.{IsUnready, IsUnserved}
 use Rattle.av_access_judge.specs.declared.coming.Coming.{Coming}
-use Rattle.av_access_judge.specs.declared.coming.Coming.TheVariants.{Here}
 use Rattle.av_access_judge.proofs.ServeLaws.{MakesReady, Serve, come-is, need_at, serve-here, serve-kept, serve-none}
 use Rattle.av_access_judge.proofs.touching.serves.Goals as goal
 
