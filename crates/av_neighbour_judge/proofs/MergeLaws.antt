@@ -1,12 +1,12 @@
 -- The pages merge in turn; and what a merge may answer.
-use Rattle.std.proofs.Common.{◌≡◌, ℕ, ◌+◌, ◌*◌, ◌<◌, List, [], ◌∷◌, ◌++◌, map, Option, Some, None, true, refl, sym, ap, subst, ◌∙◌, append_assoc, is_some}
-use Rattle.std.specs.Prelude.{IfSome}
+use Rattle.std.proofs.Common.{◌≡◌, ℕ, ◌<◌, List, [], ◌∷◌, ◌++◌, map, Option, Some, None, true, refl, sym, ap, subst, ◌∙◌, append_assoc, is_some}
+use Rattle.std.specs.Prelude.{IfSome, MatchOption}
 use Rattle.av_base.specs.Keys.{Key}
 use Rattle.av_base.specs.Page.{page_size}
 use Rattle.av_trace.specs.declared.command.Command.TheVariants.{Merge}
 use Rattle.av_trace.specs.declared.note.Note.{Note}
 use Rattle.av_trace.specs.declared.reply.Reply.{Reply}
-use Rattle.av_plain.specs.Event.{Event, after_all, after_notes, note_events, notes_of}
+use Rattle.av_plain.specs.Event.{Event, after_all, after_notes, note_events}
 use Rattle.av_plain.specs.Ledger.{Ledger, Setting}
 use Rattle.av_plain.specs.Merge.{FrameBytes, HoldClaims, candidate, join_notes, merge_notes, merged_like, merges, other_like, with_candidate}
 use Rattle.av_plain.specs.Sound.{AllSound}
@@ -18,7 +18,8 @@ use Rattle.av_judge.proofs.KnownLaws.{AnswersOnly}
 use Rattle.av_judge.proofs.VerdictLaws.{said}
 use Rattle.av_world.specs.Memories.{IsWorld}
 use Rattle.av_world.specs.declared.memories.Memories.{Memories}
-use Rattle.av_neighbour_judge.specs.Held.{byte_of, bytes_of_page}
+use Rattle.av_neighbour_judge.specs.First.{FramePages}
+use Rattle.av_neighbour_judge.specs.Held.{held_by}
 use Rattle.av_neighbour_judge.specs.Merging.{HasMerged}
 use Rattle.av_neighbour_judge.proofs.HeldLaws.{page-claims}
 
@@ -51,6 +52,16 @@ merging-next m held w l keys before l' l'' now more earlier earlier' k rest whol
     turn : merges m held w l' earlier (k ∷ rest) ≡ here ++ merges m held w (after_notes l' here) (with_candidate earlier o) rest
     turn = λ i. merge_notes m held l' earlier k (found i)
         ++ merges m held w (after_notes l' (merge_notes m held l' earlier k (found i))) (with_candidate earlier (found i)) rest
+
+pub merging-join : (m : Setting) (held : FrameBytes) (w : World) (l : Ledger) (keys : List Key) (before : List Note) (l' l'' : Ledger) (now more : List Note)
+    (earlier earlier' : List ℕ) (k : Key) (rest whole : List Key) (f : ℕ) (merged other : Option ℕ) → k ∷ rest ≡ whole → candidate w l' k ≡ Some f
+    → Merging m held w l keys before l' now earlier whole → earlier' ≡ earlier ++ f ∷ []
+    → merged ≡ merged_like m held l' f → other ≡ other_like held earlier f
+    → more ≡ now ++ join_notes k merged other → l'' ≡ after_notes l' (join_notes k merged other)
+    → Merging m held w l keys before l'' more earlier' rest
+merging-join m held w l keys before l' l'' now more earlier earlier' k rest whole f merged other is found h behind a b noted after =
+    merging-next m held w l keys before l' l'' now more earlier earlier' k rest whole (Some f) is found h behind
+    (noted ∙ (λ i. now ++ join_notes k (a i) (b i))) (after ∙ (λ i. after_notes l' (join_notes k (a i) (b i))))
 
 pub merging-end : (m : Setting) (held : FrameBytes) (w : World) (l : Ledger) (keys : List Key) (before : List Note) (l' : Ledger) (now : List Note)
     (earlier : List ℕ) (rest : List Key) → rest ≡ [] → Merging m held w l keys before l' now earlier rest → HasMerged m held w l keys before l' now
@@ -94,3 +105,9 @@ merge-none m w l none es reply legal = none legal.answer.0 legal.answer.1
 
 pub merge-after : (l : Ledger) (notes : List Note) → after_notes l notes ≡ after_all l (note_events notes)
 merge-after l notes = sym (note_events-all l notes)
+
+pub found-pages : (w : World) (l : Ledger) (memories : Memories) (o : Option FramePages) (told : FramePages)
+    → MatchOption o ((held : FrameBytes) → HoldClaims w l held → ⊥) (λ pages. HoldClaims w l (held_by memories pages)) → o ≡ Some told
+    → HoldClaims w l (held_by memories told)
+found-pages w l memories o told h is = subst (λ (o : Option FramePages). MatchOption o ((held : FrameBytes) → HoldClaims w l held → ⊥)
+    (λ pages. HoldClaims w l (held_by memories pages))) is h

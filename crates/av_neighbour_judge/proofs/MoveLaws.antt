@@ -1,5 +1,5 @@
 -- Which frame goes over next, and what a frame that has gone leaves, whether the ledger is sound or not.
-use Rattle.std.proofs.Common.{◌≡◌, ℕ, zero, suc, ◌+◌, ◌<◌, ◌≤◌, Bool, true, false, cond, not, nat_lt, List, [], ◌∷◌, ◌++◌, map, refl, sym, ap, subst, ◌∙◌, arith, ◌==◌, append_assoc}
+use Rattle.std.proofs.Common.{◌≡◌, ℕ, ◌+◌, ◌<◌, ◌≤◌, Bool, true, false, cond, nat_lt, List, [], ◌∷◌, ◌++◌, map, refl, sym, ap, subst, ◌∙◌, arith, ◌==◌, append_assoc}
 use Rattle.std.specs.Prelude.{Some, None}
 use Rattle.std.proofs.lemmas.Bool.Decides.{nat_tests}
 use Rattle.av_base.specs.Keys.{Key}
@@ -7,12 +7,10 @@ use Rattle.av_base.specs.Words.{how_many, renamed}
 use Rattle.av_trace.specs.declared.command.Command.TheVariants.{Compact}
 use Rattle.av_trace.specs.declared.note.Note.{Note}
 use Rattle.av_trace.specs.declared.note.Note.TheVariants.{Moved}
-use Rattle.av_trace.specs.declared.reply.Answer.{Answer}
-use Rattle.av_trace.specs.declared.row.Row.{Row}
-use Rattle.av_plain.specs.Compact.{Compacts, MovesDown, next_move}
-use Rattle.av_plain.specs.Event.{Event, FreeSorted, after_all, after_note, after_notes, note_events, notes_of, placed_entry, with_places}
-use Rattle.av_plain.specs.Ledger.{Cached, Entry, InFrame, InSlot, Ledger, Setting, Zero, is_free, map_count, names_frame}
-use Rattle.av_plain.specs.Sound.{holders, uses}
+use Rattle.av_plain.specs.Compact.{MovesDown, next_move}
+use Rattle.av_plain.specs.Event.{FreeSorted, after_all, after_note, after_notes, note_events, notes_of, placed_entry, with_places}
+use Rattle.av_plain.specs.Ledger.{Cached, Entry, InFrame, InSlot, Ledger, Setting, Zero, is_free, names_frame}
+use Rattle.av_plain.specs.Sound.{uses}
 use Rattle.av_plain.specs.World.{World}
 use Rattle.av_plain.proofs.Access.{after_all-append, after_notes-append, note_events-all, notes_of-append, notes_of-note_events}
 use Rattle.av_plain.proofs.OneMerge.{moves-one}
@@ -112,17 +110,17 @@ module _ (l : Ledger) (from to : ℕ) (below : to < from) where
   uses-gone : uses went from ≡ 0
   uses-gone =
       let a = count-moved (λ (e : Key × Entry). names_frame from e.1) (λ e. false) (λ e. (e.0, placed_entry (renamed from to) e.1)) l.entries (λ e. no-entry e.1)
-          ∙ count-nothing (λ (e : Key × Entry). false) l.entries (λ e. refl) in
+      ∙ count-nothing (λ (e : Key × Entry). false) l.entries (λ e. refl) in
       let b = count-moved (λ (c : Cached). from == c.frame) (λ c. false) (λ c. record c { frame = renamed from to c.frame }) l.cache
-          (λ c. none-from from to apart c.frame) ∙ count-nothing (λ (c : Cached). false) l.cache (λ c. refl) in
+      (λ c. none-from from to apart c.frame) ∙ count-nothing (λ (c : Cached). false) l.cache (λ c. refl) in
       λ i. a i + b i
 
   uses-come : uses l from ≤ uses went to
   uses-come =
       let a = count-less (λ (e : Key × Entry). names_frame to e.1) (λ (e : Key × Entry). names_frame from e.1) (λ e. (e.0, placed_entry (renamed from to) e.1)) l.entries
-          (λ e. gone-entry e.1) in
+      (λ e. gone-entry e.1) in
       let b = count-less (λ (c : Cached). to == c.frame) (λ (c : Cached). from == c.frame) (λ c. record c { frame = renamed from to c.frame }) l.cache
-          (λ c. gone-number c.frame) in
+      (λ c. gone-number c.frame) in
       omega (arith, a, b)
 
   pub free-other : (g : ℕ) → (g == from) ≡ false → (g == to) ≡ false → is_free went g ≡ is_free l g

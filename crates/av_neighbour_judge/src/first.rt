@@ -31,10 +31,10 @@ fn tells_frame(
             pages.insert(frame, key)?;
             Ok(true)
         }
-        Some(first) => Ok(same_bytes(
-            page_bytes(memories, first),
-            page_bytes(memories, key),
-        )),
+        Some(first) => {
+            let (one, other) = (page_bytes(memories, first), page_bytes(memories, key));
+            Ok(same_bytes(one, other, 4096))
+        }
     }
 }
 

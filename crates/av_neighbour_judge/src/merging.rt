@@ -51,12 +51,20 @@ fn joins(
     let (process, address) = (key.0, key.1 * PAGE_SIZE);
     match (merged, other) {
         (Some(frame), _) => {
-            let note = Note::Joined { process, address, frame };
+            let note = Note::Joined {
+                process,
+                address,
+                frame,
+            };
             adds(book, notes, note)
         }
         (None, Some(frame)) => {
             adds(book, notes, Note::Shared(frame))?;
-            let note = Note::Joined { process, address, frame };
+            let note = Note::Joined {
+                process,
+                address,
+                frame,
+            };
             adds(book, notes, note)
         }
         (None, None) => Ok(()),
