@@ -19,7 +19,7 @@ use Rattle.av_plain.proofs.Sound.Sharing.{none-from}
 use Rattle.av_judge.proofs.KnownLaws.{AnswersOnly}
 use Rattle.av_judge.proofs.VerdictLaws.{said}
 use Rattle.av_neighbour_judge.specs.Moving.{AreNext, HasMoved, IsNext}
-use Rattle.av_neighbour_laws.proofs.NextMove.{MovesSoFar, next-none, next-some, so_far-all, so_far-more}
+use Rattle.av_command_laws.proofs.NextMove.{MovesSoFar, next-none, next-some, so_far-all, so_far-more}
 
 -- ---- numbers up to one
 

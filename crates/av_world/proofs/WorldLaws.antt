@@ -253,6 +253,7 @@ pub world-claimed : (memories : Memories) (w : World) (p page : ℕ) → IsWorld
     → IfSome (pages w p page) (λ (p : Page). (i : ℕ) → i < page_size → is_some (p.bytes i) ≡ true)
 world-claimed memories w p page h = of-world (λ q. IfSome (q page) (λ (p : Page). (i : ℕ) → i < page_size → is_some (p.bytes i) ≡ true))
     memories w p h tt (λ s q is. page-claimed (marks_in s.ranges.items page) _ (q page) (is.pages page))
+
 -- ---- a process that doesn't live has no pages
 pub no-pages : (o : Option Space) (w : World) (p : ℕ) → IsProcess o (process w p) → o ≡ None → pages w p ≡ no_pages
 no-pages o w p h is = by (process w p) refl (subst (λ o. IsProcess o (process w p)) is h)
@@ -260,21 +261,27 @@ no-pages o w p h is = by (process w p) refl (subst (λ o. IsProcess o (process w
     by : (q : Option Process) → process w p ≡ q → IsProcess None q → pages w p ≡ no_pages
     by None e h = λ i page. option_and_then (λ (q : Process). q page) (e i)
     by (Some q) e h = absurd h
+
 none-met : (from n : ℕ) → meets no_pages from n ≡ false
 none-met from zero = refl
 none-met from (suc n) = none-met (from + 1) n
+
 hole-at-once : (from n : ℕ) → pages_to_hole no_pages from n ≡ 0
 hole-at-once from zero = refl
 hole-at-once from (suc n) = refl
+
 none-locked : (from n : ℕ) → pages_to_locked no_pages from n ≡ n
 none-locked from zero = refl
 none-locked from (suc n) = ap (λ x. x + 1) (none-locked (from + 1) n) ∙ one n
   where
     one : (n : ℕ) → n + 1 ≡ suc n
     one n = omega arith
+
 pub dead-meets : (q : Process) (from n : ℕ) → q ≡ no_pages → false ≡ meets q from n
 dead-meets q from n is = sym (ap (λ q. meets q from n) is ∙ none-met from n)
+
 pub dead-hole : (q : Process) (from n : ℕ) → q ≡ no_pages → 0 ≡ pages_to_hole q from n
 dead-hole q from n is = sym (ap (λ q. pages_to_hole q from n) is ∙ hole-at-once from n)
+
 pub dead-locked : (q : Process) (from n : ℕ) → q ≡ no_pages → n ≡ pages_to_locked q from n
 dead-locked q from n is = sym (ap (λ q. pages_to_locked q from n) is ∙ none-locked from n)

@@ -3,7 +3,7 @@ use Rattle.std.specs.Prelude.{◌&&◌}
 use Rattle.av_plain.specs.Ledger.{is_merged}
 use Rattle.av_plain.specs.Merge.{hold_same}
 use Rattle.av_book.specs.Book.{ledger_of}
-use Rattle.av_neighbour_laws.proofs.NextMove.{find-first, find-nothing}
+use Rattle.av_command_laws.proofs.NextMove.{find-first, find-nothing}
 use Rattle.av_neighbour_judge.specs.Held.{held_by}
 use Rattle.av_neighbour_judge.proofs.CandidateLaws.{both-true, first-false, second-false}
 use Rattle.av_neighbour_judge.proofs.MoveLaws.{one-more}
