@@ -1,4 +1,5 @@
 pub mod JudgeLaws
+pub mod SwapLaws
 pub mod KnownUnits
 pub mod ShownLaws
 pub mod AccessLaws
@@ -6,3 +7,4 @@ pub mod EndLaws
 pub mod AccessUnits
 pub mod LockLaws
 pub mod ForkLaws
+pub mod ReportingLaws
