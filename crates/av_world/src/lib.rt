@@ -20,6 +20,7 @@ mod holes;
 mod locks;
 mod mapping;
 mod memories;
+mod prots;
 mod questions;
 mod ranges;
 mod space;
