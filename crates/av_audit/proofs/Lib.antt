@@ -7,3 +7,4 @@ pub mod EndLaws
 pub mod AccessUnits
 pub mod LockLaws
 pub mod ForkLaws
+pub mod SwapoffUnits

@@ -2,4 +2,3 @@ pub mod Access
 pub mod Known
 pub mod Judge
 pub mod Swap
-pub mod Known
