@@ -48,10 +48,11 @@ CARRIERS = {
     "av_events": "touch zap_all zap_process zap_range fork move_entries turn_on turn_off",
     "av_judge": "seeks takes fetches swaps_in completes outcomes ages judges_complete judges_age "
     "judges_reclaim judges_exit judges_munmap",
-    "av_report_judge": "judges_entry judges_slot",
+    "av_command_laws": "the_greatest_goes_to_the_least the_runs_are_one",
+    "av_report_judge": "judges_entry judges_maps judges_rmap judges_slot judges_stat",
     "av_world": "Memories Space Range Marks Edit Change",
     "av_access_judge": "accesses touches comes makes unneeded drops takes_behind sparing",
-    "av_swapoff_judge": "closes empties",
+    "av_swapoff_judge": "Close closes empties",
     "av_audit": "Auditor",
     "av_swap_laws": "frames_are_put slots_are_loaded slots_are_dropped soundness_goes_on",
     "av_evict": "System reclaim age complete seek",

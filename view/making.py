@@ -305,8 +305,12 @@ def window_of(wanted: tuple[int, int] | None, count: int) -> tuple[int, int]:
     return first, last
 
 
-def data_of(title: str, frames: int, run: Run, wanted: tuple[int, int] | None) -> dict:
-    """What the page shows, as it stands in it."""
+def data_of(
+    title: str, frames: int, run: Run, wanted: tuple[int, int] | None, illegal: int = 0
+) -> dict:
+    """What the page shows, as it stands in it. `illegal` is the number of the reply that isn't
+    legal in a transcript that was judged; 0 for none.
+    """
     progress, steps, base, said, size = Progress("view"), [], [], [run.said], 0
     first, last = window_of(wanted, len(run))
     wrong = lost = most = 0
@@ -318,7 +322,7 @@ def data_of(title: str, frames: int, run: Run, wanted: tuple[int, int] | None) -
             base = told.all_ops() + names.all_ops(set(told.tables))
         if at < first:
             continue
-        steps.append(step_of(command, reply, told.ops))
+        steps.append(step_of(command, reply, told.ops) | ({"i": 1} if at == illegal else {}))
         size += 200 + sum(map(len, reply[:MOST_ROWS])) + sum(len(str(it)) for it in told.ops)
         if at == last or size > MOST_BYTES:
             break

@@ -12,6 +12,7 @@ function showCommand(step, n) {
   const lines = reply.map((line, i) => make("div", i ? kind : "", i ? ` ${line}` : line));
   if (isHidden(n)) lines.push(revealButton());
   else if (step?.more) lines.push(make("div", "fact", `and ${step.more} more lines`));
+  if (step?.i) lines.push(make("div", "wrong", "the reply of the transcript that was judged isn't legal"));
   at("reply").replaceChildren(...lines);
   at("said").textContent = n === last || n === 0 ? data.said : "";
 }
@@ -45,6 +46,7 @@ function lineOf(i) {
   const reply = isHidden(n) ? "?" : step.r[0];
   line.append(make("span", "soft", reply));
   line.title = `${step.c}  ${reply}`;
+  if (step.i) line.classList.add("wrong");
   if (n === here) line.setAttribute("aria-current", "step");
   line.onclick = () => go(n);
   return line;
@@ -289,7 +291,8 @@ function hashed() {
     showOnly(at("only").value);
   }
   if (words.has("hide") !== Boolean(revealed)) hideReplies(words.has("hide"));
-  show(Number.isNaN(n) ? Math.min(1, last) : n - data.first + 1);
+  const begin = data.steps.findIndex(step => step.i) + 1 || Math.min(1, last);
+  show(Number.isNaN(n) ? begin : n - data.first + 1);
   if (words.has("find")) {
     at("find").value = words.get("find");
     find(at("find").value);

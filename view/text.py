@@ -7,6 +7,7 @@ from told import ACTIVE, INACTIVE, Told
 
 # frames or slots that a line names at most
 MOST_NAMED = 16
+NOT_LEGAL = "the reply of the transcript that was judged isn't legal"
 # the first of these brings the lists to the reader's notice
 OF_SWAP = ("swapon", "swapoff", "reclaim", "age", "complete")
 
@@ -59,17 +60,21 @@ def area_lines(told: Told) -> list[str]:
     return [f"# area {number}: {told.area_text(number)}" for number in sorted(areas)]
 
 
-def side_by_side(run: making.Run, width: int):
-    """Commands at the left, replies at the right, comments above them."""
+def side_by_side(run: making.Run, width: int, illegal: int = 0):
+    """Commands at the left, replies at the right, comments above them. Of a transcript that was
+    judged, the number of the reply that isn't legal may be told.
+    """
     column = min(max([len(it.line) for it in run.commands] + [8]), width // 2 - 3)
     shown, is_of_swap = swap_lines(Told()), False
-    for command, reply, (told, is_more) in zip(run.commands, run.replies, making.told_at(run)):
+    steps = zip(run.commands, run.replies, making.told_at(run))
+    for number, (command, reply, (told, is_more)) in enumerate(steps, 1):
         for text in command.comment.split("\n") if command.comment else ():
             yield from textwrap.wrap(
                 text, width - 2, initial_indent="# ", subsequent_indent="# "
             ) or [""]
         lines = [reply[0], *(f" {it}" for it in reply[1:])]
         lines += ["(what else it changed isn't known here)"] if told.lost else []
+        lines += [f"# {NOT_LEGAL}"] * (number == illegal)
         is_first = not is_of_swap and command.line.split(" ")[0] in OF_SWAP
         is_of_swap = is_of_swap or is_first
         if is_first or is_of_swap and is_more:

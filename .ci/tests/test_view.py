@@ -169,6 +169,9 @@ class Text(unittest.TestCase):
         run = types.SimpleNamespace(commands=commands, replies=[["ok"], ["runs 0"]], said="")
         wanted = ["# one", "spawn 1  | ok", "maps 1   | runs 0"]
         self.assertEqual(list(side_by_side(run, 80)), wanted)
+        marked = list(side_by_side(run, 80, 1))
+        self.assertEqual([marked[0], *marked[1:2], *marked[3:]], wanted)
+        self.assertTrue(marked[2].startswith("         | # the reply of the transcript"))
 
 
 if __name__ == "__main__":

@@ -7,4 +7,5 @@ pub mod EndLaws
 pub mod AccessUnits
 pub mod LockLaws
 pub mod ForkLaws
+pub mod ReportingLaws
 pub mod SwapoffUnits

@@ -20,7 +20,9 @@ mod leaving;
 mod lengths;
 mod locking;
 mod mapping;
+mod reporting;
 mod spawn;
 mod swapping;
+mod units;
 
 pub use auditor::{Auditor, Phase, Verdict};
