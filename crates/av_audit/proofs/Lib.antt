@@ -8,3 +8,4 @@ pub mod LockLaws
 pub mod ForkLaws
 pub mod RemapLaws
 pub mod ReportingLaws
+pub mod SwapoffUnits
