@@ -177,12 +177,14 @@ def without_parts(text: str) -> str:
     return MARKED.sub("", text)
 
 
-def help_texts() -> tuple[str, str, str]:
-    """The texts of `--help`, `run --help` and `work --help`, as the program's source has them."""
+def help_texts() -> list[str]:
+    """The texts of `--help`, and of `run`, `work` and `audit --help`, as the program's source has
+    them.
+    """
     source = text_of("crates/avsim/src/help.rt")
     found = re.findall(r'const (\w+): &str = "\\\n(.*?)";', source, re.S)
     texts = {name: text.replace('\\"', '"').replace("\\\\", "\\") for name, text in found}
-    return texts["HELP"], texts["RUN_HELP"], texts["WORK_HELP"]
+    return [texts[it] for it in ("HELP", "RUN_HELP", "WORK_HELP", "AUDIT_HELP")]
 
 
 def man_page() -> str:

@@ -27,7 +27,9 @@ use Rattle.av_plain.specs.Load.{with_loads}
 use Rattle.av_plain.specs.Refusal.{Refuses, no_process, refusal, tests}
 use Rattle.av_plain.specs.Step.{Follows, IsLegal, next, next_world}
 use Rattle.av_plain.specs.World.{World, lives, pages}
-use Rattle.av_audit_laws.specs.Unit.{IsTextOf, IsUnit, Leaves}
+use Rattle.av_command_laws.specs.Claimed.{IsClaimed}
+use Rattle.av_command_laws.proofs.OneReads.{one-read}
+use Rattle.av_audit_laws.specs.Unit.{IsUnit}
 use Rattle.av_audit_laws.proofs.ToldReply.{accesses-told}
 use Rattle.av_book.specs.Book.{ledger_of}
 use Rattle.av_book.specs.declared.book.Book.{Book}
@@ -41,7 +43,6 @@ use Rattle.av_audit.specs.Access.{IsFirst, IsTold, Tells}
 use Rattle.av_audit.specs.Known.{reply_of}
 use Rattle.av_audit.specs.Judge.{IsLeft}
 use Rattle.av_audit.proofs.JudgeLaws.{loads-told}
-use Rattle.av_audit.proofs.ShownLaws.{IsClaimed, served-claimed, shows-one}
 
 -- ---- texts
 
@@ -176,7 +177,8 @@ told-left m w l command Lawful Answers unit memories book told ending t at = (
 
 pub tells-left : (m : Setting) (w : World) (l : Ledger) (command : Command) (Lawful : End → List Event → Type 0) (Answers : End → Answer → Type 0)
     (unit : List ℕ) (memories : Memories) (book : Book) (legal : Bool) → is_some m.headers ≡ true → IsEnding m w l command Lawful Answers
-    → Tells Lawful Answers l unit legal (ledger_of book) → ((t : IsTold Lawful Answers l unit (ledger_of book)) → legal ≡ true → IsWorld memories (next w command t.answer))
+    → Tells Lawful Answers l unit legal (ledger_of book)
+    → ((t : IsTold Lawful Answers l unit (ledger_of book)) → legal ≡ true → IsWorld memories (next w command t.answer))
     → IsLeft m w l command unit legal memories book
 tells-left m w l command Lawful Answers unit memories book true told ending t at =
     told-left m w l command Lawful Answers unit memories book told ending t (at t refl)
@@ -243,9 +245,7 @@ read-telling m w l p a n claimed = record {
   one = λ end end' es fs x y h k g i e.
       let same = (accesses-told m w l p (pages_of_access false a n) es fs end end' h k e).1 in
       let j : ReadsTo w p a n end y = subst (λ e. ReadsTo w p a n e y) (sym same) i in
-      let long = g.1.0 in
-      let shown = shows-one (pages w p) a g.0 j.0 (g.1.0 ∙ sym j.1.0)
-      (λ b below. served-claimed m w l false p a n es end claimed h b (omega (arith, below, long))) g.1.1 j.1.1 in
+      let shown = one-read m w l p a n es end g.0 j.0 claimed h g.1 j.1 in
       g.2 ∙ ap (read_answer a end) shown ∙ sym j.2;
   notes = λ end answer g. subst HasNotes (sym g.2) (read-notes a end g.0);
 }

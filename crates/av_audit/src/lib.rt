@@ -3,12 +3,12 @@
 //!
 //! Proved: of a command that it judges, a unit is answered to be legal exactly where the
 //! definitions have it so, and then the auditor keeps the memories and the ledger that the unit
-//! leaves (`Auditor::judge`). Judged are `spawn`, `exit`, `munmap`, `complete` and `age`. Of
-//! another command it says that it isn't judged, and so of each unit behind it, since what such a
+//! leaves (`Auditor::judge`). Not judged yet are `mremap`, `areas`, `swapoff`, `merge` and
+//! `compact`: of a unit for one of them it says so, and of each unit behind it, since what such a
 //! unit leaves isn't known. After a unit that isn't legal none is, and after want of memory each
 //! call wants it.
 //!
-//! Only tested: nothing.
+//! Only tested: that memory suffices.
 #![tactic(auto)]
 
 mod accessing;
@@ -21,6 +21,7 @@ mod lengths;
 mod locking;
 mod mapping;
 mod neighbours;
+mod remapping;
 mod reporting;
 mod spawn;
 mod swapping;

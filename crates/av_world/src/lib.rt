@@ -4,7 +4,7 @@
 //! mapped, unmapped, protected, marked or wiped (`Space::edit`), and processes that come and go
 //! (`Memories`), a child's, and bytes that are written and read. And what the definitions ask of
 //! them: whether a page may be accessed or is locked, how many pages come before a hole or a locked
-//! page, the greatest gap.
+//! page, whether pages have one protection, the greatest gap.
 //!
 //! Pages are kept as ranges, so a call doesn't cost more where its own range is long. But it goes
 //! over all ranges of the process and, where it unmaps or wipes, over all its pages with bytes; and
@@ -20,6 +20,7 @@ mod holes;
 mod locks;
 mod mapping;
 mod memories;
+mod prots;
 mod questions;
 mod ranges;
 mod space;
