@@ -53,6 +53,7 @@ CARRIERS = {
     "av_world": "Memories Space Range Marks Edit Change",
     "av_access_judge": "accesses touches comes makes unneeded drops takes_behind sparing",
     "av_swapoff_judge": "Close closes empties",
+    "av_neighbour_judge": "judges_merge judges_compact",
     "av_audit": "Auditor",
     "av_swap_laws": "frames_are_put slots_are_loaded slots_are_dropped soundness_goes_on",
     "av_evict": "System reclaim age complete seek",

@@ -20,6 +20,7 @@ mod leaving;
 mod lengths;
 mod locking;
 mod mapping;
+mod neighbours;
 mod remapping;
 mod reporting;
 mod spawn;

@@ -1,5 +1,6 @@
 -- Which pages are candidates, by what the memories and the book keep.
-use Rattle.std.proofs.Common.{◌≡◌, ℕ, ◌≤◌, Bool, true, false, cond, not, ◌&&◌, ◌||◌, ◌==◌, List, [], ◌∷◌, map, filter, Option, Some, None, is_none, refl, sym, ap, subst, ◌∙◌, arith}
+use Rattle.std.proofs.Common.{◌≡◌, ℕ, ◌≤◌, Bool, true, false, cond, not, ◌&&◌, ◌||◌, ◌==◌, List, []}
+use Rattle.std.proofs.Common.{◌∷◌, map, filter, Option, Some, None, refl, sym, ap, subst, ◌∙◌, arith}
 use Rattle.std.specs.Prelude.{option_and_then, option_map}
 use Rattle.std.proofs.lemmas.Bool.{ne_eqb}
 use Rattle.std.proofs.lemmas.Bool.Decides.{nat_tests}
@@ -11,9 +12,8 @@ use Rattle.av_base.specs.Keys.{Key}
 use Rattle.av_base.specs.Limits.{top_page}
 use Rattle.av_base.specs.declared.flags.Flags.{Flags}
 use Rattle.av_base.specs.declared.prot.Prot.{Prot}
-use Rattle.av_plain.specs.Fault.{is_locked}
-use Rattle.av_plain.specs.Ledger.{Entry as PlainEntry, InFrame, Ledger, entry, is_merged, names_frame, slot_of}
-use Rattle.av_plain.specs.Merge.{FrameBytes, candidate, candidate_by, hold_same, may_merge, other_like}
+use Rattle.av_plain.specs.Ledger.{Entry as PlainEntry, names_frame}
+use Rattle.av_plain.specs.Merge.{FrameBytes, hold_same, may_merge, other_like}
 use Rattle.av_plain.specs.Mremap.{marks_at}
 use Rattle.av_plain.specs.World.{Page, Process, World, is_locked_page, pages, process}
 use Rattle.av_book.specs.Book.{entries_of, entry_of}
@@ -72,14 +72,6 @@ locked-is w f (e ∷ es) = by (names_frame f (entry_of e.1)) (locked-is w f es)
 pub lock-here : (w : World) (f : ℕ) (all : List (Key × Entry)) (e : Key × Entry) (es : List (Key × Entry)) → all ≡ e ∷ es
     → names_frame f (entry_of e.1) ≡ true → is_locked_page (pages w e.0.0 e.0.1) ≡ true → locks_one w f all ≡ true
 lock-here w f all e es is a b = ap (locks_one w f) is ∙ (λ i. (a i && b i) || locks_one w f es)
-
--- ---- a candidate
-
-pub candidate-tested : (w : World) (l : Ledger) (k : Key) (f : ℕ) (seen may merged out locked all : Bool) → entry l k ≡ Some (InFrame f seen)
-    → may ≡ may_merge (pages w k.0 k.1) → merged ≡ is_merged l f → out ≡ is_none (slot_of l f) → locked ≡ is_locked w l f
-    → (may && not merged && out && not locked) ≡ all → candidate w l k ≡ cond all (Some f) None
-candidate-tested w l k f seen may merged out locked all is a b c d e = ap (candidate_by w l k) is
-    ∙ (λ i. cond (sym a i && not (sym b i) && sym c i && not (sym d i)) (Some f) None) ∙ ap (λ x. cond x (Some f) None) e
 
 -- ---- frames that hold the same
 

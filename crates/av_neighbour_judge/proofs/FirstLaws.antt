@@ -1,5 +1,6 @@
 -- Which page tells what a frame holds: it is so of all pages, once it is of each.
-use Rattle.std.proofs.Common.{◌≡◌, ◌⊎◌, inl, inr, ℕ, ◌<◌, Bool, true, false, cond, ◌==◌, List, [], ◌∷◌, map, length, Option, Some, None, is_some, not, refl, sym, ap, subst, ◌∙◌, arith}
+use Rattle.std.proofs.Common.{◌≡◌, ◌⊎◌, inl, inr, ℕ, ◌<◌, Bool, true, false, cond, ◌==◌, List, []}
+use Rattle.std.proofs.Common.{◌∷◌, map, length, Option, Some, None, is_some, not, refl, sym, ap, subst, ◌∙◌, arith}
 use Rattle.std.specs.Prelude.{IsSomeAnd, option_map, slice_index, unwrap_or}
 use Rattle.std.proofs.lemmas.Bool.Decides.{nat_tests}
 use Rattle.std.specs.BTreeMap.{get, is_at}
@@ -108,7 +109,8 @@ told-frame w l memories old new k f seen true at is there h = record {
     h.first,
     ap (get nat_cmp new) (named-is l k f g seen is names) ∙ h.tells,
     bytes-hold memories w k (slice_index (bytes_of_page memories h.first)) at (λ i low. same-number _ _
-        (each-passes (λ i. slice_index (bytes_of_page memories h.first) i == slice_index (bytes_of_page memories k) i) 0 page_size h.same i (omega arith) (omega (arith, low)))),
+        (each-passes (λ i. slice_index (bytes_of_page memories h.first) i == slice_index (bytes_of_page memories k) i)
+        0 page_size h.same i (omega arith) (omega (arith, low)))),
   );
   still = h.still;
   true_yet = λ held holds are g q tells i low. yet held holds are g q (h.only g q tells) i low;
@@ -132,7 +134,8 @@ told-frame w l memories old new k f seen false at is there h = λ held holds are
     ∙ itself (slice_index (bytes_of_page memories k) i))) ∙ h.2)
 
 -- where a page's marks are there it is mapped
-pub marked-there : (q : Process) (page : ℕ) (marks : Option Marks) (none : Bool) → option_map marks_of marks ≡ marks_at q page → is_some marks ≡ not none → none ≡ false
+pub marked-there : (q : Process) (page : ℕ) (marks : Option Marks) (none : Bool) → option_map marks_of marks ≡ marks_at q page → is_some marks ≡ not none
+    → none ≡ false
     → is_some (q page) ≡ true
 marked-there q page None none is e f = differ (sym (e ∙ ap not f))
 marked-there q page (Some marks) none is e f = by (q page) is
@@ -157,7 +160,8 @@ none-left (x ∷ xs) h = absurd (omega (arith, h))
 
 -- ---- all pages
 
-pub fits-still : (w : World) (l : Ledger) (memories : Memories) (old new : FramePages) (k : Key) → StillTell old new → Fits w l memories old k → Fits w l memories new k
+pub fits-still : (w : World) (l : Ledger) (memories : Memories) (old new : FramePages) (k : Key) → StillTell old new → Fits w l memories old k
+    → Fits w l memories new k
 fits-still w l memories old new k still h = λ f names there. let x = h f names there in (x.0, still f x.0 x.1, x.2)
 
 -- once those that are left fit, all do

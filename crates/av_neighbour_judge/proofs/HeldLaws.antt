@@ -1,5 +1,6 @@
 -- What pages claim is what the memories keep of them.
-use Rattle.std.proofs.Common.{◌≡◌, ℕ, zero, suc, ◌+◌, ◌<◌, ◌≤◌, Bool, true, false, ◌&&◌, ◌==◌, List, Option, Some, None, is_some, refl, sym, ap, subst, ◌∙◌, arith}
+use Rattle.std.proofs.Common.{◌≡◌, ℕ, zero, suc, ◌+◌, ◌<◌, ◌≤◌, Bool, true, false, ◌&&◌}
+use Rattle.std.proofs.Common.{◌==◌, List, Option, Some, None, is_some, refl, sym, ap, subst, ◌∙◌, arith}
 use Rattle.std.specs.Prelude.{IfSome, [], option_and_then, option_map, slice_index, unwrap_or}
 use Rattle.std.specs.BTreeMap.{get}
 use Rattle.std.specs.List.{list_all, range_with_len}
@@ -89,13 +90,15 @@ page-claims memories w k h p is i low = by (get nat_cmp memories.spaces k.0) ref
     none (Some q) h e = absurd h
 
     by : (o : Option Space) → get nat_cmp memories.spaces k.0 ≡ o
-        → p.bytes i ≡ Some (slice_index (unwrap_or (option_and_then (λ (s : Space). option_map items_of (get nat_cmp s.bytes k.1)) (get nat_cmp memories.spaces k.0)) []) i)
+        → p.bytes i ≡ Some (slice_index (unwrap_or
+        (option_and_then (λ (s : Space). option_map items_of (get nat_cmp s.bytes k.1)) (get nat_cmp memories.spaces k.0)) []) i)
     by None e = absurd (none (process w k.0) (subst (λ o. IsProcess o (process w k.0)) e space) is)
     by (Some s) e =
         let f = found (get nat_cmp memories.spaces k.0) w k.0 s space e in
         page-claimed (marks_in s.ranges.items k.1) (byte_in (get nat_cmp s.bytes k.1)) (pages w k.0 k.1) p (f.1.pages k.1) is i low
         ∙ ap Some (byte-kept (get nat_cmp s.bytes k.1) i)
-        ∙ ap (λ (o : Option Space). Some (slice_index (unwrap_or (option_and_then (λ (s : Space). option_map items_of (get nat_cmp s.bytes k.1)) o) []) i)) (sym e)
+        ∙ ap (λ (o : Option Space). Some (slice_index (unwrap_or
+        (option_and_then (λ (s : Space). option_map items_of (get nat_cmp s.bytes k.1)) o) []) i)) (sym e)
 
 -- what holds what a page claims has its bytes
 pub held-bytes : (memories : Memories) (w : World) (k : Key) (at : ℕ → ℕ) → IsWorld memories w → is_some (pages w k.0 k.1) ≡ true

@@ -1,5 +1,6 @@
 -- Which frame goes over next, and what a frame that has gone leaves, whether the ledger is sound or not.
-use Rattle.std.proofs.Common.{◌≡◌, ℕ, ◌+◌, ◌<◌, ◌≤◌, Bool, true, false, cond, nat_lt, List, [], ◌∷◌, ◌++◌, map, refl, sym, ap, subst, ◌∙◌, arith, ◌==◌, append_assoc}
+use Rattle.std.proofs.Common.{◌≡◌, ℕ, ◌+◌, ◌<◌, ◌≤◌, Bool, true, false, cond, nat_lt, List}
+use Rattle.std.proofs.Common.{[], ◌∷◌, ◌++◌, map, refl, sym, ap, subst, ◌∙◌, arith, ◌==◌, append_assoc}
 use Rattle.std.specs.Prelude.{Some, None}
 use Rattle.std.proofs.lemmas.Bool.Decides.{nat_tests}
 use Rattle.av_base.specs.Keys.{Key}
@@ -30,14 +31,6 @@ one-more P low n before here f from below = by (f == n) refl
     by : (b : Bool) → (f == n) ≡ b → P f
     by true is = let e : f ≡ n = grind (arith, nat_tests, is) in subst P (sym e) here
     by false is = before f from (grind (arith, nat_tests, is, below))
-
--- what holds of each number from the next one on, and of this one, holds of each from it on
-pub one-less : (P : ℕ → Type 0) (n past : ℕ) → ((f : ℕ) → n + 1 ≤ f → f < past → P f) → P n → (f : ℕ) → n ≤ f → f < past → P f
-one-less P n past after here f from below = by (f == n) refl
-  where
-    by : (b : Bool) → (f == n) ≡ b → P f
-    by true is = let e : f ≡ n = grind (arith, nat_tests, is) in subst P (sym e) here
-    by false is = after f (grind (arith, nat_tests, is, from)) below
 
 -- ---- uses of frames, once one has gone over to another
 
@@ -109,7 +102,8 @@ module _ (l : Ledger) (from to : ℕ) (below : to < from) where
   -- the one that has gone has none, and the other what it had
   uses-gone : uses went from ≡ 0
   uses-gone =
-      let a = count-moved (λ (e : Key × Entry). names_frame from e.1) (λ e. false) (λ e. (e.0, placed_entry (renamed from to) e.1)) l.entries (λ e. no-entry e.1)
+      let a = count-moved (λ (e : Key × Entry). names_frame from e.1) (λ e. false) (λ e. (e.0, placed_entry (renamed from to) e.1)) l.entries
+      (λ e. no-entry e.1)
       ∙ count-nothing (λ (e : Key × Entry). false) l.entries (λ e. refl) in
       let b = count-moved (λ (c : Cached). from == c.frame) (λ c. false) (λ c. record c { frame = renamed from to c.frame }) l.cache
       (λ c. none-from from to apart c.frame) ∙ count-nothing (λ (c : Cached). false) l.cache (λ c. refl) in
@@ -117,7 +111,8 @@ module _ (l : Ledger) (from to : ℕ) (below : to < from) where
 
   uses-come : uses l from ≤ uses went to
   uses-come =
-      let a = count-less (λ (e : Key × Entry). names_frame to e.1) (λ (e : Key × Entry). names_frame from e.1) (λ e. (e.0, placed_entry (renamed from to) e.1)) l.entries
+      let a = count-less (λ (e : Key × Entry). names_frame to e.1) (λ (e : Key × Entry). names_frame from e.1)
+      (λ e. (e.0, placed_entry (renamed from to) e.1)) l.entries
       (λ e. gone-entry e.1) in
       let b = count-less (λ (c : Cached). to == c.frame) (λ (c : Cached). from == c.frame) (λ c. record c { frame = renamed from to c.frame }) l.cache
       (λ c. gone-number c.frame) in
@@ -213,7 +208,8 @@ pub going-end : (m : Setting) (l : Ledger) (before : List Note) (l' : Ledger) (n
 going-end m l before l' now low past g none = record {
   added = g.added;
   notes = g.notes;
-  moves = so_far-all m l g.added g.so_far (ap (next_move m) (sym g.after) ∙ next-none m l' (λ f h below k free. by f h below k free (nat_lt f low) (nat_lt h past) refl refl));
+  moves = so_far-all m l g.added g.so_far (ap (next_move m) (sym g.after)
+      ∙ next-none m l' (λ f h below k free. by f h below k free (nat_lt f low) (nat_lt h past) refl refl));
   after = g.after;
 }
   where

@@ -18,8 +18,8 @@ FramePages = BTreeMap ℕ Key
 
 -- whether two pages hold the same, by what is kept of them
 abbrev pub same_page : Memories → Key → Key → Bool
-same_page memories k q =
-    list_all (λ i. slice_index (bytes_of_page memories k) i == slice_index (bytes_of_page memories q) i)
+same_page memories k q = list_all
+    (λ i. slice_index (bytes_of_page memories k) i == slice_index (bytes_of_page memories q) i)
     (range_with_len 0 page_size)
 
 -- a frame for which a page told has it still

@@ -16,4 +16,5 @@ loop-from-preserved c =
 pub returns : goal.returns
 returns c =
     let l = c.loop-from in
-    going-end (setting_of c.args.machine.now) (ledger_of c.args.book.now) c.args.notes.now (ledger_of l.book) l.notes l.low l.past l.invariant c.in_default.ensures
+    going-end (setting_of c.args.machine.now) (ledger_of c.args.book.now) c.args.notes.now (ledger_of l.book) l.notes l.low l.past l.invariant
+    c.in_default.ensures
