@@ -1,7 +1,8 @@
 -- What an auditor answers.
 use Rattle.std.specs.Prelude.{◌≡◌, ℕ, Bool, true, false, if◌then◌else◌, List, MatchBool}
 use Rattle.av_trace.specs.declared.command.Command.{Command}
-use Rattle.av_trace.specs.declared.command.Command.TheVariants.{Areas, Compact, Merge, Mremap, Swapoff}
+use Rattle.av_trace.specs.declared.command.Command.TheVariants.{Areas, Compact, Merge, Mremap}
+use Rattle.av_trace.specs.declared.command.Command.TheVariants.{Swapoff}
 use Rattle.av_plain.specs.Ledger.{Ledger, Setting}
 use Rattle.av_plain.specs.Sound.{AllSound}
 use Rattle.av_plain.specs.World.{World}

@@ -9,6 +9,12 @@
 //! call wants it.
 //!
 //! Only tested: that memory suffices.
+//! leaves (`Auditor::judge`). Not judged are `mremap`, `areas`, `swapoff`, `merge` and `compact`:
+//! of their units it says so, and of each unit behind one, since what that leaves isn't known.
+//! After a unit that isn't legal none is, and after want of memory each call wants it. The numbers
+//! of the machine have to be such as words can say (`FitsWords`).
+//!
+//! Only tested: nothing. That memory suffices isn't proved.
 #![tactic(auto)]
 
 mod accessing;

@@ -1,13 +1,14 @@
 //! A judge of what a transcript tells of a swap area that is turned off. It knows the definitions
 //! alone, and no kernel.
 //!
-//! Proved: where it says an end, the bytes are the notes of lawful events that end so: all of flight
-//! completes, and the area's slots in use are emptied, each the least in its turn, up to that end.
-//! The book has followed them. Where it says none, the bytes are no such notes (`closes`). What a
-//! pass spares is asked of the memories at each slot. Nothing asks that the ledger is sound. After
-//! want of memory a book may have followed a part of a note.
+//! Proved: where it says an end, the bytes are lawful notes that end so: all of flight completes,
+//! and the area's slots in use are emptied, each the least in its turn, up to that end. The book
+//! has followed them. Where it says none, the bytes are no such notes (`closes`). The ledger need
+//! not be sound. After want of memory a book may have followed a part of the notes.
 //!
-//! The answer's line and the area's own end are not judged here.
+//! Not judged here: the line of the answer, and that the area is off in the end. What a pass spares
+//! is asked of the memories anew at each slot, and the least slot in use is looked for from the
+//! first on: that costs a step for each entry and for each slot of the area.
 //!
 //! Only tested: nothing.
 #![tactic(auto)]
