@@ -27,9 +27,6 @@ end_below end (Stopped page stop) = Stopped page stop
 
 -- the unit is the text of an answer to lawful events that end so, and the ledger is the one after
 -- them
-pub record IsTold (Lawful : End → List Event → Type 0) (Answers : End → Answer → Type 0)
-    (l : Ledger) (unit : List ℕ) (l' : Ledger) : Type 0 where
-  pub end : End
 pub record IsTold {X : Type 0} (Lawful : X → List Event → Type 0) (Answers : X → Answer → Type 0)
     (l : Ledger) (unit : List ℕ) (l' : Ledger) : Type 0 where
   pub end : X
