@@ -53,6 +53,7 @@ CARRIERS = {
     "av_world": "Memories Space Range Marks Edit Change",
     "av_access_judge": "accesses touches comes makes unneeded drops takes_behind sparing",
     "av_swapoff_judge": "Close closes empties",
+    "av_neighbour_judge": "judges_merge judges_compact",
     "av_audit": "Auditor",
     "av_swap_laws": "frames_are_put slots_are_loaded slots_are_dropped soundness_goes_on",
     "av_evict": "System reclaim age complete seek",
@@ -176,12 +177,14 @@ def without_parts(text: str) -> str:
     return MARKED.sub("", text)
 
 
-def help_texts() -> tuple[str, str, str]:
-    """The texts of `--help`, `run --help` and `work --help`, as the program's source has them."""
+def help_texts() -> list[str]:
+    """The texts of `--help`, and of `run`, `work` and `audit --help`, as the program's source has
+    them.
+    """
     source = text_of("crates/avsim/src/help.rt")
     found = re.findall(r'const (\w+): &str = "\\\n(.*?)";', source, re.S)
     texts = {name: text.replace('\\"', '"').replace("\\\\", "\\") for name, text in found}
-    return texts["HELP"], texts["RUN_HELP"], texts["WORK_HELP"]
+    return [texts[it] for it in ("HELP", "RUN_HELP", "WORK_HELP", "AUDIT_HELP")]
 
 
 def man_page() -> str:

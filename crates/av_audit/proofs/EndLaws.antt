@@ -1,5 +1,5 @@
 -- Units of a first line and notes, of a command that is answered by where its accesses end.
-use Rattle.std.proofs.Common.{◌≡◌, ℕ, ◌<◌, ◌≤◌, Bool, true, false, cond, not, List, [], ◌∷◌, ◌++◌, length, Option, Some, None, is_some, take, min, refl, sym, ap, subst, ◌∙◌, arith, append-nil, append_assoc}
+use Rattle.std.proofs.Common.{◌≡◌, ℕ, Bool, true, false, not, List, [], ◌∷◌, ◌++◌, length, Some, None, is_some, take, refl, sym, ap, subst, ◌∙◌, arith, append-nil, append_assoc}
 use Rattle.std.specs.Prelude.{MatchOption, codes}
 use Rattle.std.specs.List.{AllByRecursion}
 use Rattle.av_trace.specs.declared.command.Command.{Command}
@@ -7,9 +7,7 @@ use Rattle.av_trace.specs.declared.command.Command.TheVariants.{Read, Write}
 use Rattle.av_trace.specs.declared.note.Note.{Note}
 use Rattle.av_trace.specs.declared.reply.Answer.{Answer}
 use Rattle.av_trace.specs.declared.reply.Answer.TheVariants.{Done}
-use Rattle.av_trace.specs.declared.reply.Errno.{Errno}
 use Rattle.av_trace.specs.declared.reply.Errno.TheVariants.{Esrch}
-use Rattle.av_trace.specs.declared.reply.OutOf.{OutOf}
 use Rattle.av_trace.specs.declared.reply.Reply.{Reply}
 use Rattle.av_trace.specs.declared.row.Row.{Row}
 use Rattle.av_trace.specs.Note.{IsNote}
@@ -19,15 +17,16 @@ use Rattle.av_trace.proofs.PlainWords.{no_newline}
 use Rattle.av_trace.proofs.PrintLaws.{same_reply}
 use Rattle.av_trace.proofs.ReplyLaws.{answer_line-is}
 use Rattle.av_trace.proofs.Split.{first_line}
-use Rattle.av_plain.specs.Access.{Accesses, End, Reads, Stopped, Whole, after_write, bytes_before, bytes_served, first_bytes, pages_of_access, read_answer, write_answer}
-use Rattle.av_plain.specs.Event.{Event, after_all, notes_of}
+use Rattle.av_plain.specs.Access.{Accesses, End, Reads, Stopped, Whole, bytes_served, first_bytes, pages_of_access, read_answer, write_answer}
+use Rattle.av_plain.specs.Event.{Event, notes_of}
 use Rattle.av_plain.specs.Fault.{Denied, Lost, Starved}
 use Rattle.av_plain.specs.Ledger.{Ledger, Setting}
-use Rattle.av_plain.specs.Load.{with_loads}
 use Rattle.av_plain.specs.Refusal.{Refuses, no_process, refusal, tests}
 use Rattle.av_plain.specs.Step.{Follows, IsLegal, next, next_world}
 use Rattle.av_plain.specs.World.{World, lives, pages}
-use Rattle.av_audit_laws.specs.Unit.{IsTextOf, IsUnit, Leaves}
+use Rattle.av_command_laws.specs.Claimed.{IsClaimed}
+use Rattle.av_command_laws.proofs.OneReads.{one-read}
+use Rattle.av_audit_laws.specs.Unit.{IsUnit}
 use Rattle.av_audit_laws.proofs.ToldReply.{accesses-told}
 use Rattle.av_book.specs.Book.{ledger_of}
 use Rattle.av_book.specs.declared.book.Book.{Book}
@@ -36,12 +35,11 @@ use Rattle.av_judge.specs.Says.{SaysOnly}
 use Rattle.av_judge.proofs.NoteLaws.{lacks-not, lacks-same}
 use Rattle.av_world.specs.Memories.{IsWorld}
 use Rattle.av_world.specs.declared.memories.Memories.{Memories}
-use Rattle.av_access_judge.specs.Access.{AreTold, Ends}
+use Rattle.av_access_judge.specs.Access.{AreTold}
 use Rattle.av_audit.specs.Access.{IsFirst, IsTold, Tells}
 use Rattle.av_audit.specs.Known.{reply_of}
 use Rattle.av_audit.specs.Judge.{IsLeft}
 use Rattle.av_audit.proofs.JudgeLaws.{loads-told}
-use Rattle.av_audit.proofs.ShownLaws.{IsClaimed, served-claimed, shows-one}
 
 -- ---- texts
 
@@ -82,15 +80,15 @@ only-line answer = append-nil (whole_line (answer_line answer) ++ []) ∙ append
 -- ---- ends
 
 -- the notes of lawful events tell the answer, and what follows the answer is notes
-pub record IsTelling (Lawful : End → List Event → Type 0) (Answers : End → Answer → Type 0) : Type 0 where
-  pub one : (end end' : End) (es fs : List Event) (x y : Answer) → Lawful end es → Lawful end' fs → Answers end x → Answers end' y
+pub record IsTelling {X : Type 0} (Lawful : X → List Event → Type 0) (Answers : X → Answer → Type 0) : Type 0 where
+  pub one : (end end' : X) (es fs : List Event) (x y : Answer) → Lawful end es → Lawful end' fs → Answers end x → Answers end' y
       → notes_of es ≡ notes_of fs → x ≡ y
-  pub notes : (end : End) (answer : Answer) → Answers end answer → HasNotes answer
+  pub notes : (end : X) (answer : Answer) → Answers end answer → HasNotes answer
 
-module _ (Lawful : End → List Event → Type 0) (Answers : End → Answer → Type 0) (telling : IsTelling Lawful Answers) (l l' : Ledger)
+module _ {X : Type 0} (Lawful : X → List Event → Type 0) (Answers : X → Answer → Type 0) (telling : IsTelling Lawful Answers) (l l' : Ledger)
     (unit first rest : List ℕ) (is : IsFirst unit first rest) where
   -- the unit of such an end, with its answer
-  abbrev pub tells-answer : (end : End) (answer : Answer) → AreTold (Lawful end) l rest l' → Answers end answer → IsAnswer answer
+  abbrev pub tells-answer : (end : X) (answer : Answer) → AreTold (Lawful end) l rest l' → Answers end answer → IsAnswer answer
       → SaysOnly true first answer → Tells Lawful Answers l unit true l'
   tells-answer end answer t given fits says = record {
     end = end;
@@ -105,18 +103,18 @@ module _ (Lawful : End → List Event → Type 0) (Answers : End → Answer → 
     after = t.after;
   }
 
-  form-of : (end : End) (es : List Event) (answer : Answer) → Answers end answer → IsReply (reply_of answer es) → AllByRecursion IsNote (notes_of es)
+  form-of : (end : X) (es : List Event) (answer : Answer) → Answers end answer → IsReply (reply_of answer es) → AllByRecursion IsNote (notes_of es)
   form-of end es answer given form = ((telling.notes end answer given (notes_of es) []).0 form.rest).0
 
   -- no notes that tell no end
-  pub tells-no-end : ((end : End) (es : List Event) → Lawful end es → AllByRecursion IsNote (notes_of es) → rest ≡ notes_text (notes_of es) → ⊥)
+  pub tells-no-end : ((end : X) (es : List Event) → Lawful end es → AllByRecursion IsNote (notes_of es) → rest ≡ notes_text (notes_of es) → ⊥)
       → Tells Lawful Answers l unit false l'
   tells-no-end none = λ end es answer lawful given form text.
       none end es lawful (form-of end es answer given form)
       (unit-parts unit first rest (reply_of answer es) is text form.answer refl).1
 
   -- nor another first line than that of the answer
-  pub tells-no-answer : (end : End) (answer : Answer) → AreTold (Lawful end) l rest l' → Answers end answer
+  pub tells-no-answer : (end : X) (answer : Answer) → AreTold (Lawful end) l rest l' → Answers end answer
       → SaysOnly false first answer → Tells Lawful Answers l unit false l'
   tells-no-answer end answer t given says = λ end' es other lawful given' form text.
       let parts = unit-parts unit first rest (reply_of other es) is text form.answer refl in
@@ -125,13 +123,13 @@ module _ (Lawful : End → List Event → Type 0) (Answers : End → Answer → 
       says (parts.0 ∙ ap (λ a. whole_line (answer_line a)) (sym answers) ∙ sym (only-line answer))
 
   -- by whether the first line is that of the answer
-  abbrev pub tells-by : (legal : Bool) (end : End) (answer : Answer) → AreTold (Lawful end) l rest l' → Answers end answer → IsAnswer answer
+  abbrev pub tells-by : (legal : Bool) (end : X) (answer : Answer) → AreTold (Lawful end) l rest l' → Answers end answer → IsAnswer answer
       → SaysOnly legal first answer → Tells Lawful Answers l unit legal l'
   tells-by true end answer t given fits says = tells-answer end answer t given fits says
   tells-by false end answer t given fits says = tells-no-answer end answer t given says
 
 -- a text has a newline
-pub tells-no-line : (Lawful : End → List Event → Type 0) (Answers : End → Answer → Type 0) (l l' : Ledger) (unit : List ℕ) → lacks 10 unit ≡ true
+pub tells-no-line : {X : Type 0} (Lawful : X → List Event → Type 0) (Answers : X → Answer → Type 0) (l l' : Ledger) (unit : List ℕ) → lacks 10 unit ≡ true
     → Tells Lawful Answers l unit false l'
 tells-no-line Lawful Answers l l' unit none = λ end es answer lawful given form text.
     let line = answer_line answer in
@@ -143,14 +141,14 @@ tells-no-line Lawful Answers l l' unit none = λ end es answer lawful given form
 -- ---- commands
 
 -- a command whose replies are told by where accesses end
-pub record IsEnding (m : Setting) (w : World) (l : Ledger) (command : Command) (Lawful : End → List Event → Type 0)
-    (Answers : End → Answer → Type 0) : Type 0 where
-  pub into : (end : End) (es : List Event) (answer : Answer) → Lawful end es → Answers end answer → IsLegal m w l command (reply_of answer es) es
+pub record IsEnding {X : Type 0} (m : Setting) (w : World) (l : Ledger) (command : Command) (Lawful : X → List Event → Type 0)
+    (Answers : X → Answer → Type 0) : Type 0 where
+  pub into : (end : X) (es : List Event) (answer : Answer) → Lawful end es → Answers end answer → IsLegal m w l command (reply_of answer es) es
   pub out : (reply : Reply) (es : List Event) → IsLegal m w l command reply es
-      → (end : End) × Lawful end es × Answers end reply.answer × (reply.rows ≡ [])
+      → (end : X) × Lawful end es × Answers end reply.answer × (reply.rows ≡ [])
 
 -- what isn't told is no unit of it
-pub no-unit : (m : Setting) (w : World) (l l' : Ledger) (command : Command) (Lawful : End → List Event → Type 0) (Answers : End → Answer → Type 0)
+pub no-unit : {X : Type 0} (m : Setting) (w : World) (l l' : Ledger) (command : Command) (Lawful : X → List Event → Type 0) (Answers : X → Answer → Type 0)
     (unit : List ℕ) → IsEnding m w l command Lawful Answers → Tells Lawful Answers l unit false l' → IsUnit m w l command unit → ⊥
 no-unit m w l l' command Lawful Answers unit ending none u =
     let o = ending.out u.0 u.1 u.2.legal in
@@ -158,7 +156,7 @@ no-unit m w l l' command Lawful Answers unit ending none u =
     none o.0 u.1 u.0.answer o.1 o.2 (subst IsReply same u.2.form) (u.2.text ∙ ap text_of same)
 
 -- and what is told is one, and leaves these memories
-pub told-left : (m : Setting) (w : World) (l : Ledger) (command : Command) (Lawful : End → List Event → Type 0) (Answers : End → Answer → Type 0)
+pub told-left : {X : Type 0} (m : Setting) (w : World) (l : Ledger) (command : Command) (Lawful : X → List Event → Type 0) (Answers : X → Answer → Type 0)
     (unit : List ℕ) (memories : Memories) (book : Book) → is_some m.headers ≡ true → IsEnding m w l command Lawful Answers
     → (t : IsTold Lawful Answers l unit (ledger_of book)) → IsWorld memories (next w command t.answer)
     → IsLeft m w l command unit true memories book
@@ -174,9 +172,10 @@ told-left m w l command Lawful Answers unit memories book told ending t at = (
   subst (λ v. IsWorld memories (next v command t.answer)) (sym (loads-told m w l t.events told)) at,
 )
 
-pub tells-left : (m : Setting) (w : World) (l : Ledger) (command : Command) (Lawful : End → List Event → Type 0) (Answers : End → Answer → Type 0)
+pub tells-left : {X : Type 0} (m : Setting) (w : World) (l : Ledger) (command : Command) (Lawful : X → List Event → Type 0) (Answers : X → Answer → Type 0)
     (unit : List ℕ) (memories : Memories) (book : Book) (legal : Bool) → is_some m.headers ≡ true → IsEnding m w l command Lawful Answers
-    → Tells Lawful Answers l unit legal (ledger_of book) → ((t : IsTold Lawful Answers l unit (ledger_of book)) → legal ≡ true → IsWorld memories (next w command t.answer))
+    → Tells Lawful Answers l unit legal (ledger_of book)
+    → ((t : IsTold Lawful Answers l unit (ledger_of book)) → legal ≡ true → IsWorld memories (next w command t.answer))
     → IsLeft m w l command unit legal memories book
 tells-left m w l command Lawful Answers unit memories book true told ending t at =
     told-left m w l command Lawful Answers unit memories book told ending t (at t refl)
@@ -243,9 +242,7 @@ read-telling m w l p a n claimed = record {
   one = λ end end' es fs x y h k g i e.
       let same = (accesses-told m w l p (pages_of_access false a n) es fs end end' h k e).1 in
       let j : ReadsTo w p a n end y = subst (λ e. ReadsTo w p a n e y) (sym same) i in
-      let long = g.1.0 in
-      let shown = shows-one (pages w p) a g.0 j.0 (g.1.0 ∙ sym j.1.0)
-      (λ b below. served-claimed m w l false p a n es end claimed h b (omega (arith, below, long))) g.1.1 j.1.1 in
+      let shown = one-read m w l p a n es end g.0 j.0 claimed h g.1 j.1 in
       g.2 ∙ ap (read_answer a end) shown ∙ sym j.2;
   notes = λ end answer g. subst HasNotes (sym g.2) (read-notes a end g.0);
 }

@@ -1,7 +1,6 @@
 -- Units of commands that have one reply.
 use Rattle.std.proofs.Common.{◌≡◌, ℕ, Bool, true, false, cond, List, [], Some, None, refl, sym, ap, subst, ◌∙◌}
-use Rattle.std.specs.Prelude.{◌+◌, ◌∷◌, ◌||◌, ◌==◌, IfOk, MatchBool, MatchOption, is_some, nat_lt, not, Result, Ok, Err}
-use Rattle.std.specs.declared.alloc.AllocError.{AllocError}
+use Rattle.std.specs.Prelude.{◌+◌, ◌∷◌, ◌||◌, ◌==◌, MatchBool, MatchOption, is_some, nat_lt, not}
 use Rattle.av_trace.specs.declared.command.Command.{Command}
 use Rattle.av_trace.specs.declared.command.Command.TheVariants.{Age, Complete, Munmap, Spawn}
 use Rattle.av_trace.specs.declared.reply.Errno.{Errno}
@@ -198,13 +197,6 @@ alive m w l p a len h = by (lives w p) h
     by : (b : Bool) → refusal ((not b, Esrch) ∷ (not (is_on_page a) || len == 0 || nat_lt top (a + len), Einval) ∷ []) ≡ None → b ≡ true
     by true e = refl
     by false e = cc
-
--- ---- of a call that may want memory
-
--- what it ensures turns into what is asked
-pub if-ok : (P Q : Bool → Type 0) (r : Result Bool AllocError) → ((legal : Bool) → P legal → Q legal) → IfOk r P → IfOk r Q
-if-ok P Q (Ok legal) turns h = turns legal h
-if-ok P Q (Err e) turns h = tt
 
 -- what is left by one command is left by the same
 pub left-is : (m : Setting) (w : World) (l : Ledger) (command other : Command) (unit : List ℕ) (legal : Bool) (memories : Memories) (book : Book)

@@ -1,10 +1,11 @@
 pub mod JudgeLaws
 pub mod SwapLaws
 pub mod KnownUnits
-pub mod ShownLaws
 pub mod AccessLaws
 pub mod EndLaws
 pub mod AccessUnits
 pub mod LockLaws
 pub mod ForkLaws
+pub mod RemapLaws
 pub mod ReportingLaws
+pub mod SwapoffUnits

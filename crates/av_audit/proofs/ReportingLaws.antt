@@ -83,4 +83,4 @@ live-space w p s h = by (process w p) h
   where
     by : (o : Option Process) → IsProcess (Some s) o → IsSpace s (λ page. option_and_then (λ (q : Process). q page) o)
     by None h = absurd h
-    by (Some q) h = record { pages = h.pages }
+    by (Some q) h = record { pages = h.pages; top = h.top }

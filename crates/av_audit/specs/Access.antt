@@ -27,9 +27,9 @@ end_below end (Stopped page stop) = Stopped page stop
 
 -- the unit is the text of an answer to lawful events that end so, and the ledger is the one after
 -- them
-pub record IsTold (Lawful : End → List Event → Type 0) (Answers : End → Answer → Type 0)
+pub record IsTold {X : Type 0} (Lawful : X → List Event → Type 0) (Answers : X → Answer → Type 0)
     (l : Ledger) (unit : List ℕ) (l' : Ledger) : Type 0 where
-  pub end : End
+  pub end : X
   pub events : List Event
   pub answer : Answer
   pub lawful : Lawful end events
@@ -39,8 +39,8 @@ pub record IsTold (Lawful : End → List Event → Type 0) (Answers : End → An
   pub after : l' ≡ after_all l events
 
 -- so it is; or it is no such text
-abbrev pub Tells : (End → List Event → Type 0) → (End → Answer → Type 0) → Ledger → List ℕ → Bool
-    → Ledger → Type 0
-Tells Lawful Answers l unit legal l' = MatchBool legal (IsTold Lawful Answers l unit l')
-    ((end : End) (events : List Event) (answer : Answer) → Lawful end events → Answers end answer
+abbrev pub Tells : {X : Type 0} → (X → List Event → Type 0) → (X → Answer → Type 0) → Ledger
+    → List ℕ → Bool → Ledger → Type 0
+Tells {X} Lawful Answers l unit legal l' = MatchBool legal (IsTold Lawful Answers l unit l')
+    ((end : X) (events : List Event) (answer : Answer) → Lawful end events → Answers end answer
     → IsReply (reply_of answer events) → unit ≡ text_of (reply_of answer events) → ⊥)

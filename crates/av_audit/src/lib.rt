@@ -8,7 +8,7 @@
 //! After a unit that isn't legal none is, and after want of memory each call wants it. The numbers
 //! of the machine have to be such as words can say (`FitsWords`).
 //!
-//! Only tested: nothing. That memory suffices isn't proved.
+//! Only tested: that memory suffices.
 #![tactic(auto)]
 
 mod accessing;
@@ -20,6 +20,8 @@ mod leaving;
 mod lengths;
 mod locking;
 mod mapping;
+mod neighbours;
+mod remapping;
 mod reporting;
 mod spawn;
 mod swapping;

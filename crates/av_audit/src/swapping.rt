@@ -1,4 +1,4 @@
-//! Units of `reclaim` and `swapon`.
+//! Units of `reclaim`, `swapon` and `swapoff`.
 
 ghost use Rattle.std.specs.Prelude.{◌≡◌, ◌<◌, ℕ, IfOk, OnOk, Option as Optional, option_and_then};
 ghost use Rattle.std.specs.Prelude.{option_map};
@@ -6,19 +6,23 @@ ghost use Rattle.av_trace.specs.Reply.{IsAnswer};
 ghost use Rattle.av_trace.specs.declared.command.Command.TheVariants as commands;
 ghost use Rattle.av_plain.specs.Event.{after_all};
 ghost use Rattle.av_plain.specs.Refusal.{refusal, tests};
+ghost use Rattle.av_plain.specs.Swapoff.{close_answer as answer_of_close, turn_off_events};
 ghost use Rattle.av_plain.specs.Swapon.{header_answer as answer_by, turn_on_events};
 ghost use Rattle.av_plain.specs.World.{World};
 ghost use Rattle.av_book.specs.Book.{ledger_of};
 ghost use Rattle.av_book.specs.Machine.{AreNamed, head_of, layout_of, setting_of};
 ghost use Rattle.av_book.specs.declared.machine.Head.{Head as AnyHead};
 ghost use Rattle.av_world.specs.Memories.{IsWorld};
+ghost use Rattle.av_swapoff_judge.specs.Close.{close_of};
 ghost use Rattle.av_audit.specs.Judge.{IsLeft};
 ghost use Rattle.av_audit.specs.Swap.{AreCounted};
 
+use crate::accessing::first_line;
 use av_access_judge::sparing;
 use av_book::{Area, Book, Machine};
-use av_events::turn_on;
+use av_events::{turn_off, turn_on};
 use av_judge::{is_answer, judges_reclaim};
+use av_swapoff_judge::{Close, closes};
 use av_trace::{Answer, Errno};
 use av_world::Memories;
 use std::alloc::{AllocError, Global};
@@ -132,6 +136,59 @@ pub fn audits_swapon(
             }
             turns_on(book, area, priority, &answer)?;
             Ok(true)
+        }
+    }
+}
+
+/// The answer of a swapoff that ends so.
+fn close_answer(close: Close) -> Answer
+    ensures answer { result ≡ answer_of_close (close_of close) }
+    ensures fits { IsAnswer result }
+{
+    match close {
+        Close::Closed => Answer::Done,
+        Close::NoRoom(out) => Answer::NoFrame(out),
+        Close::Unread => Answer::Refused(Errno::Eio),
+    }
+}
+
+/// A swap area is off where no slot of it is in use.
+fn turns_off(book: &mut Book, area: u8, close: Close)
+    ensures { ledger_of book.new
+        ≡ after_all (ledger_of book.old) (turn_off_events area (close_of close)) }
+{
+    match close {
+        Close::Closed => turn_off(book, area),
+        Close::NoRoom(_) | Close::Unread => {}
+    }
+}
+
+/// Whether a unit is legal for `swapoff`.
+pub fn audits_swapoff(
+    alloc: Global,
+    machine: &Machine,
+    memories: &Memories,
+    book: &mut Book,
+    area: u8,
+    unit: &[u8],
+) -> Result<bool, AllocError>
+    requires some { 0 < machine.now.frames }
+    requires fits { AreNamed (setting_of machine.now) }
+    ensures { IfOk result (λ legal. (w : World) → IsWorld memories.now w
+        → IsLeft (setting_of machine.now) w (ledger_of book.old) (commands.Swapoff area) unit.now
+        legal memories.now book.new) }
+{
+    if !book.is_on(area) {
+        return is_answer(alloc, &Answer::Refused(Errno::Einval), unit);
+    }
+    let Some((line, notes)) = first_line(unit) else {
+        return Ok(false);
+    };
+    match closes(book, alloc, machine, memories, area, notes)? {
+        None => Ok(false),
+        Some(close) => {
+            turns_off(book, area, close);
+            is_answer(alloc, &close_answer(close), line)
         }
     }
 }

@@ -1,3 +1,4 @@
 pub mod JoinedRuns
 pub mod NextMove
 pub mod OneRuns
+pub mod OneReads

@@ -1,8 +1,6 @@
 -- What a reply is determined by.
-use Rattle.std.specs.Prelude.{◌≡◌, ℕ, ◌<◌, IfSome, is_some, true, List, [], ◌∷◌}
-use Rattle.av_base.specs.Page.{page_size}
+use Rattle.std.specs.Prelude.{◌≡◌, ℕ, is_some, true, List, [], ◌∷◌}
 use Rattle.av_trace.specs.declared.reply.Reply.{Reply}
-use Rattle.av_plain.specs.World.{World, Page, pages}
 use Rattle.av_plain.specs.Ledger.{Setting}
 use Rattle.av_plain.specs.Pass.{fails}
 use Rattle.av_plain.specs.Step.{failure_answers}
@@ -11,11 +9,6 @@ use Rattle.av_plain.specs.Transcript.{Exchange}
 -- the devices tell what is on their pages
 abbrev pub Tells : Setting → Type 0
 Tells m = is_some m.headers ≡ true
-
--- each byte of each mapped page is claimed
-abbrev pub IsClaimed : World → Type 0
-IsClaimed w = (p page : ℕ) →
-    IfSome (pages w p page) (λ (q : Page). (i : ℕ) → i < page_size → is_some (q.bytes i) ≡ true)
 
 -- no write of a slot failed, and the answer is none that only a failure explains
 pub record ShowsNoFailure (reply : Reply) : Type 0 where

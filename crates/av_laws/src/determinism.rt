@@ -15,7 +15,8 @@ ghost use Rattle.av_plain.specs.Sound.{AllSound};
 ghost use Rattle.av_plain.specs.Step.{causes};
 ghost use Rattle.av_plain.specs.Transcript.{Exchange, State, IsStep, IsRun, at_first, causes_of};
 ghost use Rattle.av_io.specs.Count.{Rose, RoseBy};
-ghost use Rattle.av_laws.specs.Determined.{Tells, IsClaimed, ShowsNoFailure, ShowNoFailures};
+ghost use Rattle.av_command_laws.specs.Claimed.{IsClaimed};
+ghost use Rattle.av_laws.specs.Determined.{Tells, ShowsNoFailure, ShowNoFailures};
 ghost use Rattle.av_laws.specs.Determined.{SameCommands};
 
 /// Where memories and ledger are sound, the devices tell their pages, each byte of the memories is

@@ -2,6 +2,7 @@
 use Rattle.std.proofs.Common.{◌≡◌, ◌⊎◌, inl, inr, ℕ, ◌<◌, Bool, true, false, cond, Option, Some, None, List, [], ◌∷◌, ◌++◌, ◌≤◌, length, refl, sym, ap, subst, ◌∙◌, arith, append_assoc}
 use Rattle.std.specs.Prelude.{◌==◌}
 use Rattle.std.proofs.lemmas.Bool.{eqb-true}
+use Rattle.std.proofs.lemmas.List.{append_cancel_left}
 use Rattle.av_base.specs.declared.slot.Slot.{Slot}
 use Rattle.av_trace.specs.declared.note.Note.{Note}
 use Rattle.av_trace.specs.declared.note.Note.TheVariants.{Dropped}
@@ -67,6 +68,14 @@ to-close m sp l l' s bytes rest (Some (inr free)) h = record {
 abbrev Behind : Setting → World → ℕ → Ledger → Unit {0} → List Note → Close → List Note → Type 0
 Behind m w k l u a end b = AreEmptied m w k (after_notes l a) end b
 
+-- a slot that is emptied goes on behind a pass
+emptied-apart : (m : Setting) (sp : Spared) (l : Ledger) (s : Slot) (a b v : List Note) → IsEmptied m sp l s a → frame_at l s ≡ None
+    → Seeks m sp l b → a ++ v ≡ b → ⊥
+emptied-apart m sp l s a b v h none seeks e =
+    let mapped = map_notes (after_notes l h.fetched) s h.frame in
+    stuck-apart m sp l s h.frame h.fetched b (mapped ++ v) h.fetches none seeks
+    (sym (append_assoc h.fetched mapped v) ∙ (λ i. sym h.whole i ++ v) ∙ e)
+
 slot-stages : (m : Setting) (w : World) (k : ℕ) (l : Ledger) (page : ℕ) (others : List ℕ) → slots_in_use m l k ≡ page ∷ others
     → InStages {Y = Unit {0}} Never (AreEmptied m w k l) (Empties m (sparing_area w k l) l (slot_at k page))
     (Halts m (sparing_area w k l) l (slot_at k page)) (λ x a. Never) (Behind m w k l)
@@ -77,7 +86,7 @@ slot-stages m w k l page others in_use = record {
   halt = λ end ns h. ([], subst (λ ps. EndsAt m (sparing_area w k l) k l ps ns end) (sym in_use) h);
   end = λ u end a b h g. (page ∷ g.0, (others, a, b, in_use, refl, h, g.1));
   told = λ x y a b u v h g e. (refl, emptied-told m (sparing_area w k l) l (slot_at k page) a b u v h g e);
-  apart = λ u end a b v h g e. apart a b v h g.0 g.1 e;
+  apart = λ u end a b v h g e. emptied-apart m (sparing_area w k l) l (slot_at k page) a b v h g.0 g.1 e;
 }
   where
     first : {x y : ℕ} {xs ys : List ℕ} → x ∷ xs ≡ y ∷ ys → x ≡ y
@@ -96,14 +105,6 @@ slot-stages m w k l page others in_use = record {
       (ps, h.6),
       h.4,
     )
-
-    apart : (a b v : List Note) → IsEmptied m (sparing_area w k l) l (slot_at k page) a → frame_at l (slot_at k page) ≡ None
-        → Seeks m (sparing_area w k l) l b → a ++ v ≡ b → ⊥
-    apart a b v h none seeks e =
-        let s = slot_at k page in
-        let mapped = map_notes (after_notes l h.fetched) s h.frame in
-        stuck-apart m (sparing_area w k l) l s h.frame h.fetched b (mapped ++ v) h.fetches none seeks
-        (sym (append_assoc h.fetched mapped v) ∙ (λ i. sym h.whole i ++ v) ∙ e)
 
 module _ (m : Setting) (w : World) (k : ℕ) (l : Ledger) (page : ℕ) (others : List ℕ) (in_use : slots_in_use m l k ≡ page ∷ others)
     (s : Slot) (is : s ≡ slot_at k page) (bytes mid : List ℕ) where
@@ -220,3 +221,40 @@ pub closes-then : (m : Setting) (w : World) (k : ℕ) (l l1 l' : Ledger) (bytes 
 closes-then m w k l l1 l' bytes mid found first later =
     whole-then (Closes m w k l) (λ (u : Unit {0}). Completes l l.flight) NoHalt (Behind m w k l) (close-stages m w k l) l l1 l' bytes mid tt found
     first (λ a g e. subst (λ n. IsWhole (AreEmptied m w k n) l1 mid found l') e later)
+
+-- ---- the notes tell the end
+
+first-of : {x y : ℕ} {xs ys : List ℕ} → x ∷ xs ≡ y ∷ ys → x ≡ y
+first-of e = cc
+
+emptied-one : (m : Setting) (w : World) (k : ℕ) (l : Ledger) (ps qs : List ℕ) (a b : List Note) (end end' : Close) → a ≡ b
+    → PlainEmpties m w k l ps a end → PlainEmpties m w k l qs b end' → end ≡ end'
+emptied-one m w k l [] [] a b end end' same h g = by (slots_in_use m l k) h g
+  where
+    by : (pages : List ℕ) → EndsAt m (sparing_area w k l) k l pages a end → EndsAt m (sparing_area w k l) k l pages b end' → end ≡ end'
+    by [] p q = p.1 ∙ sym q.1
+    by (page ∷ pages) p q = p.2 ∙ ap (λ ns. end_at m (sparing_area w k l) (after_notes l ns)) same ∙ sym q.2
+emptied-one m w k l [] (q ∷ qs) a b end end' same h g =
+    let over = subst (λ pages. EndsAt m (sparing_area w k l) k l pages a end) g.3 h in
+    absurd (emptied-apart m (sparing_area w k l) l (slot_at k q) g.1 a g.2 g.5 over.0 over.1 (sym g.4 ∙ sym same))
+emptied-one m w k l (p ∷ ps) [] a b end end' same h g =
+    let over = subst (λ pages. EndsAt m (sparing_area w k l) k l pages b end') h.3 g in
+    absurd (emptied-apart m (sparing_area w k l) l (slot_at k p) h.1 b h.2 h.5 over.0 over.1 (sym h.4 ∙ same))
+emptied-one m w k l (p ∷ ps) (q ∷ qs) a b end end' same h g =
+    let sp = sparing_area w k l in
+    let page : q ≡ p = first-of (sym g.3 ∙ h.3) in
+    let whole : h.1 ++ h.2 ≡ g.1 ++ g.2 = sym h.4 ∙ same ∙ g.4 in
+    let here : h.1 ≡ g.1 = emptied-told m sp l (slot_at k p) h.1 g.1 h.2 g.2 h.5
+    (subst (λ page. IsEmptied m sp l (slot_at k page) g.1) page g.5) whole in
+    let rest : h.2 ≡ g.2 = append_cancel_left h.1 h.2 g.2 (whole ∙ ap (λ ns. ns ++ g.2) (sym here)) in
+    emptied-one m w k (after_notes l h.1) ps qs h.2 g.2 end end' rest h.6
+    (subst (λ ns. PlainEmpties m w k (after_notes l ns) qs g.2 end') (sym here) g.6)
+
+pub closes-one : (m : Setting) (w : World) (k : ℕ) (l : Ledger) (a b : List Note) (end end' : Close) → a ≡ b → Closes m w k l end a
+    → Closes m w k l end' b → end ≡ end'
+closes-one m w k l a b end end' same h g =
+    let whole : h.0 ++ h.1 ≡ g.0 ++ g.1 = sym h.4 ∙ same ∙ g.4 in
+    let done : h.0 ≡ g.0 = completes-told l l.flight h.0 g.0 h.1 g.1 h.2 g.2 whole in
+    let rest : h.1 ≡ g.1 = append_cancel_left h.0 h.1 g.1 (whole ∙ ap (λ ns. ns ++ g.1) (sym done)) in
+    emptied-one m w k (after_notes l h.0) h.3.0 g.3.0 h.1 g.1 end end' rest h.3.1
+    (subst (λ ns. PlainEmpties m w k (after_notes l ns) g.3.0 g.1 end') (sym done) g.3.1)

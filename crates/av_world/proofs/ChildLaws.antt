@@ -34,8 +34,8 @@ else-none (Some k) = refl
 -- a part that follows says of its own pages what it says
 with-part : (made : List Range) (at to : ℕ) (o : Option Marks) (page : ℕ) → at < to
     → marks_in (made ++ part_of at to o) page ≡ or_else (marks_in made page) (cond (nat_le at page && nat_lt page to) o None)
-with-part made at to None page less = ap (λ rs. marks_in rs page) (append-nil made) ∙ sym (ap (or_else (marks_in made page)) (none (nat_le at page && nat_lt page to))
-    ∙ else-none (marks_in made page))
+with-part made at to None page less = ap (λ rs. marks_in rs page) (append-nil made)
+    ∙ sym (ap (or_else (marks_in made page)) (none (nat_le at page && nat_lt page to)) ∙ else-none (marks_in made page))
   where
     nothing : Option Marks
     nothing = None
@@ -142,8 +142,8 @@ one-child (Some k) bytes (Some p) h = by k.flags.dont_fork k.flags.wipe_on_fork 
     by : (d w : Bool) → p.flags.dont_fork ≡ d → p.flags.wipe_on_fork ≡ w
         → IsPage (said d) (byte_in (cond (not d && not w) bytes None))
         (cond p.flags.dont_fork None (Some (without_lock (cond p.flags.wipe_on_fork (wiped p) p))))
-    by d w hd hw = subst (λ x. IsPage (said d) (byte_in (cond (not d && not w) bytes None)) (cond x None (Some (without_lock (cond p.flags.wipe_on_fork (wiped p) p)))))
-        (sym hd)
+    by d w hd hw = subst (λ x. IsPage (said d) (byte_in (cond (not d && not w) bytes None))
+        (cond x None (Some (without_lock (cond p.flags.wipe_on_fork (wiped p) p))))) (sym hd)
         (subst (λ x. IsPage (said d) (byte_in (cond (not d && not w) bytes None)) (cond d None (Some (without_lock (cond x (wiped p) p)))))
         (sym hw) (plain d w))
 

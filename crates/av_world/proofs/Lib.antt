@@ -5,3 +5,4 @@ pub mod SpaceLaws
 pub mod WorldLaws
 pub mod BytesLaws
 pub mod ChildLaws
+pub mod ProtLaws

@@ -4,7 +4,8 @@
 //! unmaps, protects, marks or wipes some (`Memories::edit`), writes bytes (`write`), makes a child
 //! (`fork`) or ends a process (`remove`). What is asked of them is what the definitions say: the
 //! bytes from an address on, whether a page may be accessed, is locked or goes over to a child, how
-//! many pages come before a hole or a locked page, and the greatest gap.
+//! many pages come before a hole or a locked page, whether pages have one protection, and the
+//! greatest gap.
 //!
 //! Pages are kept as ranges, so a call doesn't cost more where its own range is long. But it goes
 //! over all ranges of the process, a fork for each of them; where it unmaps or wipes, over all its
@@ -21,6 +22,7 @@ mod holes;
 mod locks;
 mod mapping;
 mod memories;
+mod prots;
 mod questions;
 mod ranges;
 mod space;

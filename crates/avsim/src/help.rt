@@ -14,14 +14,16 @@ anonymous memory
 Synopsis
   avsim run FRAMES [SWAP..] < TRACE
   avsim work SEED LINES FRAMES [SWAP..]
+  avsim audit FRAMES [SWAP..]
   avsim --help | --version
-  avsim run --help | avsim work --help
+  avsim run --help | avsim work --help | avsim audit --help
 
 Description
   A machine with FRAMES frames of memory does the commands of a trace, one a
   line. With run they come from standard input, and for each it writes one reply
   to standard output. With work they are a load that it makes from a number, and
-  it writes a summary of the replies.
+  it writes a summary of the replies. With audit it reads the replies, too, and
+  says whether they are legal.
 
 Command line
   SEED                   0 to 18446744073709551615; each number is a load
@@ -133,7 +135,9 @@ prints:      ok
 
 Exit status
   0, or 2 usage, 3 a line that is no command, 4 a failed read, 5 a failed
-  write, 6 out of memory, 7 too many lines, 8 a swap file that can't be opened
+  write, 6 out of memory, 7 too many lines, 8 a swap file that can't be opened.
+  Of audit also 9 a reply that isn't legal, 10 a transcript that is too long,
+  11 a reply that isn't judged
 ";
 
 /// The text of `run --help`.
@@ -189,6 +193,30 @@ Example
   avsim work 7 1000 64
 ";
 
+/// The text of `audit --help`.
+pub const AUDIT_HELP: &str = "\
+avsim audit - says whether a transcript is legal for a trace
+
+Synopsis
+  avsim audit FRAMES [SWAP..]
+
+  FRAMES                 1 to 16384 frames of 4096 bytes
+  SWAP..                 the swap files of the run, as they were before it or
+                         are behind it; of each its first page is read, and
+                         none is written
+
+  Standard input has a trace, a line that is %% and nothing else, and a
+  transcript: one reply for each command, as run writes them. Which free frame
+  or slot a reply takes is no matter. Where each reply is legal, legal is
+  written to standard output. Else standard error has the number of the first
+  one that isn't, that is missing, or that is one too many.
+
+Example
+  printf 'spawn 1\\n%%%%\\nok\\n' | avsim audit 4
+
+prints:      legal
+";
+
 /// The text that the words ask for, where they ask for one and nothing else.
 pub fn text_for(words: &[String]) -> Option<&'static str>
     ensures some { IfSome result (λ text. AskFor (map string_bytes words.now) text.now) }
@@ -199,6 +227,7 @@ pub fn text_for(words: &[String]) -> Option<&'static str>
         [word] if word.as_str() == "--version" => Some(VERSION),
         [verb, word] if word.as_str() == "--help" && verb.as_str() == "run" => Some(RUN_HELP),
         [verb, word] if word.as_str() == "--help" && verb.as_str() == "work" => Some(WORK_HELP),
+        [verb, word] if word.as_str() == "--help" && verb.as_str() == "audit" => Some(AUDIT_HELP),
         _ => None,
     }
 }

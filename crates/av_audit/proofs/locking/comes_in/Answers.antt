@@ -19,7 +19,8 @@ returns-in_default c = λ w h.
     c.in_default.ensures.none
 
 pub accesses-requires-clause-pages : goal.accesses-requires-clause-pages
-accesses-requires-clause-pages c = all-higher c.args.pages.now (c.args.from + c.args.n) (2 ^ 52) (let low = c.requires.low in omega (arith, low)) c.requires.pages
+accesses-requires-clause-pages c =
+    all-higher c.args.pages.now (c.args.from + c.args.n) (2 ^ 52) (let low = c.requires.low in omega (arith, low)) c.requires.pages
 
 pub returns-in-None : goal.returns-in-None
 returns-in-None c = λ w h.

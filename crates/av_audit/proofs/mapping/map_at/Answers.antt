@@ -14,6 +14,7 @@ returns-in-Some c = on_ok_weaker c.edit.result (λ h w place at alive.
     let p = c.args.process in
     let q = pages w p in
     subst (λ to. IsWorld c.edit.new.self (next w (Mmap p c.args.length c.args.prot place) (map_answer to))) (sym c.in-Some.is)
-    (subst (λ from. IsWorld c.edit.new.self (set_process w p (with_pages q from (pages_of c.args.length) (λ _. Some (zeros c.args.prot))))) (sym (page-again c.in-Some.from))
+    (subst (λ from. IsWorld c.edit.new.self (set_process w p (with_pages q from (pages_of c.args.length) (λ _. Some (zeros c.args.prot)))))
+    (sym (page-again c.in-Some.from))
     (subst (λ n. IsWorld c.edit.new.self (set_process w p (with_pages q c.in-Some.from n (λ _. Some (zeros c.args.prot))))) c.pages_of-n.ensures.pages
     (h w at alive)))) c.edit.ensures

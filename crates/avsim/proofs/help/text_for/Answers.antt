@@ -61,8 +61,23 @@ returns-in-len2-2-clause-some c =
     let text = c.as_str-then-words-lt3-2 in
     let word : string_bytes item.result ≡ codes "--help" = sym text.ensures.value ∙ (bytes_eq-Decides text.result.now (codes "--help")).0
     (sym c.eq-then-words-lt3-2.ensures ∙ c.if-eq-5.true) in
-    inr (inr (inr (
+    inr (inr (inr (inl (
       both string_bytes c.args.words.now first.result item.result (codes "work") (codes "--help") (omega arith) first.is item.is
           verb word,
       refl,
-    )))
+    ))))
+
+pub returns-in-len2-3-clause-some : goal.returns-in-len2-3-clause-some
+returns-in-len2-3-clause-some c =
+    let first = c.verb-item-then-words-lt3-2 in
+    let verb : string_bytes first.result ≡ codes "audit" = sym c.as_str-then-eq-7.ensures.value
+    ∙ (bytes_eq-Decides c.as_str-then-eq-7.result.now (codes "audit")).0 (sym c.eq-then-eq-7.ensures ∙ c.if-eq-8.true) in
+    let item = c.word-item-then-words-lt3-3 in
+    let text = c.as_str-then-words-lt3-3 in
+    let word : string_bytes item.result ≡ codes "--help" = sym text.ensures.value ∙ (bytes_eq-Decides text.result.now (codes "--help")).0
+    (sym c.eq-then-words-lt3-3.ensures ∙ c.if-eq-7.true) in
+    inr (inr (inr (inr (
+      both string_bytes c.args.words.now first.result item.result (codes "audit") (codes "--help") (omega arith) first.is item.is
+          verb word,
+      refl,
+    ))))

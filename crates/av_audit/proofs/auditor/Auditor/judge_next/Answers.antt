@@ -7,8 +7,8 @@ use Rattle.av_audit.specs.declared.auditor.Auditor.{Auditor}
 use Rattle.av_audit.proofs.JudgeLaws.{left-right}
 use Rattle.av_audit.proofs.auditor.Auditor.judge_next.Goals as goal
 
-pub returns-in_ok-legal-clause-right : goal.returns-in_ok-legal-clause-right
-returns-in_ok-legal-clause-right c = λ w l at.
+pub returns-clause-right : goal.returns-clause-right
+returns-clause-right c = λ w l at.
     let m = setting_of c.args.self.now.machine in
     let command = c.args.command.now in
     let unit = c.args.unit.now in

@@ -4,16 +4,12 @@ use Rattle.std.specs.Prelude.{IfSome, if◌then◌else◌, option_and_then}
 use Rattle.std.specs.List.{range_with_len}
 use Rattle.std.proofs.lemmas.Bool.Decides.{nat_tests}
 use Rattle.av_base.specs.Page.{page_of, page_size, pages_of}
-use Rattle.av_plain.specs.Access.{Accesses, End, Stopped, Whole, bytes_served, page_events, pages_of_access}
+use Rattle.av_plain.specs.Access.{Accesses, End, Reads, Stopped, Whole, bytes_served, page_events, pages_of_access}
 use Rattle.av_plain.specs.Event.{Event, after_all}
 use Rattle.av_plain.specs.Fault.{is_allowed, permits}
 use Rattle.av_plain.specs.Ledger.{Ledger, Setting}
 use Rattle.av_plain.specs.World.{Page, Process, Shows, World, byte_at, pages}
-
--- each byte of each mapped page is claimed
-abbrev pub IsClaimed : World → Type 0
-IsClaimed w = (p page : ℕ) →
-    IfSome (pages w p page) (λ (q : Page). (i : ℕ) → i < page_size → is_some (q.bytes i) ≡ true)
+use Rattle.av_command_laws.specs.Claimed.{IsClaimed}
 
 -- ---- the bytes that a read shows
 
@@ -43,7 +39,7 @@ served-allowed m w l write p from (suc n) es end (inr h) page low high =
     absurd (let e = subst (λ e. page < end_page e (from + suc n)) h.4 high in omega (arith, e, low))
 
 -- two lists that are shown at one place are one, where each byte is claimed
-pub shows-one : (q : Process) (a : ℕ) (xs ys : List ℕ) → length xs ≡ length ys → ((i : ℕ) → i < length xs → is_some (byte_at q (a + i)) ≡ true) →
+shows-one : (q : Process) (a : ℕ) (xs ys : List ℕ) → length xs ≡ length ys → ((i : ℕ) → i < length xs → is_some (byte_at q (a + i)) ≡ true) →
     Shows q a xs → Shows q a ys → xs ≡ ys
 shows-one q a [] [] same some h g = refl
 shows-one q a [] (y ∷ ys) same some h g = absurd (omega (arith, same))
@@ -75,7 +71,7 @@ byte-claimed w write p address claimed allowed = by (pages w p (page_of address)
     by (Some q) is c h = c (address % 4096) (omega arith)
 
 -- the bytes before the end lie on pages before the end
-pub served-claimed : (m : Setting) (w : World) (l : Ledger) (write : Bool) (p a n : ℕ) (es : List Event) (end : End) → IsClaimed w →
+served-claimed : (m : Setting) (w : World) (l : Ledger) (write : Bool) (p a n : ℕ) (es : List Event) (end : End) → IsClaimed w →
     Accesses m w l p (pages_of_access write a n) es end
     → (i : ℕ) → i < bytes_served a n end → is_some (byte_at (pages w p) (a + i)) ≡ true
 served-claimed m w l write p a n es end claimed h i below =
@@ -99,3 +95,11 @@ served-claimed m w l write p a n es end claimed h i below =
     inside : (end : End) → i < bytes_served a n end → page_of (a + i) < end_page end (page_of a + (if n == 0 then 0 else pages_of (a % 4096 + n)))
     inside Whole h = some (n == 0) refl h
     inside (Stopped page stop) h = short page h
+
+pub one-read : (m : Setting) (w : World) (l : Ledger) (p a n : ℕ) (es : List Event) (end : End) (shown others : List ℕ) → IsClaimed w
+    → Accesses m w l p (pages_of_access false a n) es end → Reads (pages w p) a (bytes_served a n end) shown
+    → Reads (pages w p) a (bytes_served a n end) others → shown ≡ others
+one-read m w l p a n es end shown others claimed h mine other =
+    let long = mine.0 in
+    shows-one (pages w p) a shown others (mine.0 ∙ sym other.0)
+    (λ i below. served-claimed m w l false p a n es end claimed h i (omega (arith, below, long))) mine.1 other.1

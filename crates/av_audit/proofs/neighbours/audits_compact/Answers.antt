@@ -1,0 +1,12 @@
+use Rattle.std.proofs.Common.{refl}
+use Rattle.std.proofs.lemmas.Result.{IfOk-weaker}
+use Rattle.av_trace.specs.declared.command.Command.TheVariants.{Compact}
+use Rattle.av_book.specs.Book.{ledger_of}
+use Rattle.av_book.specs.Machine.{setting_of}
+use Rattle.av_audit.proofs.SwapLaws.{book-left}
+use Rattle.av_audit.proofs.neighbours.audits_compact.Goals as goal
+
+pub returns : goal.returns
+returns c = IfOk-weaker c.judges_compact.result _ _ (λ legal h w at.
+    book-left (setting_of c.args.machine.now) w (ledger_of c.args.book.now) Compact c.args.unit.now legal c.args.memories.now c.judges_compact.new.book refl
+    (λ v answer. refl) (h w) at) c.judges_compact.ensures

@@ -1,0 +1,5 @@
+pub mod MoveLaws
+pub mod HeldLaws
+pub mod FirstLaws
+pub mod CandidateLaws
+pub mod MergeLaws

@@ -1,0 +1,4 @@
+pub mod Moving
+pub mod Held
+pub mod First
+pub mod Merging

@@ -1,0 +1,117 @@
+//! Which pages are candidates, and what they join.
+
+ghost use Rattle.std.specs.Prelude.{◌≡◌, ◌<◌, IfOk, IfSome, map, true};
+ghost use Rattle.av_base.specs.Limits.{top_page};
+ghost use Rattle.av_plain.specs.Fault.{is_locked as is_locked_in};
+ghost use Rattle.av_plain.specs.Merge.{candidate as candidate_in, may_merge as may_merge_by};
+ghost use Rattle.av_plain.specs.Merge.{merged_like as merged_like_in, other_like as other_like_in};
+ghost use Rattle.av_plain.specs.World.{World, pages};
+ghost use Rattle.av_book.specs.Book.{ledger_of};
+ghost use Rattle.av_book.specs.Machine.{setting_of};
+ghost use Rattle.av_world.specs.Memories.{IsWorld};
+ghost use Rattle.av_neighbour_judge.specs.Held.{held_by};
+
+use crate::held::{FramePages, holds_same, page_marks};
+use av_base::TOP_PAGE;
+use av_book::{Book, Entry, Machine};
+use av_world::Memories;
+use std::alloc::{AllocError, Global};
+
+/// The pages that have an entry, by process and address.
+pub fn all_keys(alloc: Global, book: &Book) -> Result<Vec<(u16, u64)>, AllocError>
+    ensures { IfOk result (λ made. made.items ≡ map (λ e. e.0) (ledger_of book.now).entries) }
+{
+    let mut made = Vec::new(alloc);
+    for key in book.entries.keys() {
+        made.push(*key)?;
+    }
+    Ok(made)
+}
+
+/// Whether a page may be merged.
+fn may_merge(memories: &Memories, key: (u16, u64)) -> bool
+    ensures below { result ≡ true → key.1 < top_page }
+    ensures may { (w : World) → IsWorld memories.now w
+        → result ≡ may_merge_by (pages w key.0 key.1) }
+{
+    if key.1 >= TOP_PAGE {
+        return false;
+    }
+    match page_marks(memories, key) {
+        None => false,
+        Some(marks) => marks.flags.mergeable,
+    }
+}
+
+/// Whether a page is locked whose entry names the frame.
+fn is_locked(book: &Book, memories: &Memories, frame: u32) -> bool
+    ensures { (w : World) → IsWorld memories.now w
+        → result ≡ is_locked_in w (ledger_of book.now) frame }
+{
+    for (key, entry) in book.entries.iter() {
+        if entry.names_frame(frame) && memories.locks(key.0, key.1) {
+            return true;
+        }
+    }
+    false
+}
+
+/// The frame of a page, if it may join another.
+pub fn candidate(book: &Book, memories: &Memories, key: (u16, u64)) -> Option<u32>
+    ensures below { IfSome result (λ frame. key.1 < top_page) }
+    ensures is { (w : World) → IsWorld memories.now w
+        → result ≡ candidate_in w (ledger_of book.now) key }
+{
+    match book.entry(key.0, key.1) {
+        Some(Entry::InFrame { frame, .. }) => {
+            if may_merge(memories, key)
+                && !book.is_merged(frame)
+                && book.slot_of(frame).is_none()
+                && !is_locked(book, memories, frame)
+            {
+                Some(frame)
+            } else {
+                None
+            }
+        }
+        _ => None,
+    }
+}
+
+/// The least merged frame that holds the same.
+pub fn merged_like(
+    book: &Book,
+    machine: &Machine,
+    memories: &Memories,
+    pages: &FramePages,
+    frame: u32,
+) -> Option<u32>
+    ensures { result ≡ merged_like_in (setting_of machine.now) (held_by memories.now pages.now)
+        (ledger_of book.now) frame }
+{
+    for other in 0..machine.frames {
+        if book.is_merged(other) && holds_same(memories, pages, other, frame) {
+            return Some(other);
+        }
+    }
+    None
+}
+
+/// The first of some frames that is another and holds the same.
+pub fn other_like(
+    memories: &Memories,
+    pages: &FramePages,
+    frames: &[u32],
+    frame: u32,
+) -> Option<u32>
+    ensures { result ≡ other_like_in (held_by memories.now pages.now) frames.now frame }
+{
+    let mut rest = frames;
+    while let [first, others @ ..] = rest {
+        if *first != frame && holds_same(memories, pages, *first, frame) {
+            return Some(*first);
+        }
+        rest = others;
+    }
+    None
+}
