@@ -1,8 +1,7 @@
 -- What an auditor answers.
 use Rattle.std.specs.Prelude.{◌≡◌, ℕ, Bool, true, false, if◌then◌else◌, List, MatchBool}
 use Rattle.av_trace.specs.declared.command.Command.{Command}
-use Rattle.av_trace.specs.declared.command.Command.TheVariants.{Areas, Compact, Merge, Mremap}
-use Rattle.av_trace.specs.declared.command.Command.TheVariants.{Swapoff}
+use Rattle.av_trace.specs.declared.command.Command.TheVariants.{Areas, Mremap}
 use Rattle.av_plain.specs.Ledger.{Ledger, Setting}
 use Rattle.av_plain.specs.Sound.{AllSound}
 use Rattle.av_plain.specs.World.{World}
@@ -30,9 +29,6 @@ verdict_of legal = if legal then Legal else Illegal
 abbrev pub is_judged : Command → Bool
 is_judged (Mremap p a old new mode) = false
 is_judged (Areas p) = false
-is_judged (Swapoff k) = false
-is_judged Merge = false
-is_judged Compact = false
 is_judged command = true
 
 -- the unit is legal, and the auditor is at what it leaves; or it isn't legal; or the command isn't

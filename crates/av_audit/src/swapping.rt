@@ -15,7 +15,7 @@ ghost use Rattle.av_book.specs.declared.machine.Head.{Head as AnyHead};
 ghost use Rattle.av_world.specs.Memories.{IsWorld};
 ghost use Rattle.av_swapoff_judge.specs.Close.{close_of};
 ghost use Rattle.av_audit.specs.Judge.{IsLeft};
-ghost use Rattle.av_audit.specs.Swap.{AreCounted};
+ghost use Rattle.av_machine.specs.Heads.{AreCounted};
 
 use crate::accessing::first_line;
 use av_access_judge::sparing;

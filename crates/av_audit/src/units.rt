@@ -16,9 +16,10 @@ use crate::forking::audits_fork;
 use crate::leaving::{audits_exit, audits_munmap};
 use crate::locking::audits_mlock;
 use crate::mapping::{audits_mmap, audits_mprotect};
+use crate::neighbours::{audits_compact, audits_merge};
 use crate::reporting::{audits_entry, audits_maps, audits_rmap, audits_slot, audits_stat};
 use crate::spawn::audits_spawn;
-use crate::swapping::{audits_reclaim, audits_swapon};
+use crate::swapping::{audits_reclaim, audits_swapoff, audits_swapon};
 use av_book::{Book, Machine};
 use av_judge::{judges_age, judges_complete};
 use av_trace::Command;
@@ -29,14 +30,7 @@ use std::alloc::{AllocError, Global};
 pub fn is_judged(command: &Command) -> bool
     ensures { result ≡ is_judged command.now }
 {
-    !matches!(
-        command,
-        Command::Mremap { .. }
-            | Command::Areas { .. }
-            | Command::Swapoff { .. }
-            | Command::Merge
-            | Command::Compact
-    )
+    !matches!(command, Command::Mremap { .. } | Command::Areas { .. })
 }
 
 /// Whether a unit is legal. Memories and book are then as it leaves them.
@@ -211,6 +205,9 @@ fn is_legal_for_frames(
         Command::Swapon { area, priority } => {
             audits_swapon(alloc, machine, memories, book, *area, *priority, unit)
         }
+        Command::Swapoff { area } => audits_swapoff(alloc, machine, memories, book, *area, unit),
+        Command::Merge => audits_merge(alloc, machine, memories, book, unit),
+        Command::Compact => audits_compact(alloc, machine, memories, book, unit),
         _ => unreachable!(),
     }
 }

@@ -36,3 +36,24 @@ returns-in-Swapon c = IfOk-weaker c.audits_swapon.result _ _ (λ legal h w at so
     c.args.memories.now c.audits_swapon.new.book c.in-Swapon.is
     (h w at))
     c.audits_swapon.ensures
+
+pub returns-in-Swapoff : goal.returns-in-Swapoff
+returns-in-Swapoff c = IfOk-weaker c.audits_swapoff.result _ _ (λ legal h w at sound.
+    left-is (setting_of c.args.machine.now) w (ledger_of c.args.book.now) (commands.Swapoff c.in-Swapoff.area) c.args.command.now c.args.unit.now legal
+    c.args.memories.now c.audits_swapoff.new.book c.in-Swapoff.is
+    (h w at))
+    c.audits_swapoff.ensures
+
+pub returns-in-Merge : goal.returns-in-Merge
+returns-in-Merge c = IfOk-weaker c.audits_merge.result _ _ (λ legal h w at sound.
+    left-is (setting_of c.args.machine.now) w (ledger_of c.args.book.now) commands.Merge c.args.command.now c.args.unit.now legal
+    c.args.memories.now c.audits_merge.new.book c.in-Merge.is
+    (h w at sound))
+    c.audits_merge.ensures
+
+pub returns-in-Compact : goal.returns-in-Compact
+returns-in-Compact c = IfOk-weaker c.audits_compact.result _ _ (λ legal h w at sound.
+    left-is (setting_of c.args.machine.now) w (ledger_of c.args.book.now) commands.Compact c.args.command.now c.args.unit.now legal
+    c.args.memories.now c.audits_compact.new.book c.in-Compact.is
+    (h w at))
+    c.audits_compact.ensures
