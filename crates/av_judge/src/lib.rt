@@ -12,7 +12,7 @@
 //! Nothing asks that the ledger is sound. After want of memory a book may have followed a part of
 //! a note.
 //!
-//! Reads and writes, and all other commands, are not judged yet.
+//! Units of other commands are not judged here.
 //!
 //! Only tested: nothing.
 #![tactic(auto)]

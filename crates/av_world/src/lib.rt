@@ -1,14 +1,16 @@
 //! What processes see, as data. It knows the definitions alone, and no kernel.
 //!
-//! Proved: a process's pages are those that the definitions have, after each call: pages that are
-//! mapped, unmapped, protected, marked or wiped (`Space::edit`), and processes that come and go
-//! (`Memories`), a child's, and bytes that are written and read. And what the definitions ask of
-//! them: whether a page may be accessed or is locked, how many pages come before a hole or a locked
-//! page, whether pages have one protection, the greatest gap.
+//! Proved: a process's pages are those that the definitions have, after each call that maps,
+//! unmaps, protects, marks or wipes some (`Memories::edit`), writes bytes (`write`), makes a child
+//! (`fork`) or ends a process (`remove`). What is asked of them is what the definitions say: the
+//! bytes from an address on, whether a page may be accessed, is locked or goes over to a child, how
+//! many pages come before a hole or a locked page, whether pages have one protection, and the
+//! greatest gap.
 //!
 //! Pages are kept as ranges, so a call doesn't cost more where its own range is long. But it goes
-//! over all ranges of the process and, where it unmaps or wipes, over all its pages with bytes; and
-//! ranges that become alike are not joined. Right, and slow where there are many.
+//! over all ranges of the process, a fork for each of them; where it unmaps or wipes, over all its
+//! pages with bytes; and ranges that become alike are not joined. Right, and slow where there are
+//! many.
 //!
 //! Only tested: nothing.
 #![tactic(auto)]
