@@ -1,5 +1,5 @@
 -- What is found of units is found of all of them, and of none two things.
-use Rattle.std.proofs.Common.{◌≡◌, ℕ, ◌+◌, Bool, true, false, List, [], ◌∷◌, ◌++◌, ◌⊎◌, length, length-append, Option, Some, None, refl, sym, ap, subst, ◌∙◌}
+use Rattle.std.proofs.Common.{◌≡◌, ℕ, suc, ◌+◌, Bool, true, false, List, [], ◌∷◌, ◌++◌, ◌⊎◌, length, length-append, Option, Some, None, refl, sym, ap, subst, ◌∙◌}
 use Rattle.std.proofs.Common.{arith, append-nil, append_assoc, inl, inr}
 use Rattle.std.specs.Prelude.{IfSome, unwrap_or}
 use Rattle.av_io.specs.Source.{Took, in_front}
@@ -7,7 +7,7 @@ use Rattle.av_ports.specs.Ports.{PortsView, undone}
 use Rattle.av_trace.specs.declared.command.Command.{Command}
 use Rattle.av_plain.specs.Ledger.{Ledger, Setting, first_ledger}
 use Rattle.av_plain.specs.World.{World}
-use Rattle.av_audit_laws.specs.Unit.{AreUnits}
+use Rattle.av_audit_laws.specs.Unit.{AreUnits, IsUnit, Leaves}
 use Rattle.av_audit_laws.proofs.UnitLaws.{leaves-one}
 use Rattle.av_audit_input.specs.Input.{IsEnded}
 use Rattle.av_audit_input.specs.Trace.{EndsTrace}
@@ -42,6 +42,64 @@ legal-or-stopped m commands units number legal s =
     (subst (λ cs. AreUnits m [] first_ledger cs units legal.0 legal.1) s.commands_are legal.2) in
     not-wrong m s.world s.ledger s.others s.rest legal.0 legal.1
     (behind m [] first_ledger s.done s.others s.legal s.rest s.world legal.0 s.ledger legal.1 s.are_units all) s.stops
+
+-- ---- one number
+
+command-first : (c d : Command) (cs ds : List Command) → c ∷ cs ≡ d ∷ ds → c ≡ d
+command-first c d cs ds e = cc
+
+command-rest : (c d : Command) (cs ds : List Command) → c ∷ cs ≡ d ∷ ds → cs ≡ ds
+command-rest c d cs ds e = cc
+
+unit-first : (u v : List ℕ) (us vs : List (List ℕ)) → u ∷ us ≡ v ∷ vs → u ≡ v
+unit-first u v us vs e = cc
+
+unit-rest : (u v : List ℕ) (us vs : List (List ℕ)) → u ∷ us ≡ v ∷ vs → us ≡ vs
+unit-rest u v us vs e = cc
+
+-- where the first unit is legal, the units don't stop there
+goes-on : (m : Setting) (w w1 w2 : World) (l l1 l2 : Ledger) (others : List Command) (rest : List (List ℕ)) (c : Command) (cs : List Command)
+    (u : List ℕ) (us : List (List ℕ)) → w1 ≡ w → l1 ≡ l → others ≡ c ∷ cs → rest ≡ u ∷ us → Leaves m w l c u w2 l2
+    → IsWrong m w1 l1 others rest → ⊥
+goes-on m w w1 w2 l l1 l2 others rest c cs u us ew el eo er h wrong =
+    by (subst (λ us. IsWrong m w l (c ∷ cs) us) er (subst (λ cs. IsWrong m w l cs rest) eo
+    (subst (λ k. IsWrong m w k others rest) el (subst (λ v. IsWrong m v l1 others rest) ew wrong))))
+  where
+    by : (IsUnit m w l c u → ⊥) → ⊥
+    by never = never (h.0, h.1, h.2)
+
+stops-once : (m : Setting) (w : World) (l : Ledger) (done ended others later : List Command) (legal valid rest more : List (List ℕ))
+    (w1 w2 : World) (l1 l2 : Ledger) → done ++ others ≡ ended ++ later → legal ++ rest ≡ valid ++ more
+    → AreUnits m w l done legal w1 l1 → AreUnits m w l ended valid w2 l2 → IsWrong m w1 l1 others rest → IsWrong m w2 l2 later more
+    → length legal ≡ length valid
+stops-once m w l [] [] others later [] [] rest more w1 w2 l1 l2 cs us h g here there = refl
+stops-once m w l [] (d ∷ ended) others later [] (v ∷ valid) rest more w1 w2 l1 l2 cs us h g here there =
+    absurd (goes-on m w w1 g.0 l l1 g.1 others rest d (ended ++ later) v (valid ++ more) h.0 h.1 cs us g.2 here)
+stops-once m w l (c ∷ done) [] others later (u ∷ legal) [] rest more w1 w2 l1 l2 cs us h g here there =
+    absurd (goes-on m w w2 h.0 l l2 h.1 later more c (done ++ others) u (legal ++ rest) g.0 g.1 (sym cs) (sym us) h.2 there)
+stops-once m w l (c ∷ done) (d ∷ ended) others later (u ∷ legal) (v ∷ valid) rest more w1 w2 l1 l2 cs us h g here there =
+    let same-command = command-first c d (done ++ others) (ended ++ later) cs in
+    let same-unit = unit-first u v (legal ++ rest) (valid ++ more) us in
+    let leaves : Leaves m w l c u g.0 g.1 = subst (λ c. Leaves m w l c u g.0 g.1) (sym same-command)
+    (subst (λ u. Leaves m w l d u g.0 g.1) (sym same-unit) g.2) in
+    let same = leaves-one m w l c u h.0 g.0 h.1 g.1 h.2 leaves in
+    ap suc (stops-once m h.0 h.1 done ended others later legal valid rest more w1 w2 l1 l2
+    (command-rest c d (done ++ others) (ended ++ later) cs) (unit-rest u v (legal ++ rest) (valid ++ more) us) h.3
+    (subst (λ v. AreUnits m v h.1 ended valid w2 l2) (sym same.0) (subst (λ k. AreUnits m g.0 k ended valid w2 l2) (sym same.1) g.3))
+    here there)
+stops-once m w l [] [] others later [] (v ∷ valid) rest more w1 w2 l1 l2 cs us h g here there = absurd g
+stops-once m w l [] (d ∷ ended) others later [] [] rest more w1 w2 l1 l2 cs us h g here there = absurd g
+stops-once m w l [] ended others later (u ∷ legal) valid rest more w1 w2 l1 l2 cs us h g here there = absurd h
+stops-once m w l (c ∷ done) ended others later [] valid rest more w1 w2 l1 l2 cs us h g here there = absurd h
+stops-once m w l (c ∷ done) [] others later (u ∷ legal) (v ∷ valid) rest more w1 w2 l1 l2 cs us h g here there = absurd g
+stops-once m w l (c ∷ done) (d ∷ ended) others later (u ∷ legal) [] rest more w1 w2 l1 l2 cs us h g here there = absurd g
+
+pub stopped-once : (m : Setting) (commands : List Command) (units : List (List ℕ)) (number other : ℕ)
+    → StopsAt m commands units number IsWrong → StopsAt m commands units other IsWrong → number ≡ other
+stopped-once m commands units number other s t =
+    s.number_is ∙ ap (λ n. n + 1) (stops-once m [] first_ledger s.done t.done s.others t.others s.legal t.legal s.rest t.rest s.world t.world
+    s.ledger t.ledger (sym s.commands_are ∙ t.commands_are) (sym s.units_are ∙ t.units_are) s.are_units t.are_units s.stops t.stops)
+    ∙ sym t.number_is
 
 -- ---- more units behind
 

@@ -15,6 +15,13 @@ pub fn legal_or_stopped()
         → AreLegal m commands units → StopsAt m commands units number IsWrong → ⊥ }
 {}
 
+/// Units that are wrong are so from one number on: so the reply that is named is the first.
+pub fn stopped_once()
+    ensures { (m : Setting) (commands : List Command) (units : List (List ℕ)) (number other : ℕ)
+        → StopsAt m commands units number IsWrong → StopsAt m commands units other IsWrong
+        → number ≡ other }
+{}
+
 /// What an audit finds is so of all units of the transcript, where the source tells what it has
 /// left: that is a trace, up to its mark or the end, and behind it the transcript.
 pub fn audits_of_inputs()

@@ -4,8 +4,9 @@
 //! before it is judged. The transcript is found legal where there are as many units as commands and
 //! each is legal in its turn; else the first that isn't is named, which may be wanting, or come
 //! behind the last command; or the first of a command that isn't judged (`audit`). Where the source
-//! tells what it has left that is so of all units of the transcript (`audits_of_inputs`), and not
-//! both (`legal_or_stopped`). Nothing is written; what failed is what the error tells of.
+//! tells what it has left that is so of all units of the transcript (`audits_of_inputs`), not both
+//! (`legal_or_stopped`), and of one number alone (`stopped_once`). Nothing is written; what failed
+//! is what the error tells of.
 //!
 //! Only tested: that memory suffices.
 #![tactic(auto)]
@@ -13,5 +14,5 @@
 mod laws;
 mod transcript;
 
-pub use laws::{audits_of_inputs, legal_or_stopped};
+pub use laws::{audits_of_inputs, legal_or_stopped, stopped_once};
 pub use transcript::{Finding, audit};

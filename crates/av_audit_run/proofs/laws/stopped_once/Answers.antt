@@ -1,0 +1,5 @@
+use Rattle.av_audit_run.proofs.Found.{stopped-once}
+use Rattle.av_audit_run.proofs.laws.stopped_once.Goals as goal
+
+pub returns : goal.returns
+returns c = stopped-once
