@@ -1,0 +1,4 @@
+pub mod InputLaws
+pub mod ReadUnit
+pub mod TraceLaws
+pub mod UnitLaws

@@ -1,0 +1,87 @@
+use Rattle.std.proofs.Common.{◌∷◌, [], ◌++◌, ◌∙◌, arith}
+use Rattle.std.proofs.lemmas.Result.{err_from_is_err_and, IfOk-weaker}
+use Rattle.av_audit_input.proofs.InputLaws.{fails-since, only-then, stays-then}
+use Rattle.av_ports.proofs.Times.{unfailed_then}
+use Rattle.av_audit_input.proofs.TraceLaws.{ends-marked, ends-next, past-more, mark-fails-since, mark-within, stops-line}
+use Rattle.av_audit_input.proofs.trace.read_trace.Goals as goal
+
+pub returns-in_err-next_line-clause-stops : goal.returns-in_err-next_line-clause-stops
+returns-in_err-next_line-clause-stops g c =
+    let past = c.loop-number.invariant.past in
+    let p = err_from_is_err_and c.from_residual.result c.from_residual.ensures.1 in
+    rw (p.1, p.2) (stops-line c.in_err-next_line.field-0.0 past.0 c.loop-number.commands.items c.loop-number.number c.args.pending.now
+    c.loop-number.pending c.next_line.new.pending (g.P.Ports.view c.args.ports.now) (g.P.Ports.view c.loop-number.ports)
+    (g.P.Ports.view c.next_line.new.ports) past.1 (omega (arith, c.loop-number-test.true)) c.in_err-next_line.ensures.same
+    c.in_err-next_line.ensures.stops)
+
+pub returns-in_err-next_line-clause-only : goal.returns-in_err-next_line-clause-only
+returns-in_err-next_line-clause-only g c = only-then _ _ _ c.loop-number.invariant.only c.next_line.ensures.only
+
+pub returns-in_err-next_line-clause-fails : goal.returns-in_err-next_line-clause-fails
+returns-in_err-next_line-clause-fails g c =
+    let p = err_from_is_err_and c.from_residual.result c.from_residual.ensures.1 in
+    rw (p.1, p.2) (fails-since (g.P.Ports.view c.args.ports.now) (g.P.Ports.view c.loop-number.ports) (g.P.Ports.view c.next_line.new.ports)
+    c.in_err-next_line.field-0.0 c.loop-number.invariant.unfailed c.loop-number.invariant.untold c.in_err-next_line.ensures.fails)
+
+pub returns-in-Transcript-clause-only : goal.returns-in-Transcript-clause-only
+returns-in-Transcript-clause-only g c = only-then _ _ _ c.loop-number.invariant.only c.next_line.ensures.only
+
+pub returns-in-Transcript-clause-taken : goal.returns-in-Transcript-clause-taken
+returns-in-Transcript-clause-taken g c =
+    let past = c.loop-number.invariant.past in
+    let taken = rw c.in-Transcript.is at c.in_ok-next_line.ensures.taken in
+    rw taken.1 (ends-marked _ past.0 c.loop-number.commands.items c.loop-number.number c.args.pending.now
+    c.loop-number.pending c.next_line.new.pending (g.P.Ports.view c.args.ports.now) (g.P.Ports.view c.loop-number.ports)
+    (g.P.Ports.view c.next_line.new.ports) past.1 (omega (arith, c.loop-number-test.true)) c.loop-number.invariant.untold taken.0)
+
+pub returns-in-End-clause-taken : goal.returns-in-End-clause-taken
+returns-in-End-clause-taken g c =
+    let past = c.loop-number.invariant.past in
+    ends-next past.0 c.loop-number.commands.items c.next_line.new.commands.items c.loop-number.number c.args.pending.now
+    c.loop-number.pending c.next_line.new.pending (g.P.Ports.view c.args.ports.now) (g.P.Ports.view c.loop-number.ports)
+    (g.P.Ports.view c.next_line.new.ports) past.1 (omega (arith, c.loop-number-test.true)) c.loop-number.invariant.untold
+    (rw c.in-End.is at c.in_ok-next_line.ensures.taken)
+
+pub returns-in-End-clause-only : goal.returns-in-End-clause-only
+returns-in-End-clause-only g c = only-then _ _ _ c.loop-number.invariant.only c.next_line.ensures.only
+
+pub loop-number-preserved : goal.loop-number-preserved
+loop-number-preserved g c =
+    let past = c.loop-number.invariant.past in
+    let taken = rw c.in-Line.is at c.in_ok-next_line.ensures.taken in
+    record {
+      past = (
+        past.0 ++ taken.0 ∷ [],
+        past-more past.0 taken.0 c.loop-number.commands.items c.next_line.new.commands.items c.loop-number.number c.args.pending.now
+            c.loop-number.pending c.next_line.new.pending (g.P.Ports.view c.args.ports.now) (g.P.Ports.view c.loop-number.ports)
+            (g.P.Ports.view c.next_line.new.ports) past.1 taken.1 taken.2,
+      );
+      only = only-then _ _ _ c.loop-number.invariant.only c.next_line.ensures.only;
+      unfailed = unfailed_then _ _ _ c.loop-number.invariant.unfailed c.in_ok-next_line.ensures.fails;
+      untold = stays-then (g.P.Ports.view c.args.ports.now) (g.P.Ports.view c.loop-number.ports) (g.P.Ports.view c.next_line.new.ports)
+          c.loop-number.invariant.untold taken.3;
+      kept = c.next_line.ensures.kept ∙ c.loop-number.invariant.kept;
+    }
+
+pub returns-clause-taken : goal.returns-clause-taken
+returns-clause-taken g c =
+    let past = c.loop-number.invariant.past in
+    IfOk-weaker c.take_mark.result _ _ (λ ended h. ends-marked ended past.0 c.loop-number.commands.items c.loop-number.number c.args.pending.now
+    c.loop-number.pending c.take_mark.new.pending (g.P.Ports.view c.args.ports.now) (g.P.Ports.view c.loop-number.ports)
+    (g.P.Ports.view c.take_mark.new.ports) past.1 (omega (arith, c.loop-number.auto.number-end)) c.loop-number.invariant.untold h)
+    c.take_mark.ensures.taken
+
+pub returns-clause-only : goal.returns-clause-only
+returns-clause-only g c = only-then _ _ _ c.loop-number.invariant.only c.take_mark.ensures.only
+
+pub returns-clause-stops : goal.returns-clause-stops
+returns-clause-stops g c =
+    let past = c.loop-number.invariant.past in
+    mark-within c.take_mark.result past.0 c.loop-number.commands.items c.loop-number.number c.args.pending.now
+    c.loop-number.pending c.take_mark.new.pending (g.P.Ports.view c.args.ports.now) (g.P.Ports.view c.loop-number.ports)
+    (g.P.Ports.view c.take_mark.new.ports) past.1 (omega (arith, c.loop-number.auto.number-end, c.loop-number-test.false))
+    c.take_mark.ensures.same c.take_mark.ensures.stops
+
+pub returns-clause-fails : goal.returns-clause-fails
+returns-clause-fails g c = mark-fails-since c.take_mark.result (g.P.Ports.view c.args.ports.now) (g.P.Ports.view c.loop-number.ports)
+    (g.P.Ports.view c.take_mark.new.ports) c.loop-number.invariant.unfailed c.loop-number.invariant.untold c.take_mark.ensures.fails
