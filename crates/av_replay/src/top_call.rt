@@ -10,6 +10,7 @@ ghost use Rattle.av_replay.specs.Replay.{can_go_on};
 ghost use Rattle.av_replay.specs.TopCall.{AskForLoad, AttachesFewerAsked, DoesAsked, RefusesWords};
 ghost use Rattle.av_replay.specs.TopCall.{status_of};
 
+use crate::audit_over::audit_over;
 use crate::outcome::Outcome;
 use crate::over::run_over;
 use crate::progress::Progress;
@@ -100,5 +101,6 @@ pub fn run<S: Source, K: Sink, D: SwapDev, P: Progress>(
             lines,
             frames,
         } => work_over(alloc, seed, lines, frames, &names, sink, dev, progress),
+        Asked::Audit { frames } => audit_over(alloc, frames, &names, source, sink, dev),
     }
 }

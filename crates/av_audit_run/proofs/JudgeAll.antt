@@ -1,0 +1,278 @@
+-- The units that were judged so far, and where the judging ends.
+use Rattle.std.proofs.Common.{◌≡◌, ℕ, zero, suc, ◌+◌, ◌<◌, ◌≤◌, Bool, true, false, List, [], ◌∷◌, ◌++◌, ◌⊎◌, length, length-append, take, drop, Option, Some, None, refl, sym, ap, subst, ◌∙◌, arith, append-nil, inl, inr}
+use Rattle.std.specs.List.{AllByRecursion}
+use Rattle.std.proofs.lemmas.List.{take-append-drop}
+use Rattle.av_io.specs.Source.{Took, in_front}
+use Rattle.av_ports.specs.Ports.{PortsView, undone}
+use Rattle.av_ports.proofs.Bytes.{in_front-then, take-add}
+use Rattle.av_trace.specs.declared.command.Command.{Command}
+use Rattle.av_plain.specs.Ledger.{Ledger, Setting, first_ledger}
+use Rattle.av_plain.specs.World.{World}
+use Rattle.av_audit_laws.specs.Unit.{AreUnits, IsUnit, Leaves}
+use Rattle.std.specs.Prelude.{unwrap_or}
+use Rattle.av_audit.specs.Judge.{IsAt, IsRight}
+use Rattle.av_audit.specs.declared.auditor.Verdict.{Verdict}
+use Rattle.av_audit.specs.declared.auditor.Verdict.TheVariants as verdicts
+use Rattle.av_audit.specs.declared.auditor.Auditor.{Auditor}
+use Rattle.av_audit_input.specs.Unit.{bytes_of, most_bytes, Cuts, IsOne, StopsUnit, TakesUnit}
+use Rattle.av_audit_input.specs.declared.input_err.InputErr.{InputErr}
+use Rattle.av_audit_input.specs.declared.input_err.InputErr.TheVariants as input
+use Rattle.av_audit_input.proofs.UnitLaws.{bytes-more, cut-more, cut-none}
+use Rattle.av_audit_run.specs.declared.audit.Finding.{Finding}
+use Rattle.av_audit_run.specs.Audit.{found_of, AreLegal, BreaksOff, Finds, IsOver, IsUnknown, IsWrong, Judges, StopsAt, StopsReading}
+use Rattle.av_audit_run.specs.declared.audit.Finding.TheVariants as findings
+
+units-more : (m : Setting) (w : World) (l : Ledger) (cs : List Command) (us : List (List ℕ)) (w' w'' : World) (l' l'' : Ledger) (c : Command)
+    (u : List ℕ) → AreUnits m w l cs us w' l' → Leaves m w' l' c u w'' l'' → AreUnits m w l (cs ++ c ∷ []) (us ++ u ∷ []) w'' l''
+units-more m w l [] [] w' w'' l' l'' c u h g =
+    (w'', l'', subst (λ v. Leaves m v l c u w'' l'') h.0 (subst (λ k. Leaves m w' k c u w'' l'') h.1 g), (refl, refl))
+units-more m w l [] (x ∷ us) w' w'' l' l'' c u h g = absurd h
+units-more m w l (d ∷ cs) [] w' w'' l' l'' c u h g = absurd h
+units-more m w l (d ∷ cs) (x ∷ us) w' w'' l' l'' c u h g =
+    (h.0, h.1, h.2, units-more m h.0 h.1 cs us w' w'' l' l'' c u h.3 g)
+
+each-more : (units : List (List ℕ)) (unit : List ℕ) → AllByRecursion IsOne units → IsOne unit → AllByRecursion IsOne (units ++ unit ∷ [])
+each-more [] unit all one = (one, tt)
+each-more (u ∷ units) unit all one = (all.0, each-more units unit all.1 one)
+
+-- the command at a place
+pub take-more : (cs : List Command) (k : ℕ) (c : Command) (others : List Command) → drop k cs ≡ c ∷ others → take (k + 1) cs ≡ take k cs ++ c ∷ []
+take-more cs k c others is = take-add k 1 cs ∙ ap (λ l. take k cs ++ take 1 l) is
+
+-- so many units were judged, and are legal
+pub record Judged (m : Setting) (commands : List Command) (number : ℕ) (before now : Option (List ℕ)) (left : ℕ) (auditor : Auditor)
+    : Type 0 where
+  pub units : List (List ℕ)
+  pub each : AllByRecursion IsOne units
+  pub cuts : Cuts units before now
+  pub world : World
+  pub ledger : Ledger
+  pub are_units : AreUnits m [] first_ledger (take number commands) units world ledger
+  pub is_at : IsAt auditor world ledger
+  pub many : length units ≡ number
+  pub counts : most_bytes ≡ left + length (bytes_of units)
+
+pub judged-none : (m : Setting) (commands : List Command) (now : Option (List ℕ)) (left : ℕ) (auditor : Auditor) → left ≡ most_bytes
+    → IsAt auditor [] first_ledger → Judged m commands 0 now now left auditor
+judged-none m commands now left auditor all is_at = record {
+  units = [];
+  each = tt;
+  cuts = cut-none now;
+  world = [];
+  ledger = first_ledger;
+  are_units = (refl, refl);
+  is_at = is_at;
+  many = refl;
+  counts = omega (arith, all);
+}
+
+-- the units with one more, which was taken
+pub record Taken (m : Setting) (commands : List Command) (number : ℕ) (before now : Option (List ℕ)) (left : ℕ) (units : List (List ℕ))
+    (unit : List ℕ) : Type 0 where
+  pub each : AllByRecursion IsOne (units ++ unit ∷ [])
+  pub cuts : Cuts (units ++ unit ∷ []) before now
+  pub many : length (units ++ unit ∷ []) ≡ number + 1
+  pub counts : most_bytes ≡ left + length (bytes_of (units ++ unit ∷ []))
+
+pub taken : (m : Setting) (commands : List Command) (number : ℕ) (before : Option (List ℕ)) (left left' : ℕ) (auditor : Auditor) (unit ahead ahead' : List ℕ)
+    (old new : PortsView) → (h : Judged m commands number before (undone ahead old) left auditor) → TakesUnit true unit left left' ahead ahead' old new
+    → Taken m commands number before (undone ahead' new) left' h.units unit
+taken m commands number before left left' auditor unit ahead ahead' old new h takes =
+    let bytes = ap length (bytes-more h.units unit) ∙ length-append (bytes_of h.units) unit in
+    record {
+      each = each-more h.units unit h.each takes.0;
+      cuts = cut-more h.units unit before (undone ahead old) (undone ahead' new) h.cuts takes.2;
+      many = length-append h.units (unit ∷ []) ∙ ap (λ n. n + 1) h.many;
+      counts = omega (arith, h.counts, takes.1, bytes);
+    }
+
+-- one more is legal
+pub judged-more : (m : Setting) (commands others : List Command) (number : ℕ) (before now after : Option (List ℕ)) (left left' : ℕ) (auditor auditor' : Auditor)
+    (command : Command) (unit : List ℕ) (w : World) (l : Ledger) (h : Judged m commands number before now left auditor)
+    → Taken m commands number before after left' h.units unit → drop number commands ≡ command ∷ others
+    → Leaves m h.world h.ledger command unit w l → IsAt auditor' w l → Judged m commands (number + 1) before after left' auditor'
+judged-more m commands others number before now after left left' auditor auditor' command unit w l h t is leaves is_at = record {
+  units = h.units ++ unit ∷ [];
+  each = t.each;
+  cuts = t.cuts;
+  world = w;
+  ledger = l;
+  are_units = subst (λ cs. AreUnits m [] first_ledger cs (h.units ++ unit ∷ []) w l) (sym (take-more commands number command others is))
+      (units-more m [] first_ledger (take number commands) h.units h.world w h.ledger l command unit h.are_units leaves);
+  is_at = is_at;
+  many = t.many;
+  counts = t.counts;
+}
+
+-- ---- where it ends
+
+module _ (m : Setting) (commands : List Command) (number : ℕ) (before now : Option (List ℕ)) (left : ℕ) (auditor : Auditor)
+    (h : Judged m commands number before now left auditor) where
+  parts : commands ≡ take number commands ++ drop number commands
+  parts = sym (take-append-drop number commands)
+
+  -- no unit is left
+  none-left : (Ended : Type 0) → Ended → (Stops : Setting → World → Ledger → List Command → List (List ℕ) → Type 0)
+      → Stops m h.world h.ledger (drop number commands) [] → StopsAt m commands h.units (number + 1) Stops
+  none-left Ended ended Stops stops = record {
+    done = take number commands;
+    others = drop number commands;
+    commands_are = parts;
+    legal = h.units;
+    rest = [];
+    units_are = sym (append-nil h.units);
+    number_is = ap (λ n. n + 1) (sym h.many);
+    world = h.world;
+    ledger = h.ledger;
+    are_units = h.are_units;
+    stops = stops;
+  }
+
+  pub missing : (Ended : Type 0) → Ended → (command : Command) (others : List Command) → drop number commands ≡ command ∷ others
+      → Judges (findings.Illegal (number + 1)) m commands before now Ended
+  missing Ended ended command others is = record {
+    units = h.units;
+    each = h.each;
+    cuts = h.cuts;
+    few = omega (arith, h.counts);
+    finds = (none-left Ended ended IsWrong (subst (λ cs. IsWrong m h.world h.ledger cs []) (sym is) tt), inr ended);
+  }
+
+  pub all-legal : (Ended : Type 0) → Ended → take number commands ≡ commands → Judges findings.Legal m commands before now Ended
+  all-legal Ended ended all = record {
+    units = h.units;
+    each = h.each;
+    cuts = h.cuts;
+    few = omega (arith, h.counts);
+    finds = ((
+      h.world,
+      h.ledger,
+      subst (λ cs. AreUnits m [] first_ledger cs h.units h.world h.ledger) all h.are_units,
+    ), ended);
+  }
+
+  -- a unit was taken that ends it
+  module _ (after : Option (List ℕ)) (left' : ℕ) (unit : List ℕ) (t : Taken m commands number before after left' h.units unit) where
+    one-left : (Stops : Setting → World → Ledger → List Command → List (List ℕ) → Type 0)
+        → Stops m h.world h.ledger (drop number commands) (unit ∷ []) → StopsAt m commands (h.units ++ unit ∷ []) (number + 1) Stops
+    one-left Stops stops = record {
+      done = take number commands;
+      others = drop number commands;
+      commands_are = parts;
+      legal = h.units;
+      rest = unit ∷ [];
+      units_are = refl;
+      number_is = ap (λ n. n + 1) (sym h.many);
+      world = h.world;
+      ledger = h.ledger;
+      are_units = h.are_units;
+      stops = stops;
+    }
+
+    pub wrong : (Ended : Type 0) → IsWrong m h.world h.ledger (drop number commands) (unit ∷ [])
+        → Judges (findings.Illegal (number + 1)) m commands before after Ended
+    wrong Ended stops = record {
+      units = h.units ++ unit ∷ [];
+      each = t.each;
+      cuts = t.cuts;
+      few = omega (arith, t.counts);
+      finds = (one-left IsWrong stops, inl (sym t.many));
+    }
+
+    pub unknown : (Ended : Type 0) → IsUnknown m h.world h.ledger (drop number commands) (unit ∷ [])
+        → Judges (findings.Unjudged (number + 1)) m commands before after Ended
+    unknown Ended stops = record {
+      units = h.units ++ unit ∷ [];
+      each = t.each;
+      cuts = t.cuts;
+      few = omega (arith, t.counts);
+      finds = (one-left IsUnknown stops, sym t.many);
+    }
+
+  -- no more could be read, or memory was wanting
+  breaks : (error : InputErr) (now' : Option (List ℕ)) (units : List (List ℕ)) → Cuts units before now' → AllByRecursion IsOne units
+      → AreUnits m [] first_ledger (take number commands) units h.world h.ledger → StopsReading error (length (bytes_of units)) now'
+      → BreaksOff error m commands before
+  breaks error now' units cuts each are stops = record {
+    done = take number commands;
+    others = drop number commands;
+    commands_are = parts;
+    units = units;
+    each = each;
+    now = now';
+    cuts = cuts;
+    legal = (h.world, h.ledger, are);
+    stops = stops;
+  }
+
+  pub wants-memory : BreaksOff input.Memory m commands before
+  wants-memory = breaks input.Memory now h.units h.cuts h.each h.are_units tt
+
+-- where the next unit stands when it isn't read whole
+stops-reading : (error : InputErr) (count left : ℕ) (unit ahead ahead' : List ℕ) (old new : PortsView) → most_bytes ≡ left + count
+    → StopsUnit error left unit ahead ahead' old new → StopsReading error count (undone ahead old)
+stops-reading input.TooLong count left unit ahead ahead' old new all h =
+    let s = h.stops in (
+      unit ++ s.0,
+      in_front s.1 new.source.left,
+      h.took ∙ ap (in_front unit) (ap (λ (l : List ℕ). in_front l new.source.left) s.2 ∙ in_front-then s.0 s.1 new.source.left)
+          ∙ sym (in_front-then unit s.0 (in_front s.1 new.source.left)),
+      s.3,
+      omega (arith, all, s.4),
+    )
+stops-reading (input.BadLine n) count left unit ahead ahead' old new all h = absurd h.stops
+stops-reading input.TooMany count left unit ahead ahead' old new all h = absurd h.stops
+stops-reading input.Read count left unit ahead ahead' old new all h = tt
+stops-reading input.Write count left unit ahead ahead' old new all h = tt
+stops-reading input.Memory count left unit ahead ahead' old new all h = tt
+
+pub reading-breaks : (m : Setting) (commands : List Command) (number : ℕ) (before : Option (List ℕ)) (left : ℕ) (auditor : Auditor)
+    (error : InputErr) (unit ahead ahead' : List ℕ) (old new : PortsView) → (h : Judged m commands number before (undone ahead old) left auditor)
+    → StopsUnit error left unit ahead ahead' old new → BreaksOff error m commands before
+reading-breaks m commands number before left auditor error unit ahead ahead' old new h stops =
+    breaks m commands number before (undone ahead old) left auditor h error (undone ahead old) h.units h.cuts h.each h.are_units
+    (stops-reading error (length (bytes_of h.units)) left unit ahead ahead' old new h.counts stops)
+
+-- ---- a verdict
+
+-- the audit ends with it
+pub verdict-ends : (m : Setting) (commands others : List Command) (number : ℕ) (before now after : Option (List ℕ)) (left left' : ℕ)
+    (auditor auditor' : Auditor) (command : Command) (unit : List ℕ) (Ended : Type 0) (verdict : Verdict) (finding : Finding)
+    → (h : Judged m commands number before now left auditor) → Taken m commands number before after left' h.units unit
+    → drop number commands ≡ command ∷ others → found_of verdict (number + 1) ≡ Some finding
+    → IsRight m h.world h.ledger command unit verdict auditor' → Judges finding m commands before after Ended
+verdict-ends m commands others number before now after left left' auditor auditor' command unit Ended verdicts.Legal finding h t is found right = cc
+verdict-ends m commands others number before now after left left' auditor auditor' command unit Ended verdicts.Illegal finding h t is found right =
+    let same : findings.Illegal (number + 1) ≡ finding = ap (λ o. unwrap_or o finding) found in
+    subst (λ f. Judges f m commands before after Ended) same
+    (wrong m commands number before now left auditor h after left' unit t Ended
+    (subst (λ cs. IsWrong m h.world h.ledger cs (unit ∷ [])) (sym is) right))
+verdict-ends m commands others number before now after left left' auditor auditor' command unit Ended verdicts.Unjudged finding h t is found right =
+    let same : findings.Unjudged (number + 1) ≡ finding = ap (λ o. unwrap_or o finding) found in
+    subst (λ f. Judges f m commands before after Ended) same
+    (unknown m commands number before now left auditor h after left' unit t Ended
+    (subst (λ cs. IsUnknown m h.world h.ledger cs (unit ∷ [])) (sym is) right))
+
+-- it goes on, since the unit is legal
+pub verdict-legal : (verdict : Verdict) (number : ℕ) → found_of verdict number ≡ None → verdict ≡ verdicts.Legal
+verdict-legal verdicts.Legal number e = refl
+verdict-legal verdicts.Illegal number e = cc
+verdict-legal verdicts.Unjudged number e = cc
+
+pub verdict-goes : (m : Setting) (commands others : List Command) (number : ℕ) (before now after : Option (List ℕ)) (left left' : ℕ)
+    (auditor auditor' : Auditor) (command : Command) (unit : List ℕ) (verdict : Verdict)
+    → (h : Judged m commands number before now left auditor) → Taken m commands number before after left' h.units unit
+    → drop number commands ≡ command ∷ others → verdict ≡ verdicts.Legal
+    → IsRight m h.world h.ledger command unit verdict auditor' → Judged m commands (number + 1) before after left' auditor'
+verdict-goes m commands others number before now after left left' auditor auditor' command unit verdict h t is legal right =
+    let r = subst (λ v. IsRight m h.world h.ledger command unit v auditor') legal right in
+    judged-more m commands others number before now after left left' auditor auditor' command unit r.0 r.1 h t is r.2 r.3
+
+-- a unit behind the last command
+pub too-many : (m : Setting) (commands : List Command) (number : ℕ) (before now after : Option (List ℕ)) (left left' : ℕ) (auditor : Auditor)
+    (unit : List ℕ) (Ended : Type 0) → (h : Judged m commands number before now left auditor)
+    → Taken m commands number before after left' h.units unit → drop number commands ≡ []
+    → Judges (findings.Illegal (number + 1)) m commands before after Ended
+too-many m commands number before now after left left' auditor unit Ended h t is =
+    wrong m commands number before now left auditor h after left' unit t Ended
+    (subst (λ cs. IsWrong m h.world h.ledger cs (unit ∷ [])) (sym is) tt)

@@ -1,0 +1,2 @@
+pub mod JudgeAll
+pub mod Found

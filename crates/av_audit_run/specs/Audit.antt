@@ -1,0 +1,155 @@
+-- What an audit finds in a transcript.
+use Rattle.std.specs.Prelude.{◌≡◌, ◌⊎◌, ℕ, ◌+◌, ◌<◌, ◌≤◌, Bool, true, false, List, [], ◌∷◌, ◌++◌}
+use Rattle.std.specs.Prelude.{length, Option, Some, None}
+use Rattle.std.specs.List.{AllByRecursion}
+use Rattle.av_io.specs.Source.{Took}
+use Rattle.av_ports.specs.Ports.{PortsView, undone}
+use Rattle.av_trace.specs.declared.command.Command.{Command}
+use Rattle.av_plain.specs.Ledger.{Ledger, Setting, first_ledger}
+use Rattle.av_plain.specs.World.{World}
+use Rattle.av_audit_laws.specs.Unit.{AreUnits, IsUnit}
+use Rattle.av_audit.specs.Judge.{is_judged}
+use Rattle.av_audit_input.specs.Input.{IsEnded}
+use Rattle.av_audit_input.specs.Unit.{Cuts, IsOne, bytes_of, most_bytes, units_of}
+use Rattle.av_audit_input.specs.Trace.{AreLines, IsTrace, StopsWithin, TakesTrace, all_lines, mark}
+use Rattle.av_audit_input.specs.declared.input_err.InputErr.{InputErr}
+use Rattle.av_audit_input.specs.declared.input_err.InputErr.TheVariants as input
+use Rattle.av_audit.specs.declared.auditor.Verdict.{Verdict}
+use Rattle.av_audit.specs.declared.auditor.Verdict.TheVariants as verdicts
+use Rattle.av_audit_run.specs.declared.audit.Finding.{Finding}
+use Rattle.av_audit_run.specs.declared.audit.Finding.TheVariants as findings
+
+-- ---- where units are no transcript
+
+-- the next unit isn't legal for the next command, is wanting, or comes behind the last command
+abbrev pub IsWrong : Setting → World → Ledger → List Command → List (List ℕ) → Type 0
+IsWrong m w l [] [] = ⊥
+IsWrong m w l [] (unit ∷ units) = Unit {0}
+IsWrong m w l (command ∷ commands) [] = Unit {0}
+IsWrong m w l (command ∷ commands) (unit ∷ units) = IsUnit m w l command unit → ⊥
+
+-- there is a next unit, of a command that isn't judged
+abbrev pub IsUnknown : Setting → World → Ledger → List Command → List (List ℕ) → Type 0
+IsUnknown m w l (command ∷ commands) (unit ∷ units) = is_judged command ≡ false
+IsUnknown m w l commands units = ⊥
+
+-- the first units are legal for the first commands in turn, all before the one of this number; and
+-- this is said of it, by what they leave
+pub record StopsAt (m : Setting) (commands : List Command) (units : List (List ℕ)) (number : ℕ)
+    (Stops : Setting → World → Ledger → List Command → List (List ℕ) → Type 0) : Type 0 where
+  pub done : List Command
+  pub others : List Command
+  pub commands_are : commands ≡ done ++ others
+  pub legal : List (List ℕ)
+  pub rest : List (List ℕ)
+  pub units_are : units ≡ legal ++ rest
+  pub number_is : number ≡ length legal + 1
+  pub world : World
+  pub ledger : Ledger
+  pub are_units : AreUnits m [] first_ledger done legal world ledger
+  pub stops : Stops m world ledger others rest
+
+-- the units are legal for the commands, one for each
+abbrev pub AreLegal : Setting → List Command → List (List ℕ) → Type 0
+AreLegal m commands units =
+    (w : World) × (l : Ledger) × AreUnits m [] first_ledger commands units w l
+
+-- what is found of units, which are all where the input has ended
+abbrev pub Finds : Finding → Setting → List Command → List (List ℕ) → Type 0 → Type 0
+Finds findings.Legal m commands units Ended = AreLegal m commands units × Ended
+Finds (findings.Illegal n) m commands units Ended =
+    StopsAt m commands units n IsWrong × ((n ≡ length units) ⊎ Ended)
+Finds (findings.Unjudged n) m commands units Ended =
+    StopsAt m commands units n IsUnknown × (n ≡ length units)
+
+-- ---- a transcript that is read
+
+-- Some units were taken, and that was found of them. They are the first ones of the transcript, all
+-- where it has ended, and have no more bytes than they may have.
+pub record Judges (finding : Finding) (m : Setting) (commands : List Command)
+    (before now : Option (List ℕ)) (Ended : Type 0) : Type 0 where
+  pub units : List (List ℕ)
+  pub each : AllByRecursion IsOne units
+  pub cuts : Cuts units before now
+  pub few : length (bytes_of units) ≤ most_bytes
+  pub finds : Finds finding m commands units Ended
+
+-- behind so many bytes a unit has more than there may be
+abbrev pub IsOver : ℕ → Option (List ℕ) → Type 0
+IsOver count now =
+    (part : List ℕ) × (rest : Option (List ℕ)) × Took now rest part × IsOne part
+    × (most_bytes < count + length part)
+
+-- why a next unit was not judged
+abbrev pub StopsReading : InputErr → ℕ → Option (List ℕ) → Type 0
+StopsReading input.TooLong count now = IsOver count now
+StopsReading (input.BadLine n) count now = ⊥
+StopsReading input.TooMany count now = ⊥
+StopsReading error count now = Unit {0}
+
+-- Some units were taken, which are legal for the first commands; and the next was not judged, whose
+-- bytes stand in what was to come then.
+pub record BreaksOff (error : InputErr) (m : Setting) (commands : List Command)
+    (before : Option (List ℕ)) : Type 0 where
+  pub done : List Command
+  pub others : List Command
+  pub commands_are : commands ≡ done ++ others
+  pub units : List (List ℕ)
+  pub each : AllByRecursion IsOne units
+  pub now : Option (List ℕ)
+  pub cuts : Cuts units before now
+  pub legal : AreLegal m done units
+  pub stops : StopsReading error (length (bytes_of units)) now
+
+-- ---- trace and transcript
+
+-- a trace was read, and that was found of the transcript behind it
+pub record Audits (finding : Finding) (m : Setting) (old new : PortsView) : Type 0 where
+  pub commands : List Command
+  pub ahead : List ℕ
+  pub between : PortsView
+  pub ended : Bool
+  pub trace : TakesTrace ended commands [] ahead old between
+  pub rest : List ℕ
+  pub judges : Judges finding m commands (undone ahead between) (undone rest new)
+      (IsEnded rest new)
+
+-- the trace was not read; or it was, and then not the transcript
+abbrev pub AuditStops : InputErr → Setting → PortsView → PortsView → Type 0
+AuditStops error m old new =
+    (error ≡ input.Memory)
+    ⊎ ((rest : List ℕ) × StopsWithin error [] rest old new)
+    ⊎ ((commands : List Command) × (ahead : List ℕ) × (between : PortsView) × (ended : Bool)
+    × TakesTrace ended commands [] ahead old between
+    × BreaksOff error m commands (undone ahead between))
+
+-- what is found of a unit, if the audit ends with it
+abbrev pub found_of : Verdict → ℕ → Option Finding
+found_of verdicts.Legal number = None
+found_of verdicts.Illegal number = Some (findings.Illegal number)
+found_of verdicts.Unjudged number = Some (findings.Unjudged number)
+
+-- ---- of an input that is told
+
+-- that is found of all units
+abbrev pub IsFoundOf : Finding → Setting → List Command → List (List ℕ) → Type 0
+IsFoundOf findings.Legal m commands units = AreLegal m commands units
+IsFoundOf (findings.Illegal n) m commands units = StopsAt m commands units n IsWrong
+IsFoundOf (findings.Unjudged n) m commands units = StopsAt m commands units n IsUnknown
+
+-- the bytes are a trace with its mark, or all of an input without one
+abbrev pub IsFront : List (List ℕ) → List ℕ → List ℕ → Type 0
+IsFront lines bytes transcript =
+    (bytes ≡ all_lines (lines ++ mark ∷ []))
+    ⊎ ((AreLines lines bytes ⊎ (bytes ≡ all_lines lines ++ mark)) × (transcript ≡ []))
+
+-- an input is a trace and behind it a transcript, of whose units that is found
+pub record IsAuditOf (finding : Finding) (m : Setting) (content : List ℕ) : Type 0 where
+  pub lines : List (List ℕ)
+  pub commands : List Command
+  pub trace : IsTrace lines commands
+  pub bytes : List ℕ
+  pub transcript : List ℕ
+  pub content_is : content ≡ bytes ++ transcript
+  pub front : IsFront lines bytes transcript
+  pub found : IsFoundOf finding m commands (units_of transcript)

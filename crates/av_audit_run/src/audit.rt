@@ -1,0 +1,108 @@
+//! A trace is read, and then its transcript judged, unit by unit.
+
+ghost use Rattle.std.specs.Prelude.{◌≡◌, ◌<◌, ◌≤◌, [], IfOk, IfErr, length, true};
+ghost use Rattle.av_ports.specs.Ports.{undone};
+ghost use Rattle.av_plain.specs.Ledger.{first_ledger};
+ghost use Rattle.av_book.specs.Machine.{AreNamed, setting_of};
+ghost use Rattle.av_audit.specs.Judge.{IsAt};
+ghost use Rattle.av_audit.specs.declared.auditor.Phase.TheVariants.{Going};
+ghost use Rattle.av_audit_input.specs.Input.{FailsOnly, IsEnded, IsNoPortErr, OnlyReads};
+ghost use Rattle.av_audit_input.specs.Trace.{most_lines};
+ghost use Rattle.av_audit_input.specs.Unit.{most_bytes};
+ghost use Rattle.av_audit_run.specs.Audit.{AuditStops, Audits, BreaksOff, Judges, found_of};
+
+use av_audit::{Auditor, Verdict};
+use av_audit_input::{Extent, InputErr, read_trace, read_unit};
+use av_book::Machine;
+use av_ports::{Pending, Ports};
+use av_trace::Command;
+use std::alloc::Global;
+
+/// What an audit finds: the transcript is legal; or the reply of this number, from 1, isn't, or
+/// isn't judged yet.
+#[derive(Clone, Copy, Drop, Debug, PartialEq, Eq)]
+pub enum Finding {
+    Legal,
+    Illegal(u32),
+    Unjudged(u32),
+}
+
+/// What was found of a unit, if the audit ends with it.
+fn found(verdict: Verdict, number: u32) -> Option<Finding>
+    ensures { result ≡ found_of verdict number }
+{
+    match verdict {
+        Verdict::Legal => None,
+        Verdict::Illegal => Some(Finding::Illegal(number)),
+        Verdict::Unjudged => Some(Finding::Unjudged(number)),
+    }
+}
+
+/// Reads a unit for each command, and judges it, up to the first that isn't legal.
+fn judge_all<P: Ports>(
+    auditor: &mut Auditor,
+    commands: &[Command],
+    ports: &mut P,
+    pending: &mut Pending,
+    extent: &mut Extent,
+    unit: &mut Vec<u8>,
+) -> Result<Finding, InputErr>
+    requires first { IsAt auditor.old [] first_ledger }
+    requires going { auditor.old.phase ≡ Going }
+    requires some { 0 < auditor.old.machine.frames }
+    requires fits { AreNamed (setting_of auditor.old.machine) }
+    requires few { length commands.now ≤ most_lines }
+    requires all { extent.old.left ≡ most_bytes }
+    requires ended { extent.old.ended ≡ true → IsEnded pending.old (P.view ports.old) }
+    ensures judged { IfOk result (λ finding. Judges finding (setting_of auditor.old.machine)
+        commands.now (undone pending.old (P.view ports.old)) (undone pending.new (P.view ports.new))
+        (IsEnded pending.new (P.view ports.new))) }
+    ensures stops { IfErr result (λ e. BreaksOff e (setting_of auditor.old.machine) commands.now
+        (undone pending.old (P.view ports.old))) }
+    ensures only { OnlyReads (P.view ports.old) (P.view ports.new) }
+    ensures fails { FailsOnly result (P.view ports.old) (P.view ports.new) }
+    ensures over { extent.old.ended ≡ true → IfErr result IsNoPortErr }
+    ensures kept { P.kept ports.new ≡ P.kept ports.old }
+{
+    for (index, command) in commands.iter().enumerate() {
+        let number = index as u32 + 1;
+        if !read_unit(ports, pending, extent, unit)? {
+            return Ok(Finding::Illegal(number));
+        }
+        let verdict = auditor.judge(command, unit.as_slice())?;
+        if let Some(finding) = found(verdict, number) {
+            return Ok(finding);
+        }
+    }
+    if read_unit(ports, pending, extent, unit)? {
+        return Ok(Finding::Illegal(commands.len() as u32 + 1));
+    }
+    Ok(Finding::Legal)
+}
+
+/// Reads a trace, and judges its transcript on this machine.
+pub fn audit<P: Ports>(alloc: Global, machine: Machine, ports: &mut P) -> Result<Finding, InputErr>
+    requires some { 0 < machine.frames }
+    requires fits { AreNamed (setting_of machine) }
+    ensures audits { IfOk result
+        (λ finding. Audits finding (setting_of machine) (P.view ports.old) (P.view ports.new)) }
+    ensures stops { IfErr result
+        (λ e. AuditStops e (setting_of machine) (P.view ports.old) (P.view ports.new)) }
+    ensures only { OnlyReads (P.view ports.old) (P.view ports.new) }
+    ensures fails { FailsOnly result (P.view ports.old) (P.view ports.new) }
+    ensures kept { P.kept ports.new ≡ P.kept ports.old }
+{
+    let mut pending = Pending::new(alloc)?;
+    let mut commands = Vec::new(alloc);
+    let ended = read_trace(alloc, ports, &mut pending, &mut commands)?;
+    let mut auditor = Auditor::new(alloc, machine);
+    let mut unit = Vec::new(alloc);
+    judge_all(
+        &mut auditor,
+        &commands,
+        ports,
+        &mut pending,
+        &mut Extent::new(ended),
+        &mut unit,
+    )
+}
