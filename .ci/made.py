@@ -50,7 +50,7 @@ CARRIERS = {
     "judges_reclaim judges_exit judges_munmap",
     "av_report_judge": "judges_entry judges_slot",
     "av_world": "Memories Space Range Marks Edit Change",
-    "av_access_judge": "comes makes unneeded drops takes_behind sparing",
+    "av_access_judge": "accesses touches comes makes unneeded drops takes_behind sparing",
     "av_audit": "Auditor",
     "av_swap_laws": "frames_are_put slots_are_loaded slots_are_dropped soundness_goes_on",
     "av_evict": "System reclaim age complete seek",

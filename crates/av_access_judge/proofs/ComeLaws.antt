@@ -1,13 +1,13 @@
 -- A page comes in.
-use Rattle.std.proofs.Common.{◌≡◌, ◌⊎◌, inl, inr, ℕ, Bool, true, false, Option, Some, None, List, [], ◌∷◌, ◌++◌, refl, sym, ap, subst, ◌∙◌}
+use Rattle.std.proofs.Common.{◌≡◌, inl, inr, ℕ, true, false, Some, None, List, [], ◌∷◌, refl, sym, ap, ◌∙◌}
 use Rattle.av_base.specs.Keys.{Key}
 use Rattle.av_base.specs.Page.{address_of}
 use Rattle.av_base.specs.declared.slot.Slot.{Slot}
 use Rattle.av_trace.specs.declared.note.Note.{Note}
 use Rattle.av_trace.specs.declared.note.Note.TheVariants.{Mapped}
 use Rattle.av_trace.specs.declared.reply.OutOf.{OutOf}
-use Rattle.av_plain.specs.Fault.{ComesIn, Need, Ready, ZeroPage, NewPage, CopyOnWrite, SwapIn, MapCached, Sparing, Stop, Denied, Starved, Lost}
-use Rattle.av_plain.specs.Ledger.{Ledger, Setting, has_free}
+use Rattle.av_plain.specs.Fault.{ComesIn, Need, SwapIn, MapCached, Sparing, Stop, Denied, Starved, Lost}
+use Rattle.av_plain.specs.Ledger.{Ledger, Setting}
 use Rattle.av_plain.specs.Pass.{out_of}
 use Rattle.av_judge.specs.Come.{ComesFrom, IsKeptOut}
 use Rattle.av_judge.specs.Finds.{Reads, Stand}
@@ -15,7 +15,7 @@ use Rattle.av_judge.specs.Stage.{Meets}
 use Rattle.av_judge.proofs.Finds.{stand-none}
 use Rattle.av_access_judge.specs.Come.{IsKept, IsKeptBy}
 
-abbrev Comes : Setting → Sparing → Ledger → Key → Need → Unit {0} → List Note → Type 0
+abbrev pub Comes : Setting → Sparing → Ledger → Key → Need → Unit {0} → List Note → Type 0
 Comes m sp l k n u = ComesIn m sp l k n
 
 module _ (m : Setting) (sp : Sparing) (l : Ledger) (k : Key) (s : Slot) (bytes rest : List ℕ) where

@@ -1,3 +1,7 @@
 pub mod SparingLaws
 pub mod TakeLaws
 pub mod ComeLaws
+pub mod HereLaws
+pub mod ServeLaws
+pub mod TouchLaws
+pub mod AccessLaws

@@ -1,22 +1,22 @@
 -- A frame is taken, part by part.
-use Rattle.std.proofs.Common.{◌≡◌, ◌⊎◌, inl, inr, ℕ, ◌*◌, Bool, true, false, not, ◌&&◌, Option, Some, None, List, []}
+use Rattle.std.proofs.Common.{◌≡◌, ◌⊎◌, inl, inr, ℕ, Bool, true, false, not, ◌&&◌, Option, Some, None, List, []}
 use Rattle.std.proofs.Common.{◌∷◌, ◌++◌, length, refl, sym, ap, subst, ◌∙◌, append-nil, arith}
-use Rattle.std.specs.Prelude.{IsTrue, ◌==◌}
+use Rattle.std.specs.Prelude.{◌==◌}
 use Rattle.std.proofs.lemmas.Bool.{eqb-true}
 use Rattle.av_base.specs.Keys.{Key}
 use Rattle.av_base.specs.Page.{address_of}
 use Rattle.av_trace.specs.declared.note.Note.{Note}
-use Rattle.av_trace.specs.declared.note.Note.TheVariants.{New, Copied, Zeroed}
+use Rattle.av_trace.specs.declared.note.Note.TheVariants.{Zeroed}
 use Rattle.av_trace.specs.declared.reply.OutOf.{OutOf}
 use Rattle.av_trace.specs.Print.{notes_text}
 use Rattle.av_plain.specs.Event.{after_notes}
-use Rattle.av_plain.specs.Fault.{FindsNone, IsMade, Need, Ready, ZeroPage, NewPage, CopyOnWrite, SwapIn, MapCached, Sparing, pinned_by, was_slot}
+use Rattle.av_plain.specs.Fault.{FindsNone, IsMade, Need, Ready, ZeroPage, NewPage, CopyOnWrite, Sparing, pinned_by}
 use Rattle.av_plain.specs.Ledger.{Ledger, Setting, has_free}
 use Rattle.av_plain.specs.Pass.{Seeks, Spared, TakesFor, out_of}
-use Rattle.av_judge.specs.Finds.{Gets, IsFound, Reads, Stand}
+use Rattle.av_judge.specs.Finds.{Gets, Reads, Stand}
 use Rattle.av_judge.specs.Notes.{note_by}
 use Rattle.av_judge.specs.Pass.{IsTakenFree}
-use Rattle.av_judge.specs.Stage.{IsNeither, Meets}
+use Rattle.av_judge.specs.Stage.{Meets}
 use Rattle.av_judge.specs.declared.notes.Taking.{Taking}
 use Rattle.av_judge.specs.declared.notes.Taking.TheVariants as takings
 use Rattle.av_judge.proofs.Finds.{stand-none}
@@ -135,10 +135,10 @@ module _ (m : Setting) (sp : Spared) (l : Ledger) (taking : Taking) (bytes rest 
 
 -- ---- by what the page needs
 
-abbrev Makes : Setting → Sparing → Ledger → Key → Need → Unit {0} → List Note → Type 0
+abbrev pub Makes : Setting → Sparing → Ledger → Key → Need → Unit {0} → List Note → Type 0
 Makes m sp l k n u = IsMade m sp l k n
 
-abbrev Finds : Setting → Sparing → Ledger → Need → OutOf → List Note → Type 0
+abbrev pub Finds : Setting → Sparing → Ledger → Need → OutOf → List Note → Type 0
 Finds m sp l n out notes = FindsNone m sp l n notes out
 
 finds-none : (m : Setting) (sp : Sparing) (l : Ledger) (n : Need) (out : OutOf) (ns : List Note) → FindsNone m sp l n ns out

@@ -1,12 +1,13 @@
 -- How a page may come in, or be kept out.
 use Rattle.std.proofs.Common.{inl, inr}
-use Rattle.std.specs.Prelude.{◌≡◌, ◌⊎◌, ℕ, Bool, true, false, List, Option, Some, None}
+use Rattle.std.specs.Prelude.{◌≡◌, ◌⊎◌, Bool, true, false, List, Option, Some, None}
+use Rattle.av_base.specs.Keys.{Key}
 use Rattle.av_base.specs.declared.slot.Slot.{Slot}
 use Rattle.av_trace.specs.declared.note.Note.{Note}
 use Rattle.av_plain.specs.Event.{after_notes}
 use Rattle.av_plain.specs.Fault.{Need, Sparing, SwapIn, Stop as PlainStop, Denied as PlainDenied}
-use Rattle.av_plain.specs.Fault.{Starved as PlainStarved, Lost as PlainLost}
-use Rattle.av_plain.specs.Ledger.{Ledger, Setting, has_free}
+use Rattle.av_plain.specs.Fault.{Starved as PlainStarved, Lost as PlainLost, need, was_slot}
+use Rattle.av_plain.specs.Ledger.{Ledger, Setting, entry, has_free}
 use Rattle.av_plain.specs.Pass.{Seeks, out_of}
 use Rattle.av_access_judge.specs.declared.coming.Coming.{Coming}
 use Rattle.av_access_judge.specs.declared.coming.Coming.TheVariants.{Here, Kept}
@@ -36,3 +37,9 @@ IsKeptBy m spares l PlainLost notes =
 abbrev pub IsKept : Setting → Sparing → Ledger → Need → PlainStop → List Note → Type 0
 IsKept m spares l need stop notes =
     (slot : Slot) × (need ≡ SwapIn slot) × IsKeptBy m spares l stop notes
+
+-- once a page is here its entry is no slot
+abbrev pub HasNoSlot : Bool → Ledger → Key → Option Coming → Type 0
+HasNoSlot write l k None = Unit {0}
+HasNoSlot write l k (Some Here) = was_slot (need write l (entry l k)) ≡ false
+HasNoSlot write l k (Some (Kept stop)) = Unit {0}

@@ -2,3 +2,5 @@ pub mod Sparing
 pub mod Take
 pub mod Come
 pub mod Drop
+pub mod Touch
+pub mod Access

@@ -1,14 +1,15 @@
 //! A page whose entry is a slot comes in.
 
-ghost use Rattle.std.specs.Prelude.{◌≡◌, ◌<◌, ◌^◌, IfOk};
-ghost use Rattle.av_plain.specs.Fault.{ComesIn, sparing as sparing_of};
+ghost use Rattle.std.specs.Prelude.{◌≡◌, ◌<◌, ◌^◌, Bool, IfOk};
+ghost use Rattle.av_plain.specs.Fault.{ComesIn, need as need_in, sparing as sparing_of};
+ghost use Rattle.av_plain.specs.Ledger.{entry};
 ghost use Rattle.av_plain.specs.World.{World};
 ghost use Rattle.av_book.specs.Book.{ledger_of};
 ghost use Rattle.av_book.specs.Machine.{AreNamed, setting_of};
 ghost use Rattle.av_book.specs.Need.{need_of};
 ghost use Rattle.av_judge.specs.Stage.{Meets};
 ghost use Rattle.av_world.specs.Memories.{IsWorld};
-ghost use Rattle.av_access_judge.specs.Come.{IsKept, coming_of};
+ghost use Rattle.av_access_judge.specs.Come.{HasNoSlot, IsKept, coming_of};
 
 use crate::spared::sparing;
 use av_base::Slot;
@@ -47,12 +48,14 @@ fn comes_from(
     requires some { 0 < machine.now.frames }
     requires fits { AreNamed (setting_of machine.now) }
     requires page { page < 2 ^ 52 }
-    ensures { IfOk result (λ found. (w : World) → IsWorld memories.now w → Meets
+    ensures comes { IfOk result (λ found. (w : World) → IsWorld memories.now w → Meets
         (λ u. ComesIn (setting_of machine.now) (sparing_of w) (ledger_of book.old) (process, page)
         (need_of (Need.SwapIn slot)))
         (IsKept (setting_of machine.now) (sparing_of w) (ledger_of book.old)
         (need_of (Need.SwapIn slot))) (ledger_of book.old) unit.old.rest.now (coming_of found)
         (ledger_of book.new) unit.new.rest.now) }
+    ensures here { IfOk result (λ found. (write : Bool)
+        → HasNoSlot write (ledger_of book.new) (process, page) found) }
 {
     let spared = sparing(unit.alloc, book, memories, None)?;
     match swaps_in(book, unit, machine, &spared, slot, process, page)? {
@@ -66,7 +69,7 @@ fn comes_from(
     }
 }
 
-/// A page comes in, if its entry is a slot.
+/// A page comes in, if its entry is a slot. Then it isn't one any more.
 pub fn comes(
     book: &mut Book,
     unit: &mut Unit<'_>,
@@ -79,12 +82,16 @@ pub fn comes(
     requires some { 0 < machine.now.frames }
     requires fits { AreNamed (setting_of machine.now) }
     requires page { page < 2 ^ 52 }
-    ensures { IfOk result (λ found. (w : World) → IsWorld memories.now w → Meets
+    ensures comes { IfOk result (λ found. (w : World) → IsWorld memories.now w → Meets
         (λ u. ComesIn (setting_of machine.now) (sparing_of w) (ledger_of book.old) (process, page)
         (need_of need))
         (IsKept (setting_of machine.now) (sparing_of w) (ledger_of book.old) (need_of need))
         (ledger_of book.old) unit.old.rest.now (coming_of found) (ledger_of book.new)
         unit.new.rest.now) }
+    ensures here { IfOk result (λ found. (write : Bool)
+        → need_of need ≡ need_in write (ledger_of book.old)
+        (entry (ledger_of book.old) (process, page))
+        → HasNoSlot write (ledger_of book.new) (process, page) found) }
 {
     match need {
         Need::SwapIn(slot) => comes_from(book, unit, machine, memories, slot, process, page),

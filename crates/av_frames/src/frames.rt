@@ -313,11 +313,23 @@ impl Frames {
     }
 }
 
-/// Where a frame stands in the list of free ones.
+/// Where a frame stands in the list of free ones. The search goes by the list's two slices: its
+/// own iterator costs several times as much a place.
 fn place_of(free: &VecDeque<u32>, frame: u32) -> Option<usize>
     ensures { result ≡ position (λ other. frame == other) free.now.items }
 {
-    free.iter().position(|other| frame == *other)
+    let (front, back) = free.as_slices();
+    match place_in(front, frame) {
+        Some(at) => Some(at),
+        None => Some(front.len() + place_in(back, frame)?),
+    }
+}
+
+/// Where a frame stands in a part of that list.
+fn place_in(part: &[u32], frame: u32) -> Option<usize>
+    ensures { result ≡ position (λ other. frame == other) part.now }
+{
+    part.iter().position(|other| frame == *other)
 }
 
 /// Makes a list that of the frames which aren't used, the least first.

@@ -31,9 +31,9 @@ use std::alloc::{AllocError, Global};
 /// Lets pages with equal bytes share one frame, in the order of process and page. A note of each
 /// frame that is merged and of each page that joins one is added.
 ///
-/// It costs a step for each frame and each page with an entry, and for each candidate the reading of
-/// its bytes, its walk where an area is locked, and a look at each item of the frame that it joins.
-/// Without memory part of the pages may have had their turn.
+/// It costs a step for each frame and each page with an entry, and for each candidate the reading
+/// of its bytes, and its walk where an area is locked. Without memory part of the pages may have
+/// had their turn.
 pub fn merge_pages(mem: &mut Mem, alloc: Global, notes: &mut Notes) -> Result<(), AllocError>
     requires { HasBetween mem.old }
     ensures merges { OnOk result ((d : Device) (w : World) (r : Rmap) (l : Ledger)

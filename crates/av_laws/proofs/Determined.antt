@@ -47,7 +47,7 @@ use Rattle.av_plain.specs.Transcript.{Exchange, IsRun, IsStep, State, at_first, 
 use Rattle.av_plain.specs.World.{Page, Process, Shows, World, byte_at, child_of, end_process, page_of_child, wiped, with_change_on, with_page_flag, without_lock, is_mapped, no_pages, pages, pages_to_hole, set_process, with_bytes, with_pages, with_prot, zeros}
 use Rattle.av_laws.proofs.OneFork.{next-one}
 use Rattle.av_laws.proofs.AreaRows.{one-rows}
-use Rattle.av_laws.proofs.Maps.{one-answer}
+use Rattle.av_command_laws.proofs.OneRuns.{one-answer}
 use Rattle.av_laws.proofs.OneSwap.{complete-one, reclaims-one, reports-slot-one, turns-off-one, turns-on-one}
 use Rattle.av_plain.specs.Swapon.{turn_on_events}
 use Rattle.av_laws.proofs.OnePage.{is_lost, touches-one}

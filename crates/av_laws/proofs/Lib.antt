@@ -1,4 +1,3 @@
-pub mod Maps
 pub mod AreaRows
 pub mod OutOfMemory
 pub mod Choice

@@ -40,7 +40,7 @@ use Rattle.av_migrate.specs.Compact.{HasCompacted, steps_of, steps_of_all}
 use Rattle.av_migrate.specs.Move.{MayMove, view_moved, view_ordered}
 use Rattle.av_migrate.specs.Next.{AreNext, IsNext}
 use Rattle.av_migrate.proofs.MoveStands.{without-in}
-use Rattle.av_migrate.proofs.NextMove.{MovesSoFar, next-none, next-some, so_far-all, so_far-more}
+use Rattle.av_command_laws.proofs.NextMove.{MovesSoFar, next-none, next-some, so_far-all, so_far-more}
 use Rattle.av_migrate.proofs.ServesMove.{moved-between, moved-chosen, ordered-between, ordered-chosen}
 
 -- ---- what stands between two moves

@@ -5,7 +5,6 @@ pub mod MoveSteps
 pub mod PointLaws
 pub mod WalkedLaws
 pub mod MovingLaws
-pub mod NextMove
 pub mod ServesMove
 pub mod CompactLaws
 pub mod CommandLaws

@@ -1,5 +1,5 @@
 -- The entries of a directory: after a change of one part, and the first from a page on.
-use Rattle.std.proofs.Common.{◌≡◌, ◌≢◌, ℕ, ◌+◌, ◌*◌, ◌/◌, ◌%◌, ◌<◌, ◌≤◌, List, [], ◌∷◌, length, slice_set, get_or, refl, sym, ap, subst, ◌∙◌, arith, inl, inr, cond, true, false, Bool, ◌==◌, Option, Some, None, MatchOption, Result, Ok, Err, MatchResult}
+use Rattle.std.proofs.Common.{◌≡◌, ◌≢◌, ℕ, ◌+◌, ◌*◌, ◌/◌, ◌%◌, ◌<◌, ◌≤◌, List, [], ◌∷◌, length, slice_set, get_or, refl, sym, ap, subst, ◌∙◌, arith, inl, inr, cond, true, false, Bool, ◌==◌, Option, Some, None, MatchOption, Result, Ok, Err, MatchResult, MatchBool}
 use Rattle.std.specs.Prelude.{nat_lt, nat_eq, option_map}
 use Rattle.std.specs.List.{AllWithin, HoldsAt, insert, remove}
 use Rattle.std.specs.Map.{lookup}
@@ -318,6 +318,13 @@ pub some_either : {C A E : Type 0} (at : C → ℕ → Pte) (span r : ℕ) (e : 
     → MatchResult result (λ _. at c' ≡ with_at r e (at c)) (λ _. at c' ≡ at c) → HasSome span (at c')
 some_either at span r e c c' (Ok x) had under some now = some_written at span r e (at c) c' under some now
 some_either at span r e c c' (Err x) had under some now = λ none. had (λ q low. ap (λ f. f q) (sym now) ∙ none q low)
+
+-- after a write that may not have been done
+pub some_whether : {C : Type 0} (at : C → ℕ → Pte) (span r : ℕ) (e : Pte) (c c' : C) (done : Bool) → HasSome span (at c) → r < span
+    → (e ≡ Empty → ⊥)
+    → MatchBool done (at c' ≡ with_at r e (at c)) (at c' ≡ at c) → HasSome span (at c')
+some_whether at span r e c c' true had under some now = some_written at span r e (at c) c' under some now
+some_whether at span r e c c' false had under some now = λ none. had (λ q low. ap (λ f. f q) (sym now) ∙ none q low)
 
 -- the part at a place is that of its number
 pub part_there : {C : Type 0} (at : C → ℕ → Pte) (span : ℕ) (parts : List (ℕ × C)) → AreParts at span parts → (k : ℕ) (p : ℕ × C) →

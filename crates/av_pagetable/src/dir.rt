@@ -108,6 +108,16 @@ impl<C: Level> Level for Dir<C> {
         }
     }
 
+    #[inline(always)]
+    fn change_near(&mut self, page: u64, entry: Pte) -> bool {
+        let span = C::span();
+        let Some(place) = self.near_place(page / span) else {
+            return false;
+        };
+        let part = &mut self.parts[place];
+        part.1.change_near(page % span, entry)
+    }
+
     #[inline]
     fn take(&mut self, page: u64) -> Pte {
         let span = C::span();
@@ -229,19 +239,37 @@ impl<C: Level> Dir<C> {
         None
     }
 
+    // The place of that part, where it is found at once.
+    #[inline(always)]
+    fn near_place(&self, number: u64) -> Option<usize>
+        ensures { IfSome result (λ k. (k < length self.now)
+            × HoldsAt (λ part. part.0 ≡ number) self.now k) }
+    {
+        let parts = &self.parts;
+        if parts.is_empty() {
+            return None;
+        }
+        let first = u64::from(parts[0].0);
+        if first == number {
+            return Some(0);
+        }
+        let reach = number.wrapping_sub(first);
+        if reach < parts.len() as u64 && u64::from(parts[reach as usize].0) == number {
+            return Some(reach as usize);
+        }
+        None
+    }
+
     // The place of the part of this number, or where it would stand.
     #[inline(always)]
     fn place(&self, number: u64) -> Result<usize, usize>
         ensures { IsPlace number self.now result }
     {
-        let parts = &self.parts;
-        if parts.is_empty() {
-            return Err(0);
+        if let Some(place) = self.near_place(number) {
+            return Ok(place);
         }
-        // Where no number from the first one on is missing: at the first part, and in a full table.
-        let reach = number.wrapping_sub(u64::from(parts[0].0));
-        if reach < parts.len() as u64 && u64::from(parts[reach as usize].0) == number {
-            return Ok(reach as usize);
+        if self.parts.is_empty() {
+            return Err(0);
         }
         self.place_past(number)
     }

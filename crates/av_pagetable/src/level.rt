@@ -64,6 +64,16 @@ pub trait Level: Drop {
         requires there { at self.old page ≡ Pte.Empty → ⊥ }
         ensures { at self.new ≡ with_at page entry (at self.old) };
 
+    /// The same, where each part on the way to the entry is found at once. False says that all
+    /// stays: how often it is true is not proved.
+    fn change_near(&mut self, page: u64, entry: Pte) -> bool
+        requires fits { span ≤ page_bound }
+        requires some { entry ≡ Pte.Empty → ⊥ }
+        requires there { at self.old page ≡ Pte.Empty → ⊥ }
+        ensures { MatchBool result
+            (at self.new ≡ with_at page entry (at self.old))
+            (at self.new ≡ at self.old) };
+
     /// Takes out an entry that is there, and gives back what no longer holds any.
     fn take(&mut self, page: u64) -> Pte
         requires fits { span ≤ page_bound }

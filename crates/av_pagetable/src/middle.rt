@@ -73,6 +73,11 @@ impl Level for Middle {
     }
 
     #[inline(always)]
+    fn change_near(&mut self, page: u64, entry: Pte) -> bool {
+        self.tables.change_near(page, entry)
+    }
+
+    #[inline(always)]
     fn take(&mut self, page: u64) -> Pte {
         self.tables.take(page)
     }

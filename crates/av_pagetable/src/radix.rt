@@ -53,6 +53,11 @@ impl Level for Pte {
         *self = entry;
     }
 
+    fn change_near(&mut self, _page: u64, entry: Pte) -> bool {
+        *self = entry;
+        true
+    }
+
     fn take(&mut self, _page: u64) -> Pte {
         let entry = *self;
         *self = Pte::Empty;
@@ -118,8 +123,12 @@ impl Table for RadixTable {
         self.top.set(page, entry)
     }
 
+    // As `get`, a short way on which no call stands.
+    #[inline]
     fn change(&mut self, page: u64, entry: Pte) {
-        self.top.change(page, entry);
+        if !self.top.change_near(page, entry) {
+            self.find_and_change(page, entry);
+        }
     }
 
     fn take_first(&mut self, from: u64, to: u64) -> Option<(u64, Pte)> {
@@ -157,6 +166,7 @@ impl Table for RadixTable {
 
 impl RadixTable {
     ghost use Rattle.std.specs.Prelude.{◌≡◌, ℕ, ◌+◌, ◌*◌, ◌<◌, MatchOption};
+    ghost use Rattle.av_base.specs.Words.{with_at};
     ghost use Rattle.av_pagetable.specs.Held.{IsHeld};
     ghost use Rattle.av_pagetable.specs.declared.pte.Pte.{Pte};
 
@@ -166,6 +176,17 @@ impl RadixTable {
         ensures { result ≡ ⟦<RadixTable as Table>⟧.at self.now page }
     {
         self.top.get(page)
+    }
+
+    // Changes an entry that is there, wherever it stands.
+    #[inline(never)]
+    fn find_and_change(&mut self, page: u64, entry: Pte)
+        requires some { entry ≡ Pte.Empty → ⊥ }
+        requires there { ⟦<RadixTable as Table>⟧.at self.old page ≡ Pte.Empty → ⊥ }
+        ensures { ⟦<RadixTable as Table>⟧.at self.new
+            ≡ with_at page entry (⟦<RadixTable as Table>⟧.at self.old) }
+    {
+        self.top.change(page, entry);
     }
 
     // The last table of this number, if there is one: of those that span 512 pages each.

@@ -1,17 +1,15 @@
 -- The lists of items, after each call.
-use Rattle.std.proofs.Common.{◌≡◌, ℕ, zero, suc, ◌+◌, ◌<◌, ◌≤◌, Bool, true, false, cond, not, ◌||◌, ◌==◌, List, [], ◌∷◌, ◌++◌, length, replicate, get_or, set, refl, sym, ap, subst, ◌∙◌, ◌^◌, arith, length-set, get_or-set_same, get_or-set_other}
+use Rattle.std.proofs.Common.{◌≡◌, ℕ, zero, suc, ◌+◌, ◌<◌, ◌≤◌, Bool, true, false, cond, ◌||◌, ◌==◌, List, [], ◌∷◌, ◌++◌, length, replicate, get_or, set, refl, sym, ap, subst, ◌∙◌, ◌^◌, arith, length-set, get_or-set_same, get_or-set_other}
 use Rattle.std.specs.List.{swap}
 use Rattle.std.specs.Prelude.{MatchResult, Result, Ok, Err}
-use Rattle.std.specs.declared.vec.Vec.{Vec}
-use Rattle.std.specs.declared.alloc.Global.{Global}
 use Rattle.std.proofs.lemmas.Bool.{false≢true}
 use Rattle.std.proofs.lemmas.Bool.Decides.{nat_tests}
-use Rattle.std.proofs.lemmas.List.{map-set, length-replicate}
+use Rattle.std.proofs.lemmas.List.{length-replicate}
 use Rattle.av_base.specs.Items.{Item, is_item, same_item, with_item}
 use Rattle.av_base.specs.Words.{how_many, with_at}
 use Rattle.av_base.proofs.Counted.{count-most, count-none, count-set, count-some}
 use Rattle.av_rmap.specs.Items.{AreOnce, is_merged, none_merged, shown, with_items, with_renamed}
-use Rattle.av_rmap.specs.ItemLists.{AllOnce, AreKept, lists_of}
+use Rattle.av_rmap.specs.ItemLists.{AllOnce, AreKept}
 
 -- ---- no item twice
 
@@ -107,64 +105,37 @@ recounted lists f items old below kept once =
       };
     }
 
--- ---- vectors and lists
+-- ---- the list of a frame that there is
 
-abbrev pub Items : Type 0
-Items = Vec Item Global
-
-pub lists-set : (vs : List Items) (f : ℕ) (v : Items) → lists_of (set vs f v) ≡ set (lists_of vs) f v.items
-lists-set vs f v = map-set (λ (w : Items). w.items) vs f v
-
-pub length-lists : (vs : List Items) → length (lists_of vs) ≡ length vs
-length-lists [] = refl
-length-lists (v ∷ vs) = ap suc (length-lists vs)
-
-pub list-at : (vs : List Items) (f : ℕ) (v : Items) → v ≡ get_or vs f v → f < length vs → v.items ≡ get_or (lists_of vs) f []
-list-at [] f v e below = absurd (omega (arith, below))
-list-at (w ∷ vs) zero v e below = ap (λ (x : Items). x.items) e
-list-at (w ∷ vs) (suc f) v e below = list-at vs f v e (omega (arith, below))
-
-item-at : (vs : List Items) (f : ℕ) (d : Items) → f < length vs → (get_or vs f d).items ≡ get_or (lists_of vs) f []
+pub item-at : (lists : List (List Item)) (f : ℕ) (d : List Item) → f < length lists → get_or lists f d ≡ get_or lists f []
 item-at [] f d below = absurd (omega (arith, below))
-item-at (w ∷ vs) zero d below = refl
-item-at (w ∷ vs) (suc f) d below = item-at vs f d (omega (arith, below))
+item-at (w ∷ lists) zero d below = refl
+item-at (w ∷ lists) (suc f) d below = item-at lists f d (omega (arith, below))
 
-pub lists-swap : (vs : List Items) (i j : ℕ) → i < length vs → j < length vs
-    → lists_of (swap vs i j) ≡ set (set (lists_of vs) i (get_or (lists_of vs) j [])) j (get_or (lists_of vs) i [])
+pub lists-swap : (lists : List (List Item)) (i j : ℕ) → i < length lists → j < length lists
+    → swap lists i j ≡ set (set lists i (get_or lists j [])) j (get_or lists i [])
 lists-swap [] i j a b = absurd (omega (arith, a))
-lists-swap (d ∷ vs) i j a b =
-    lists-set (set (d ∷ vs) i (get_or (d ∷ vs) j d)) j (get_or (d ∷ vs) i d)
-    ∙ ap (λ l. set l j (get_or (d ∷ vs) i d).items) (lists-set (d ∷ vs) i (get_or (d ∷ vs) j d))
-    ∙ (λ k. set (set (lists_of (d ∷ vs)) i (item-at (d ∷ vs) j d b k)) j (item-at (d ∷ vs) i d a k))
+lists-swap (d ∷ lists) i j a b = λ k. set (set (d ∷ lists) i (item-at (d ∷ lists) j d b k)) j (item-at (d ∷ lists) i d a k)
 
-pub not_empty : (items : List Item) (n : ℕ) → n ≡ length items → not (n == 0) ≡ is_merged items
-not_empty [] n e = grind (arith, nat_tests, e)
-not_empty (x ∷ items) n e = grind (arith, nat_tests, e)
-
--- the vector of one frame changes, and it is counted by what is said of it
-module _ (vs : List Items) (v : List (List Item)) (f : ℕ) (old : ℕ) (was : Bool) (seen : lists_of vs ≡ v) (below : f < length v)
-    (said : was ≡ is_merged (get_or v f [])) where
-  there : f < length (lists_of vs)
+-- the list of one frame changes, and it is counted by what is said of it
+module _ (lists v : List (List Item)) (f : ℕ) (old : ℕ) (was : Bool) (seen : lists ≡ v) (below : f < length v) (said : was ≡ is_merged (get_or v f [])) where
+  there : f < length lists
   there = subst (λ (v : List (List Item)). f < length v) (sym seen) below
 
-  was_one : ◌≡◌ {A = ℕ} (cond was 1 0) (cond (is_merged (get_or (lists_of vs) f [])) 1 0)
+  was_one : ◌≡◌ {A = ℕ} (cond was 1 0) (cond (is_merged (get_or lists f [])) 1 0)
   was_one = ap (λ b. cond {A = ℕ} b 1 0) (said ∙ ap (λ (v : List (List Item)). is_merged (get_or v f [])) (sym seen))
 
-  pub was-some : AreKept (lists_of vs) old → cond was 1 0 ≤ old
-  was-some kept = omega (arith, kept.counted, count-some is_merged (lists_of vs) f [] there, was_one)
+  pub was-some : AreKept lists old → cond was 1 0 ≤ old
+  was-some kept = omega (arith, kept.counted, count-some is_merged lists f [] there, was_one)
 
-  pub was-few : AreKept (lists_of vs) old → old < 2 ^ 32
-  was-few kept = omega (arith, kept.counted, kept.few, count-most is_merged (lists_of vs))
-
-  pub is-few : AreKept (lists_of vs) old → (now : Items) → AreOnce now.items → (is : Bool) → is ≡ is_merged now.items → old + cond is 1 0 < 2 ^ 32 + cond was 1 0
+  pub is-few : AreKept lists old → (now : List Item) → AreOnce now → (is : Bool) → is ≡ is_merged now → old + cond is 1 0 < 2 ^ 32 + cond was 1 0
   is-few kept now once is said =
-      let few = (recounted (lists_of vs) f now.items old there kept once).few in omega (arith, few, was_one, ap (λ b. cond {A = ℕ} b 1 0) said)
+      let few = (recounted lists f now old there kept once).few in omega (arith, few, was_one, ap (λ b. cond {A = ℕ} b 1 0) said)
 
-  pub is-kept : AreKept (lists_of vs) old → (now : Items) → AreOnce now.items → (is : Bool) → is ≡ is_merged now.items
-      → (new : ℕ) → new + cond was 1 0 ≡ old + cond is 1 0 → AreKept (lists_of (set vs f now)) new
+  pub is-kept : AreKept lists old → (now : List Item) → AreOnce now → (is : Bool) → is ≡ is_merged now
+      → (new : ℕ) → new + cond was 1 0 ≡ old + cond is 1 0 → AreKept (set lists f now) new
   is-kept kept now once is said new sum =
-      subst (λ ls. AreKept ls new) (sym (lists-set vs f now)) ((recounted (lists_of vs) f now.items old there kept once).kept new
-      (omega (arith, sum, was_one, ap (λ b. cond {A = ℕ} b 1 0) said)))
+      (recounted lists f now old there kept once).kept new (omega (arith, sum, was_one, ap (λ b. cond {A = ℕ} b 1 0) said))
 
 -- one frame's list goes to another, which has none
 pub shown-moved : (lists : List (List Item)) (f t : ℕ) → f < length lists → t < length lists → get_or lists t [] ≡ []
@@ -245,10 +216,6 @@ replicate-next n m e = next n ∙ ap (λ k. replicate {A = List Item} k []) (let
     next : (n : ℕ) → replicate {A = List Item} n [] ++ [] ∷ [] ≡ replicate (suc n) []
     next zero = refl
     next (suc n) = ap (λ l. [] ∷ l) (next n)
-
-pub lists-push : (vs : List Items) (v : Items) → lists_of (vs ++ v ∷ []) ≡ lists_of vs ++ v.items ∷ []
-lists-push [] v = refl
-lists-push (w ∷ vs) v = ap (λ l. w.items ∷ l) (lists-push vs v)
 
 pub none-once : (lists : List (List Item)) (n : ℕ) → lists ≡ replicate n [] → AllOnce lists
 none-once lists n e = subst AllOnce (sym e) (all n)

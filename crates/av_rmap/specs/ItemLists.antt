@@ -1,14 +1,13 @@
 -- How `Items` keeps its lists.
-use Rattle.std.specs.Prelude.{◌≡◌, ℕ, ◌<◌, ◌^◌, List, [], length, map, slice_index_or}
-use Rattle.std.specs.declared.vec.Vec.{Vec}
-use Rattle.std.specs.declared.alloc.Global.{Global}
-use Rattle.av_base.specs.Items.{Item}
+use Rattle.std.specs.HashSet.{HashSet, contains}
+use Rattle.std.specs.Prelude.{◌≡◌, ℕ, ◌<◌, ◌^◌, List, [], length, slice_index_or}
+use Rattle.av_base.specs.Items.{Item, is_item, same_item}
 use Rattle.av_base.specs.Words.{how_many}
 use Rattle.av_rmap.specs.Items.{AreOnce, is_merged}
 
--- the lists of some vectors
-abbrev pub lists_of : List (Vec Item Global) → List (List Item)
-lists_of vectors = map (λ (v : Vec Item Global). v.items) vectors
+-- the set has the items of the list, and no other
+abbrev pub IsSetOf : {S : Type 0} → HashSet Item S → List Item → Type 0
+IsSetOf set items = (x : Item) → contains same_item set x ≡ is_item x items
 
 -- of no frame an item stands twice
 abbrev pub AllOnce : List (List Item) → Type 0

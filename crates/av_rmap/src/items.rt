@@ -3,12 +3,12 @@
 ghost use Rattle.std.specs.Prelude.{◌≡◌, ◌+◌, ◌<◌, ◌≤◌, ◌^◌, [], IfOk, MatchResult, replicate};
 ghost use Rattle.std.specs.Prelude.{if◌then◌else◌};
 ghost use Rattle.std.specs.List.{range_with_len};
-ghost use Rattle.av_base.specs.Items.{is_item, with_item};
+ghost use Rattle.av_base.specs.Items.{with_item};
 ghost use Rattle.av_base.specs.Words.{how_many};
-ghost use Rattle.av_rmap.specs.ItemLists.{lists_of};
 ghost use Rattle.av_rmap.specs.Items.{AreOnce, is_merged, none_merged, shown};
 ghost use Rattle.av_rmap.specs.Items.{with_items, with_renamed};
 
+use crate::item_list::ItemList;
 use std::alloc::{AllocError, Global};
 use std::marker::Model;
 
@@ -17,20 +17,20 @@ use std::marker::Model;
 /// from its home (Linux's `rmap_item`s of a stable page). Only `new` and `add` take memory.
 #[derive(Drop)]
 pub struct Items {
-    lists: Vec<Vec<(u64, u64)>>,
+    lists: Vec<ItemList>,
     /// How many frames are merged.
     merged: u32,
 }
 
 impl Model for Items {
     ghost use Rattle.std.specs.Prelude.{ℕ, List};
-    ghost use Rattle.av_rmap.specs.ItemLists.{lists_of, AreKept};
+    ghost use Rattle.av_rmap.specs.ItemLists.{AreKept};
 
     ghost Value = { List (List (ℕ × ℕ)) };
 
-    ghost view = { λ a. lists_of a.lists.items };
+    ghost view = { λ a. a.lists.items };
 
-    ghost invariant = { λ a. AreKept (lists_of a.lists.items) a.merged };
+    ghost invariant = { λ a. AreKept a.lists.items a.merged };
 }
 
 impl Items {
@@ -50,7 +50,7 @@ impl Items {
         ensures items { result.now ≡ (shown self.now).items frame }
         ensures once { AreOnce result.now }
     {
-        &self.lists[frame as usize]
+        self.lists[frame as usize].items()
     }
 
     /// Whether a frame is merged: it has an item.
@@ -58,7 +58,7 @@ impl Items {
         requires { frame < (shown self.now).frames }
         ensures { result ≡ is_merged ((shown self.now).items frame) }
     {
-        !self.lists[frame as usize].is_empty()
+        self.lists[frame as usize].is_merged()
     }
 
     /// How many frames are merged. It looks at none.
@@ -69,8 +69,7 @@ impl Items {
         self.merged
     }
 
-    /// One more item of a frame, unless it is there. It costs a step for each item of the frame.
-    /// Without memory all stays.
+    /// One more item of a frame, unless it is there. Without memory all stays.
     pub fn add(&mut self, frame: u32, root: u64, index: u64) -> Result<(), AllocError>
         requires { frame < (shown self.old).frames }
         ensures { MatchResult result
@@ -80,8 +79,8 @@ impl Items {
     {
         let was = self.is_merged(frame);
         let items = &mut self.lists[frame as usize];
-        let added = add_to(items, root, index);
-        self.merged = recount(self.merged, was, !items.is_empty());
+        let added = items.add(root, index);
+        self.merged = recount(self.merged, was, items.is_merged());
         added
     }
 
@@ -105,12 +104,12 @@ impl Items {
 }
 
 /// So many empty lists.
-fn no_lists(alloc: Global, count: u32) -> Result<Vec<Vec<(u64, u64)>>, AllocError>
-    ensures { IfOk result (λ lists. lists_of lists.items ≡ replicate count []) }
+fn no_lists(alloc: Global, count: u32) -> Result<Vec<ItemList>, AllocError>
+    ensures { IfOk result (λ lists. lists.items ≡ replicate count []) }
 {
     let mut lists = Vec::with_capacity(alloc, count as usize)?;
     for _frame in 0..count {
-        lists.push_reserved(Vec::new(alloc));
+        lists.push_reserved(ItemList::new(alloc));
     }
     Ok(lists)
 }
@@ -126,23 +125,4 @@ fn recount(merged: u32, was: bool, is: bool) -> u32
         (true, false) => merged - 1,
         _ => merged,
     }
-}
-
-/// One more item of a list, unless it is there.
-fn add_to(items: &mut Vec<(u64, u64)>, root: u64, index: u64) -> Result<(), AllocError>
-    ensures { MatchResult result
-        (λ _. items.new.items ≡ with_item (root, index) items.old.items)
-        (λ _. items.new.items ≡ items.old.items) }
-{
-    if !has(items, root, index) {
-        items.push((root, index))?;
-    }
-    Ok(())
-}
-
-/// Whether an item is there.
-fn has(items: &[(u64, u64)], root: u64, index: u64) -> bool
-    ensures { result ≡ is_item (root, index) items.now }
-{
-    items.iter().any(|item| root == item.0 && index == item.1)
 }

@@ -40,6 +40,7 @@
 #![tactic(auto)]
 
 pub mod covered;
+mod item_list;
 pub mod items;
 pub mod locked;
 pub mod look;

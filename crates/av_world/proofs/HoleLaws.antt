@@ -5,7 +5,7 @@ use Rattle.std.proofs.lemmas.Bool.Decides.{nat_tests}
 use Rattle.av_vma.specs.Gap.{IsRoom}
 use Rattle.av_plain.specs.World.{Page, Process, is_mapped, meets, pages_to_hole}
 use Rattle.av_world.specs.Holes.{IsMet, end_at_of, has_page, mapped_before_hole, meets_page}
-use Rattle.av_world.specs.Space.{IsPage, IsSpace, byte_in, has, marks_in}
+use Rattle.av_world.specs.Space.{IsPage, IsSpace, has, marks_in}
 use Rattle.av_world.specs.declared.space.Marks.{Marks}
 use Rattle.av_world.specs.declared.space.Range.{Range}
 use Rattle.av_world.specs.declared.space.Space.{Space}

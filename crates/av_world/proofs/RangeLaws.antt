@@ -1,10 +1,10 @@
 -- What is said of pages where ranges change.
-use Rattle.std.proofs.Common.{◌≡◌, ℕ, ◌+◌, ◌<◌, ◌≤◌, Bool, true, false, cond, not, ◌&&◌, List, [], ◌∷◌, ◌++◌, Option, Some, None, refl, sym, ap, subst, ◌∙◌, arith, nat_le, nat_lt, append_assoc}
+use Rattle.std.proofs.Common.{◌≡◌, ℕ, Bool, true, false, cond, not, ◌&&◌, List, [], ◌∷◌, ◌++◌, Option, Some, None, refl, sym, ap, ◌∙◌, arith, nat_le, nat_lt, append_assoc}
 use Rattle.std.specs.Prelude.{max, min, option_and_then}
 use Rattle.std.specs.List.{flat_map}
 use Rattle.std.proofs.lemmas.Bool.Decides.{nat_tests}
 use Rattle.av_world.specs.Ranges.{change_of, part, part_of, pieces}
-use Rattle.av_world.specs.Space.{has, marks_in}
+use Rattle.av_world.specs.Space.{marks_in}
 use Rattle.av_world.specs.declared.ranges.Change.{Change}
 use Rattle.av_world.specs.declared.ranges.Change.TheVariants.{Unmap, Protect, Mark}
 use Rattle.av_world.specs.declared.space.Marks.{Marks}

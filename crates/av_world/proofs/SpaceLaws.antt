@@ -1,5 +1,5 @@
 -- A process's pages after a change.
-use Rattle.std.proofs.Common.{◌≡◌, ℕ, ◌+◌, ◌<◌, Bool, true, false, cond, ◌&&◌, ◌||◌, arith, List, [], ◌∷◌, ◌++◌, Option, Some, None, refl, sym, ap, subst, ◌∙◌, nat_le, nat_lt}
+use Rattle.std.proofs.Common.{◌≡◌, ℕ, ◌+◌, ◌≤◌, Bool, true, false, cond, ◌&&◌, ◌||◌, arith, List, [], ◌∷◌, ◌++◌, Option, Some, None, refl, sym, ap, subst, ◌∙◌, nat_le, nat_lt}
 use Rattle.std.specs.Prelude.{Result, Ok, Err, OnOk, filter, option_and_then, option_map}
 use Rattle.std.specs.Ordering.{is_eq, nat_cmp}
 use Rattle.std.specs.declared.cmp.Ordering.{Ordering}
@@ -11,10 +11,10 @@ use Rattle.std.specs.declared.alloc.Global.{Global}
 use Rattle.std.specs.declared.vec.Vec.{Vec}
 use Rattle.std.specs.BTreeMap.{BTreeMap, get, is_at}
 use Rattle.av_base.specs.Flags.{no_flags}
+use Rattle.av_base.specs.Limits.{top_page}
 use Rattle.av_base.specs.Words.{within}
-use Rattle.av_base.specs.declared.flags.Flag.{Flag}
 use Rattle.av_base.specs.declared.prot.Prot.{Prot}
-use Rattle.av_plain.specs.World.{Page, Process, no_pages, wiped, with_change_on, with_page_flag, with_pages, with_prot, with_prot_on, zeros}
+use Rattle.av_plain.specs.World.{Page, Process, no_pages, wiped, with_change_on, with_page_flag, with_pages, with_prot, zeros}
 use Rattle.av_world.specs.Ranges.{AreChanged, AreWiped, change_of}
 use Rattle.av_world.specs.Space.{IsPage, IsSpace, byte_in, has, marks_in}
 use Rattle.av_world.specs.declared.ranges.Change.{Change}
@@ -57,7 +57,15 @@ pages-changed old new q from n change h c = record {
       (subst (λ b. IsPage (cond (within from n page) (option_and_then (change_of change) (marks_in old.ranges.items page)) (marks_in old.ranges.items page))
       (byte_in (get nat_cmp b page)) (cond (within from n page) (page_changed change (q page)) (q page))) (sym c.bytes)
       (each (within from n page) change (marks_in old.ranges.items page) (byte_in (get nat_cmp old.bytes page)) (q page) (h.pages page)));
+  top = λ page high. ap (λ p. cond (within from n page) (page_changed change p) p) (h.top page high)
+      ∙ none-changed (within from n page) change;
 }
+  where
+    none-changed : (b : Bool) (change : Change) → cond b (page_changed change None) None ≡ None
+    none-changed true Unmap = refl
+    none-changed true (Protect prot) = refl
+    none-changed true (Mark flag set) = refl
+    none-changed false change = refl
 
 -- what follows from what is so where it is done
 pub on-ok : {A E : Type 0} {P Q : Type 0} (r : Result A E) → OnOk r P → (P → Q) → OnOk r Q
@@ -66,7 +74,7 @@ on-ok (Err e) h f = tt
 
 -- ---- zeros
 
-kept-at : (t : ℕ → Bool) (es : List (ℕ × Vec ℕ Global)) (k : ℕ)
+pub kept-at : (t : ℕ → Bool) (es : List (ℕ × Vec ℕ Global)) (k : ℕ)
     → lookup (is_at (nat_cmp k)) (filter (λ e. t e.0) es) ≡ cond (t k) (lookup (is_at (nat_cmp k)) es) None
 kept-at t [] k = none (t k)
   where
@@ -143,11 +151,19 @@ pages-wiped old new q from n h w = record {
       subst (λ r. IsPage (marks_in r.items page) (byte_in (get nat_cmp new.bytes page)) (with_change_on q from n wiped page)) (sym w.ranges)
       (subst (λ b. IsPage (marks_in old.ranges.items page) (byte_in b) (with_change_on q from n wiped page)) (sym (w.bytes page))
       (one-wiped (within from n page) (marks_in old.ranges.items page) (get nat_cmp old.bytes page) (q page) (h.pages page)));
+  top = λ page high. ap (λ p. cond (within from n page) (option_map wiped p) p) (h.top page high) ∙ none (within from n page);
 }
+  where
+    nothing : Option Page
+    nothing = None
+
+    none : (b : Bool) → cond b (option_map wiped nothing) nothing ≡ None
+    none true = refl
+    none false = refl
 
 -- ---- pages that are mapped anew
 
-marks-last : (rs : List Range) (r : Range) (page : ℕ)
+pub marks-last : (rs : List Range) (r : Range) (page : ℕ)
     → marks_in (rs ++ r ∷ []) page ≡ elim (marks_in rs page) [ None ↦ cond (has r page) (Some r.marks) None | Some k ↦ Some k ]
 marks-last [] r page = refl
 marks-last (e ∷ es) r page = by (has e page) (marks-last es r page)
@@ -168,11 +184,11 @@ one-mapped false (Some k) bytes None r h = absurd h
 one-mapped false (Some k) bytes (Some p) r h = h
 
 -- unmapped, wiped, and mapped anew
-pub pages-mapped : (old mid now new : Space) (q : Process) (from n : ℕ) (prot : Prot) → IsSpace old q
+pub pages-mapped : (old mid now new : Space) (q : Process) (from n : ℕ) (prot : Prot) → IsSpace old q → from + n ≤ top_page
     → AreChanged old mid from n Unmap → AreWiped mid now from n
     → new.ranges.items ≡ now.ranges.items ++ record { start = from; end = from + n; marks = record { prot = prot; flags = no_flags } } ∷ []
     → new.bytes ≡ now.bytes → IsSpace new (with_pages q from n (λ _. Some (zeros prot)))
-pages-mapped old mid now new q from n prot h c w rs bs = record {
+pages-mapped old mid now new q from n prot h fits c w rs bs = record {
   pages = λ page.
       let marks : marks_in new.ranges.items page ≡ elim (cond (within from n page) None (marks_in old.ranges.items page)) [ None ↦ cond (within from n page) (Some r.marks) None | Some k ↦ Some k ] =
       ap (λ x. marks_in x page) rs ∙ marks-last now.ranges.items r page
@@ -185,8 +201,12 @@ pages-mapped old mid now new q from n prot h c w rs bs = record {
       (subst (λ b. IsPage (elim (cond (within from n page) None (marks_in old.ranges.items page)) [ None ↦ cond (within from n page) (Some r.marks) None | Some k ↦ Some k ])
       (byte_in b) (with_pages q from n (λ _. Some (zeros prot)) page)) (sym bytes)
       (one-mapped (within from n page) (marks_in old.ranges.items page) (get nat_cmp old.bytes page) (q page) r (h.pages page)));
+  top = λ page high. ap (λ b. cond b (Some (zeros prot)) (q page)) (outside page high) ∙ h.top page high;
 }
   where
+    outside : (page : ℕ) → top_page ≤ page → within from n page ≡ false
+    outside page high = grind (arith, nat_tests, fits, high)
+
     r : Range
     r = record { start = from; end = from + n; marks = record { prot = prot; flags = no_flags } }
 
@@ -202,8 +222,16 @@ pages-unmapped old mid new q from n h c w = record {
   pages = λ page. subst (λ p. IsPage (marks_in new.ranges.items page) (byte_in (get nat_cmp new.bytes page)) p)
       (gone (within from n page) (q page))
       ((pages-wiped mid new (λ page. cond (within from n page) None (q page)) from n (pages-changed old mid q from n Unmap h c) w).pages page);
+  top = λ page high. ap (λ p. cond (within from n page) None p) (h.top page high) ∙ none (within from n page);
 }
   where
+    nothing : Option Page
+    nothing = None
+
+    none : (b : Bool) → cond b nothing nothing ≡ None
+    none true = refl
+    none false = refl
+
     gone : (b : Bool) (p : Option Page) → cond b (option_map wiped (cond b None p)) (cond b None p) ≡ cond b None p
     gone true p = refl
     gone false p = refl

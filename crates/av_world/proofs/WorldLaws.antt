@@ -1,7 +1,9 @@
 -- What is kept of processes goes with the memories.
-use Rattle.std.proofs.Common.{◌≡◌, ℕ, suc, ◌<◌, List, [], ◌∷◌, Bool, true, false, cond, not, ◌&&◌, ◌==◌, Option, Some, None, T, is_some, length, refl, sym, ap, subst, ◌∙◌, arith}
-use Rattle.std.specs.Prelude.{option_and_then, option_map}
+use Rattle.std.proofs.Common.{◌≡◌, ℕ, suc, ◌<◌, ◌≤◌, List, [], ◌∷◌, Bool, true, false, cond, not, ◌&&◌, ◌==◌, Option, Some, None, T, is_some, length, refl, sym, ap, subst, ◌∙◌, arith, zero, ◌+◌}
+use Rattle.std.specs.Prelude.{IfSome, option_and_then, option_map}
 use Rattle.std.specs.Option.{option_map_or}
+use Rattle.av_base.specs.Limits.{top_page}
+use Rattle.av_base.specs.Page.{page_size}
 use Rattle.av_base.specs.declared.flags.Flags.{Flags}
 use Rattle.av_base.specs.declared.prot.Prot.{Prot}
 use Rattle.av_plain.specs.Fault.{permits}
@@ -15,11 +17,12 @@ use Rattle.std.specs.Ordering.{nat_cmp, eq_by_cmp, match_ordering, is_eq, is_lt}
 use Rattle.std.specs.FinMap.Entries.{by_order, put, find, is_sorted, below_all, where_key, is_sorted-where_key}
 use Rattle.std.specs.BTreeMap.{insert_entry, is_at}
 use Rattle.std.specs.Map.{lookup, remove_entry, set_value}
-use Rattle.av_plain.specs.World.{Page, Process, World, allows, is_locked_page, end_process, lives, pages, process, set_process}
+use Rattle.av_plain.specs.World.{Page, Process, World, allows, is_locked_page, end_process, lives, no_pages, pages, process, set_process, meets, pages_to_hole, pages_to_locked}
 use Rattle.av_plain.proofs.World.{is_sorted-set}
-use Rattle.av_world.specs.Memories.{AreSpaces, IsProcess}
+use Rattle.av_world.specs.Memories.{AreSpaces, IsProcess, IsWorld}
 use Rattle.av_world.specs.Space.{IsPage, IsSpace, marks_in, marks_of}
 use Rattle.av_world.specs.declared.space.Marks.{Marks}
+use Rattle.av_world.specs.declared.memories.Memories.{Memories}
 use Rattle.av_world.specs.declared.space.Space.{Space}
 
 -- the two are as long
@@ -219,3 +222,66 @@ pub locked-by : (o : Option Page) (marks : Option (Prot × Flags)) → marks ≡
     → option_map_or (λ (m : Prot × Flags). m.1.locked) marks false ≡ is_locked_page o
 locked-by None marks e = ap (λ (m : Option (Prot × Flags)). option_map_or (λ (m : Prot × Flags). m.1.locked) m false) e
 locked-by (Some p) marks e = ap (λ (m : Option (Prot × Flags)). option_map_or (λ (m : Prot × Flags). m.1.locked) m false) e
+
+-- ---- what each process's pages are like
+
+-- what is so of no page, and of the pages of each process that is kept, is so of each process's
+pub of-process : (P : Process → Type 0) (o : Option Space) (q : Option Process) → IsProcess o q → P no_pages
+    → ((s : Space) (q : Process) → IsSpace s q → P q) → P (λ page. option_and_then (λ (q : Process). q page) q)
+of-process P None None h none each = none
+of-process P None (Some q) h none each = absurd h
+of-process P (Some s) None h none each = absurd h
+of-process P (Some s) (Some q) h none each = each s q h
+
+pub of-world : (P : Process → Type 0) (memories : Memories) (w : World) (p : ℕ) → IsWorld memories w → P no_pages
+    → ((s : Space) (q : Process) → IsSpace s q → P q) → P (pages w p)
+of-world P memories w p h none each = of-process P (lookup (is_at (nat_cmp p)) memories.spaces.entries) (process w p)
+    (spaces-find memories.spaces.entries w p h.spaces) none each
+
+-- no page at the top or above is mapped
+pub world-top : (memories : Memories) (w : World) (p page : ℕ) → IsWorld memories w → top_page ≤ page → pages w p page ≡ None
+world-top memories w p page h high = of-world (λ q. q page ≡ None) memories w p h refl (λ s q is. is.top page high)
+
+-- each byte of a mapped page is claimed
+page-claimed : (k : Option Marks) (at : ℕ → ℕ) (p : Option Page) → IsPage k at p
+    → IfSome p (λ (p : Page). (i : ℕ) → i < page_size → is_some (p.bytes i) ≡ true)
+page-claimed k at None h = tt
+page-claimed None at (Some p) h = absurd h
+page-claimed (Some k) at (Some p) h = λ i low. ap is_some (h.2 i low)
+
+pub world-claimed : (memories : Memories) (w : World) (p page : ℕ) → IsWorld memories w
+    → IfSome (pages w p page) (λ (p : Page). (i : ℕ) → i < page_size → is_some (p.bytes i) ≡ true)
+world-claimed memories w p page h = of-world (λ q. IfSome (q page) (λ (p : Page). (i : ℕ) → i < page_size → is_some (p.bytes i) ≡ true))
+    memories w p h tt (λ s q is. page-claimed (marks_in s.ranges.items page) _ (q page) (is.pages page))
+
+-- ---- a process that doesn't live has no pages
+pub no-pages : (o : Option Space) (w : World) (p : ℕ) → IsProcess o (process w p) → o ≡ None → pages w p ≡ no_pages
+no-pages o w p h is = by (process w p) refl (subst (λ o. IsProcess o (process w p)) is h)
+  where
+    by : (q : Option Process) → process w p ≡ q → IsProcess None q → pages w p ≡ no_pages
+    by None e h = λ i page. option_and_then (λ (q : Process). q page) (e i)
+    by (Some q) e h = absurd h
+
+none-met : (from n : ℕ) → meets no_pages from n ≡ false
+none-met from zero = refl
+none-met from (suc n) = none-met (from + 1) n
+
+hole-at-once : (from n : ℕ) → pages_to_hole no_pages from n ≡ 0
+hole-at-once from zero = refl
+hole-at-once from (suc n) = refl
+
+none-locked : (from n : ℕ) → pages_to_locked no_pages from n ≡ n
+none-locked from zero = refl
+none-locked from (suc n) = ap (λ x. x + 1) (none-locked (from + 1) n) ∙ one n
+  where
+    one : (n : ℕ) → n + 1 ≡ suc n
+    one n = omega arith
+
+pub dead-meets : (q : Process) (from n : ℕ) → q ≡ no_pages → false ≡ meets q from n
+dead-meets q from n is = sym (ap (λ q. meets q from n) is ∙ none-met from n)
+
+pub dead-hole : (q : Process) (from n : ℕ) → q ≡ no_pages → 0 ≡ pages_to_hole q from n
+dead-hole q from n is = sym (ap (λ q. pages_to_hole q from n) is ∙ hole-at-once from n)
+
+pub dead-locked : (q : Process) (from n : ℕ) → q ≡ no_pages → n ≡ pages_to_locked q from n
+dead-locked q from n is = sym (ap (λ q. pages_to_locked q from n) is ∙ none-locked from n)

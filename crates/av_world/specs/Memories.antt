@@ -1,7 +1,8 @@
 -- The processes that live, with what they have mapped.
-use Rattle.std.specs.Prelude.{◌≡◌, ℕ, ◌+◌, ◌<◌, ◌^◌, List, [], ◌∷◌, Option, Some, None, true}
+use Rattle.std.specs.Prelude.{◌≡◌, ℕ, ◌+◌, ◌<◌, ◌≤◌, ◌^◌, List, [], ◌∷◌, Option, Some, None, true}
 use Rattle.std.specs.FinMap.Entries.{is_sorted}
 use Rattle.std.specs.Ordering.{nat_cmp}
+use Rattle.av_base.specs.Limits.{top_page}
 use Rattle.av_plain.specs.World.{Process, World, no_pages, wiped, with_change_on, with_page_flag}
 use Rattle.av_plain.specs.World.{with_pages, with_prot_on, zeros}
 use Rattle.av_world.specs.Space.{IsSpace}
@@ -18,9 +19,9 @@ pages_after (Protect from n prot) q = with_prot_on q from n prot
 pages_after (Mark from n flag set) q = with_change_on q from n (with_page_flag flag set)
 pages_after (Wipe from n) q = with_change_on q from n wiped
 
--- the pages end below 2^64
+-- the pages end below 2^64, and those that are mapped below the top
 abbrev pub Ends : Edit → Type 0
-Ends (Map from n prot) = from + n < 2 ^ 64
+Ends (Map from n prot) = from + n ≤ top_page
 Ends (Unmap from n) = from + n < 2 ^ 64
 Ends (Protect from n prot) = from + n < 2 ^ 64
 Ends (Mark from n flag set) = from + n < 2 ^ 64

@@ -1,10 +1,11 @@
 -- The pages that a process has.
-use Rattle.std.specs.Prelude.{◌≡◌, ℕ, ◌<◌, ◌&&◌, Bool, List, [], ◌∷◌, Option, Some, None}
+use Rattle.std.specs.Prelude.{◌≡◌, ℕ, ◌<◌, ◌≤◌, ◌&&◌, Bool, List, [], ◌∷◌, Option, Some, None}
 use Rattle.std.specs.Prelude.{if◌then◌else◌, nat_le, nat_lt, slice_index}
 use Rattle.std.specs.Ordering.{nat_cmp}
 use Rattle.std.specs.BTreeMap.{get}
 use Rattle.std.specs.declared.alloc.Global.{Global}
 use Rattle.std.specs.declared.vec.Vec.{Vec}
+use Rattle.av_base.specs.Limits.{top_page}
 use Rattle.av_base.specs.Page.{page_size}
 use Rattle.av_base.specs.declared.flags.Flags.{Flags}
 use Rattle.av_base.specs.declared.prot.Prot.{Prot}
@@ -39,7 +40,8 @@ IsPage (Some k) at None = ⊥
 IsPage (Some k) at (Some p) = (p.prot ≡ k.prot) × (p.flags ≡ k.flags)
     × ((i : ℕ) → i < page_size → p.bytes i ≡ Some (at i))
 
--- the process has these pages
+-- the process has these pages, none of them at the top or above
 pub record IsSpace (s : Space) (q : Process) : Type 0 where
   pub pages : (page : ℕ) → IsPage (marks_in s.ranges.items page)
       (byte_in (get nat_cmp s.bytes page)) (q page)
+  pub top : (page : ℕ) → top_page ≤ page → q page ≡ None

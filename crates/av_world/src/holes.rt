@@ -1,6 +1,6 @@
 //! Which pages are mapped, and which are free.
 
-ghost use Rattle.std.specs.Prelude.{◌≡◌, ◌+◌, ◌<◌, ◌≤◌, ◌^◌, ◌-◌, ℕ};
+ghost use Rattle.std.specs.Prelude.{◌≡◌, ◌+◌, ◌<◌, ◌≤◌, ◌^◌, ◌-◌, ℕ, IfSome};
 ghost use Rattle.av_base.specs.Limits.{top_page};
 ghost use Rattle.av_vma.specs.Gap.{IsGap};
 ghost use Rattle.av_plain.specs.World.{Process, is_mapped, meets, pages_to_hole};
@@ -45,7 +45,8 @@ impl Space {
     pub fn gap(&self, n: u64) -> Option<u64>
         requires some { 0 < n }
         requires fits { n ≤ top_page }
-        ensures { (q : Process) → IsSpace self.now q → IsGap (is_mapped q) n result }
+        ensures fits { IfSome result (λ page. page + n ≤ top_page) }
+        ensures gap { (q : Process) → IsSpace self.now q → IsGap (is_mapped q) n result }
     {
         let mut from = TOP_PAGE - n;
         while from >= LOW_PAGE {
@@ -73,7 +74,8 @@ impl Space {
     /// How many of n pages from one on come before the first that isn't mapped.
     pub fn before_hole(&self, from: u64, n: u64) -> u64
         requires { from + n < 2 ^ 64 }
-        ensures { (q : Process) → IsSpace self.now q → result ≡ pages_to_hole q from n }
+        ensures most { result ≤ n }
+        ensures pages { (q : Process) → IsSpace self.now q → result ≡ pages_to_hole q from n }
     {
         let end = from + n;
         let mut at = from;

@@ -2,8 +2,9 @@
 //!
 //! Proved: a process's pages are those that the definitions have, after each call: pages that are
 //! mapped, unmapped, protected, marked or wiped (`Space::edit`), and processes that come and go
-//! (`Memories`). And what the definitions ask of them: whether a page may be accessed or is locked,
-//! how many pages come before a hole, the greatest gap. Bytes are not written yet.
+//! (`Memories`), a child's, and bytes that are written and read. And what the definitions ask of
+//! them: whether a page may be accessed or is locked, how many pages come before a hole or a locked
+//! page, the greatest gap.
 //!
 //! Pages are kept as ranges, so a call doesn't cost more where its own range is long. But it goes
 //! over all ranges of the process and, where it unmaps or wipes, over all its pages with bytes; and
@@ -12,10 +13,14 @@
 //! Only tested: nothing.
 #![tactic(auto)]
 
+mod bytes;
+mod child;
 mod edit;
 mod holes;
+mod locks;
 mod mapping;
 mod memories;
+mod questions;
 mod ranges;
 mod space;
 

@@ -1,6 +1,7 @@
 //! Pages are mapped, unmapped, protected and flagged.
 
-ghost use Rattle.std.specs.Prelude.{◌≡◌, ◌+◌, ◌<◌, ◌^◌, OnOk, Some};
+ghost use Rattle.std.specs.Prelude.{◌≡◌, ◌+◌, ◌<◌, ◌≤◌, ◌^◌, OnOk, Some};
+ghost use Rattle.av_base.specs.Limits.{top_page};
 ghost use Rattle.av_plain.specs.World.{Process, no_pages, wiped, with_change_on, with_page_flag};
 ghost use Rattle.av_plain.specs.World.{with_pages, with_prot_on, zeros};
 ghost use Rattle.av_world.specs.Space.{IsSpace};
@@ -46,7 +47,7 @@ impl Space {
 
     /// n pages from one on are mapped, with zeros and no flag. Without memory a part may be done.
     pub fn map(&mut self, from: u64, n: u64, prot: Prot) -> Result<(), AllocError>
-        requires { from + n < 2 ^ 64 }
+        requires { from + n ≤ top_page }
         ensures { OnOk result ((q : Process) → IsSpace self.old q
             → IsSpace self.new (with_pages q from n (λ _. Some (zeros prot)))) }
     {

@@ -43,7 +43,7 @@ fn add(made: &mut Vec<Range>, start: u64, end: u64, marks: Marks) -> Result<(), 
 }
 
 /// Adds a range, if it is mapped and has a page.
-fn add_mapped(
+pub fn add_mapped(
     made: &mut Vec<Range>,
     start: u64,
     end: u64,

@@ -7,7 +7,8 @@ use Rattle.av_trace.specs.declared.row.Row.{Row}
 use Rattle.av_spaces.specs.Spaces.{AreRising}
 use Rattle.av_plain.specs.Report.{range_of}
 use Rattle.av_report.specs.Report.{AreRuns}
-use Rattle.av_report.proofs.ReportRuns.{all_rows, own_first, own_rest, rising_rest, IsLeft, left-first, left-grown, left-begun, left-last, rising-runs}
+use Rattle.av_command_laws.proofs.JoinedRuns.{all_rows}
+use Rattle.av_report.proofs.ReportRuns.{own_first, own_rest, rising_rest, IsLeft, left-first, left-grown, left-begun, left-last, rising-runs}
 use Rattle.av_report.proofs.report.add_runs.Goals.{then-goes_on, else-goes_on+in_ok-push}
 use Rattle.av_report.proofs.report.add_runs.Goals as goal
 

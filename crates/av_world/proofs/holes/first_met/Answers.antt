@@ -1,4 +1,4 @@
-use Rattle.std.proofs.Common.{false, arith}
+use Rattle.std.proofs.Common.{false}
 use Rattle.av_world.proofs.HoleLaws.{met-first}
 use Rattle.av_world.proofs.holes.first_met.Goals as goal
 

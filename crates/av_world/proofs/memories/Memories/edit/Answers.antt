@@ -1,6 +1,6 @@
-use Rattle.std.proofs.Common.{◌≡◌, true, is_some, ap, subst, sym, ◌∙◌}
-use Rattle.av_plain.specs.World.{pages, process, set_process}
-use Rattle.av_world.specs.Memories.{AreSpaces, IsProcess, pages_after}
+use Rattle.std.proofs.Common.{subst, sym}
+use Rattle.av_plain.specs.World.{pages, set_process}
+use Rattle.av_world.specs.Memories.{AreSpaces, pages_after}
 use Rattle.av_world.proofs.SpaceLaws.{on-ok}
 use Rattle.av_world.proofs.WorldLaws.{dead, found, sorted-set, spaces-find, spaces-set, true-of}
 use Rattle.av_world.proofs.memories.Memories.edit.Goals as goal

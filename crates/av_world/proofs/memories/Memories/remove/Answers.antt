@@ -1,5 +1,4 @@
 use Rattle.std.proofs.Common.{subst, sym}
-use Rattle.std.specs.FinMap.Entries.{is_sorted-where_key}
 use Rattle.av_plain.specs.World.{end_process}
 use Rattle.av_world.specs.Memories.{AreSpaces}
 use Rattle.av_world.proofs.WorldLaws.{spaces-remove, sorted-end, true-of}

@@ -4,8 +4,8 @@ use Rattle.av_world.specs.Holes.{mapped_before_hole}
 use Rattle.av_world.proofs.HoleLaws.{hole-further, hole-here, hole-same}
 use Rattle.av_world.proofs.space.Space.before_hole.Goals as goal
 
-pub returns-in-None : goal.returns-in-None
-returns-in-None c = λ q h.
+pub returns-in-None-clause-pages : goal.returns-in-None-clause-pages
+returns-in-None-clause-pages c = λ q h.
     let rs = c.args.self.now.ranges.items in
     let end = c.args.from + c.args.n in
     let less = c.loop-at-test.true in
@@ -53,8 +53,8 @@ loop-at-preserved c =
         → (at - from) + ((min next end - at) + x) ≡ (min next end - from) + x
     added from at end next x a b d = omega (arith, a, b, d)
 
-pub returns : goal.returns
-returns c = λ q h.
+pub returns-clause-pages : goal.returns-clause-pages
+returns-clause-pages c = λ q h.
     let rs = c.args.self.now.ranges.items in
     let at = c.loop-at.at in
     let end = c.args.from + c.args.n in

@@ -1,4 +1,4 @@
-use Rattle.std.proofs.Common.{◌≡◌, ℕ, ◌+◌, ◌-◌, ◌≤◌}
+use Rattle.std.proofs.Common.{◌≡◌, ◌+◌, ◌-◌, ◌≤◌}
 use Rattle.std.specs.Prelude.{min}
 use Rattle.av_world.specs.Holes.{mapped_before_hole}
 use Rattle.av_world.proofs.space.Space.before_hole.Given as goal

@@ -1,12 +1,11 @@
 use Rattle.std.proofs.Common.{Some, None, ap, arith, subst, sym, ◌∙◌}
 use Rattle.av_vma.specs.Gap.{IsGap}
-use Rattle.av_plain.specs.World.{is_mapped}
 use Rattle.av_world.specs.Holes.{IsMet, has_page}
 use Rattle.av_world.proofs.HoleLaws.{mapped-is, room-met}
 use Rattle.av_world.proofs.space.Space.gap.Goals as goal
 
-pub returns-in-None : goal.returns-in-None
-returns-in-None c = λ q h. subst (λ t. IsGap t c.args.n (Some c.loop-from.from)) (λ i page. mapped-is c.args.self.now q page h i) (
+pub returns-in-None-clause-gap : goal.returns-in-None-clause-gap
+returns-in-None-clause-gap c = λ q h. subst (λ t. IsGap t c.args.n (Some c.loop-from.from)) (λ i page. mapped-is c.args.self.now q page h i) (
   record {
     lowest = c.loop-from-test.true;
     highest = c.loop-from.invariant.fits;
@@ -16,8 +15,8 @@ returns-in-None c = λ q h. subst (λ t. IsGap t c.args.n (Some c.loop-from.from
   c.loop-from.invariant.above,
 )
 
-pub returns-then-met-n : goal.returns-then-met-n
-returns-then-met-n c = λ q h. subst (λ t. IsGap t c.args.n None) (λ i page. mapped-is c.args.self.now q page h i) (λ page room.
+pub returns-then-met-n-clause-gap : goal.returns-then-met-n-clause-gap
+returns-then-met-n-clause-gap c = λ q h. subst (λ t. IsGap t c.args.n None) (λ i page. mapped-is c.args.self.now q page h i) (λ page room.
     let low = c.loop-from.invariant.above page room in
     let below = room-met c.as_slice.result.now c.args.self.now.ranges.items c.args.n c.loop-from.from c.in-Some.met page c.as_slice.ensures.value c.in-Some.ensures.1 room low in
     let small = c.if-met-n.true in
@@ -32,8 +31,8 @@ loop-from-preserved c = record {
       omega (arith, below);
 }
 
-pub returns : goal.returns
-returns c = λ q h. subst (λ t. IsGap t c.args.n None) (λ i page. mapped-is c.args.self.now q page h i) (λ page room.
+pub returns-clause-gap : goal.returns-clause-gap
+returns-clause-gap c = λ q h. subst (λ t. IsGap t c.args.n None) (λ i page. mapped-is c.args.self.now q page h i) (λ page room.
     let low = c.loop-from.invariant.above page room in
     let least = room.lowest in
     let small = c.loop-from-test.false in

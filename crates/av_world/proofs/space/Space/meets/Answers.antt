@@ -1,5 +1,5 @@
-use Rattle.std.proofs.Common.{ap, is_some, subst, ◌∙◌}
-use Rattle.av_world.specs.Holes.{IsMet, meets_page}
+use Rattle.std.proofs.Common.{ap, ◌∙◌}
+use Rattle.av_world.specs.Holes.{meets_page}
 use Rattle.av_world.proofs.HoleLaws.{meets-is, meets-same}
 use Rattle.av_world.proofs.space.Space.meets.Goals as goal
 

@@ -1,4 +1,4 @@
-use Rattle.std.proofs.Common.{◌≡◌, ◌+◌, ◌||◌, nat_le, nat_lt, refl, rules}
+use Rattle.std.proofs.Common.{◌+◌, ◌||◌, nat_le, nat_lt, refl, rules}
 use Rattle.std.proofs.lemmas.Map.Made.{filter_same_pairs}
 use Rattle.av_world.proofs.SpaceLaws.{bytes-kept, pages-wiped}
 use Rattle.av_world.proofs.space.Space.wipe.Goals as goal

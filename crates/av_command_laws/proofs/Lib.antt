@@ -1,0 +1,3 @@
+pub mod JoinedRuns
+pub mod NextMove
+pub mod OneRuns

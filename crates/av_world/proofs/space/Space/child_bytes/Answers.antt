@@ -1,0 +1,14 @@
+use Rattle.std.proofs.Common.{rules}
+use Rattle.std.specs.List.{each_same}
+use Rattle.std.proofs.lemmas.Map.Made.{filter_same_pairs}
+use Rattle.av_world.specs.Child.{bytes_go}
+use Rattle.av_world.specs.Space.{marks_in}
+use Rattle.av_world.proofs.ChildLaws.{copied-where}
+use Rattle.av_world.proofs.space.Space.child_bytes.Goals as goal
+
+pub returns : goal.returns
+returns c = λ page.
+    let rs = c.args.self.now.ranges.items in
+    copied-where _ (λ p q r. (r.0, each_same p.1.items q.1.items r.1.0)) (λ page. bytes_go (marks_in rs page))
+    c.args.self.now.bytes.entries c.in_ok-bytes.bytes.entries c.retain.new.self.entries page c.in_ok-bytes.ensures.cases
+    (filter_same_pairs _ (λ e. bytes_go (marks_in rs e.0)) _ (λ k v b w f' t. search rules) _ _ c.retain.ensures.filtered)
