@@ -122,7 +122,7 @@ cut-one unit before now took first = record {
     by None h = h
     by (Some rest) h = ap (λ u. units_of (u ++ rest)) (append-nil unit) ∙ h
 
-bytes-more : (units : List (List ℕ)) (unit : List ℕ) → bytes_of (units ++ unit ∷ []) ≡ bytes_of units ++ unit
+pub bytes-more : (units : List (List ℕ)) (unit : List ℕ) → bytes_of (units ++ unit ∷ []) ≡ bytes_of units ++ unit
 bytes-more [] unit = append-nil unit
 bytes-more (u ∷ us) unit = ap (λ l. u ++ l) (bytes-more us unit) ∙ sym (append_assoc u (bytes_of us) unit)
 

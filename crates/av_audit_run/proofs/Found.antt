@@ -11,9 +11,9 @@ use Rattle.av_audit_laws.proofs.UnitLaws.{leaves-one}
 use Rattle.av_audit_input.specs.Input.{IsEnded}
 use Rattle.av_audit_input.specs.Trace.{EndsTrace}
 use Rattle.av_audit_input.specs.Unit.{bytes_of, units_of, Cuts}
-use Rattle.av_audit_run.specs.declared.audit.Finding.{Finding}
-use Rattle.av_audit_run.specs.declared.audit.Finding.TheVariants as findings
-use Rattle.av_audit_run.specs.Audit.{AreLegal, Audits, Finds, IsAuditOf, IsFoundOf, IsFront, IsUnknown, IsWrong, Judges, StopsAt}
+use Rattle.av_audit_run.specs.declared.transcript.Finding.{Finding}
+use Rattle.av_audit_run.specs.declared.transcript.Finding.TheVariants as findings
+use Rattle.av_audit_run.specs.Transcript.{AreLegal, Audits, Finds, IsAuditOf, IsFoundOf, IsFront, IsUnknown, IsWrong, Judges, StopsAt}
 
 -- what the others are legal from
 behind : (m : Setting) (w : World) (l : Ledger) (done others : List Command) (legal rest : List (List ℕ)) (w1 w' : World) (l1 l' : Ledger)

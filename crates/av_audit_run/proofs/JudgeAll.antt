@@ -1,15 +1,16 @@
 -- The units that were judged so far, and where the judging ends.
-use Rattle.std.proofs.Common.{◌≡◌, ℕ, zero, suc, ◌+◌, ◌<◌, ◌≤◌, Bool, true, false, List, [], ◌∷◌, ◌++◌, ◌⊎◌, length, length-append, take, drop, Option, Some, None, refl, sym, ap, subst, ◌∙◌, arith, append-nil, inl, inr}
+use Rattle.std.proofs.Common.{◌≡◌, ℕ, zero, suc, ◌+◌, ◌<◌, ◌≤◌, Bool, true, false, List, [], ◌∷◌, ◌++◌, ◌⊎◌, length, length-append, take, take-add, drop, drop-cons, get_or, Option, Some, None, refl, sym, ap, subst, ◌∙◌, arith, append-nil, inl, inr}
 use Rattle.std.specs.List.{AllByRecursion}
 use Rattle.std.proofs.lemmas.List.{take-append-drop}
 use Rattle.av_io.specs.Source.{Took, in_front}
 use Rattle.av_ports.specs.Ports.{PortsView, undone}
-use Rattle.av_ports.proofs.Bytes.{in_front-then, take-add}
+use Rattle.av_ports.proofs.Bytes.{in_front-then}
 use Rattle.av_trace.specs.declared.command.Command.{Command}
 use Rattle.av_plain.specs.Ledger.{Ledger, Setting, first_ledger}
 use Rattle.av_plain.specs.World.{World}
 use Rattle.av_audit_laws.specs.Unit.{AreUnits, IsUnit, Leaves}
-use Rattle.std.specs.Prelude.{unwrap_or}
+use Rattle.std.specs.Prelude.{option_to_list, unwrap_or}
+use Rattle.av_audit_input.specs.Trace.{AreSaid}
 use Rattle.av_audit.specs.Judge.{IsAt, IsRight}
 use Rattle.av_audit.specs.declared.auditor.Verdict.{Verdict}
 use Rattle.av_audit.specs.declared.auditor.Verdict.TheVariants as verdicts
@@ -18,9 +19,9 @@ use Rattle.av_audit_input.specs.Unit.{bytes_of, most_bytes, Cuts, IsOne, StopsUn
 use Rattle.av_audit_input.specs.declared.input_err.InputErr.{InputErr}
 use Rattle.av_audit_input.specs.declared.input_err.InputErr.TheVariants as input
 use Rattle.av_audit_input.proofs.UnitLaws.{bytes-more, cut-more, cut-none}
-use Rattle.av_audit_run.specs.declared.audit.Finding.{Finding}
-use Rattle.av_audit_run.specs.Audit.{found_of, AreLegal, BreaksOff, Finds, IsOver, IsUnknown, IsWrong, Judges, StopsAt, StopsReading}
-use Rattle.av_audit_run.specs.declared.audit.Finding.TheVariants as findings
+use Rattle.av_audit_run.specs.declared.transcript.Finding.{Finding}
+use Rattle.av_audit_run.specs.Transcript.{found_of, AreLegal, BreaksOff, Finds, IsOver, IsUnknown, IsWrong, Judges, StopsAt, StopsReading}
+use Rattle.av_audit_run.specs.declared.transcript.Finding.TheVariants as findings
 
 units-more : (m : Setting) (w : World) (l : Ledger) (cs : List Command) (us : List (List ℕ)) (w' w'' : World) (l' l'' : Ledger) (c : Command)
     (u : List ℕ) → AreUnits m w l cs us w' l' → Leaves m w' l' c u w'' l'' → AreUnits m w l (cs ++ c ∷ []) (us ++ u ∷ []) w'' l''
@@ -276,3 +277,16 @@ pub too-many : (m : Setting) (commands : List Command) (number : ℕ) (before no
 too-many m commands number before now after left left' auditor unit Ended h t is =
     wrong m commands number before now left auditor h after left' unit t Ended
     (subst (λ cs. IsWrong m h.world h.ledger cs (unit ∷ [])) (sym is) tt)
+
+-- a trace has no more commands than lines
+pub said-few : (lines : List (List ℕ)) (cs : List Command) → AreSaid lines cs → length cs ≤ length lines
+said-few [] cs h = omega (arith, ap length h)
+said-few (line ∷ lines) cs h = by h.0 (ap length h.2 ∙ length-append (option_to_list h.0) h.1) (said-few lines h.1 h.4)
+  where
+    by : (said : Option Command) → length cs ≡ length (option_to_list said) + length h.1 → length h.1 ≤ length lines → length cs ≤ length (line ∷ lines)
+    by None e few = omega (arith, e, few)
+    by (Some c) e few = omega (arith, e, few)
+
+-- the command at a place
+pub at-place : (cs : List Command) (k : ℕ) (c : Command) → k < length cs → c ≡ get_or cs k c → drop k cs ≡ c ∷ drop (suc k) cs
+at-place cs k c below is = drop-cons cs k c below ∙ ap (λ x. x ∷ drop (suc k) cs) (sym is)

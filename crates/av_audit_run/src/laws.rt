@@ -4,8 +4,8 @@ ghost use Rattle.std.specs.Prelude.{◌≡◌, ℕ, List, Some};
 ghost use Rattle.av_ports.specs.Ports.{PortsView};
 ghost use Rattle.av_trace.specs.declared.command.Command.{Command};
 ghost use Rattle.av_plain.specs.Ledger.{Setting};
-ghost use Rattle.av_audit_run.specs.Audit.{AreLegal, Audits, IsAuditOf, IsWrong, StopsAt};
-ghost use Rattle.av_audit_run.specs.declared.audit.Finding.{Finding};
+ghost use Rattle.av_audit_run.specs.Transcript.{AreLegal, Audits, IsAuditOf, IsWrong, StopsAt};
+ghost use Rattle.av_audit_run.specs.declared.transcript.Finding.{Finding};
 
 /// Units that are legal for the commands, one for each, have no first one that is wrong: none that
 /// isn't legal, is wanting or comes behind the last command. So an audit that ends with the one

@@ -10,8 +10,8 @@
 //! Only tested: that memory suffices.
 #![tactic(auto)]
 
-mod audit;
 mod laws;
+mod transcript;
 
-pub use audit::{Finding, audit};
 pub use laws::{audits_of_inputs, legal_or_stopped};
+pub use transcript::{Finding, audit};

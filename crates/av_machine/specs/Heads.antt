@@ -6,6 +6,7 @@ use Rattle.av_book.specs.declared.machine.Layout.{Layout}
 use Rattle.av_book.specs.declared.machine.Machine.{Machine}
 use Rattle.av_swapdev.specs.Header.{header_of}
 use Rattle.av_plain.specs.Device.{Device, setting_of, without_fault}
+use Rattle.av_plain.specs.Ledger.{Setting}
 
 -- what a page 0 says of an area with so many pages
 abbrev pub IsLayoutIn : List ℕ → ℕ → Option Layout → Type 0
@@ -25,9 +26,12 @@ pub record OnlyFails (old new : Device) : Type 0 where
   pub failures : old.failures ≤ new.failures
   pub history : new.history ≡ old.history
 
--- The setting of the machine is that of so many frames over the device. Where the device doesn't
--- tell its pages, it is that over some that its pages may be.
-abbrev pub IsMachineOf : ℕ → Device → Machine → Type 0
-IsMachineOf frames device machine =
+-- The setting is that of so many frames over the device. Where the device doesn't tell its pages,
+-- it is that over some that its pages may be.
+abbrev pub IsSettingOf : ℕ → Device → Setting → Type 0
+IsSettingOf frames device m =
     (told : ℕ → ℕ → List ℕ) × IfSome device.pages (λ pages. pages ≡ told)
-    × (setting_of_machine machine ≡ setting_of frames (record device { pages = Some told }))
+    × (m ≡ setting_of frames (record device { pages = Some told }))
+
+abbrev pub IsMachineOf : ℕ → Device → Machine → Type 0
+IsMachineOf frames device machine = IsSettingOf frames device (setting_of_machine machine)

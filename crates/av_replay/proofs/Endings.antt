@@ -383,6 +383,9 @@ module _ (n : ℕ) (past : Past) (ahead rest : List ℕ) (old now new : PortsVie
       (record { waits = waits; part = nil_is_line rest f.0; untold = f.1 }) f.2
   finishes statuses.Usage f = absurd f
   finishes statuses.AttachFault f = absurd f
+  finishes (statuses.Illegal number) f = absurd f
+  finishes statuses.TooLong f = absurd f
+  finishes (statuses.Unjudged number) f = absurd f
   finishes (statuses.BadLine number) f = absurd f
   finishes statuses.Memory f = absurd f
 
@@ -544,6 +547,9 @@ module _ (n : ℕ) (old now : PortsView) (kernel : Machine) (sink : SinkView) wh
       named statuses.WriteFault last f.0 (unflushed was so statuses.TooMany h.run h.rest h.written h.replays (only_told h.told (λ e. cc)) h.handed_back h.ends.0 h.ends.1 f.1)
   replayed statuses.Usage last f h was memory so none = absurd h.ends.0
   replayed statuses.AttachFault last f h was memory so none = absurd h.ends.0
+  replayed (statuses.Illegal number) last f h was memory so none = absurd h.ends.0
+  replayed statuses.TooLong last f h was memory so none = absurd h.ends.0
+  replayed (statuses.Unjudged number) last f h was memory so none = absurd h.ends.0
   replayed statuses.ReadFault last f h was memory so none =
       named statuses.ReadFault last f.0 (same_sink statuses.ReadFault f.1
       (record { headline = h; unfailed = was; flushed = record { none_kept = none refl; flushed = so } }))

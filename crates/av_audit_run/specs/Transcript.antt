@@ -16,8 +16,8 @@ use Rattle.av_audit_input.specs.declared.input_err.InputErr.{InputErr}
 use Rattle.av_audit_input.specs.declared.input_err.InputErr.TheVariants as input
 use Rattle.av_audit.specs.declared.auditor.Verdict.{Verdict}
 use Rattle.av_audit.specs.declared.auditor.Verdict.TheVariants as verdicts
-use Rattle.av_audit_run.specs.declared.audit.Finding.{Finding}
-use Rattle.av_audit_run.specs.declared.audit.Finding.TheVariants as findings
+use Rattle.av_audit_run.specs.declared.transcript.Finding.{Finding}
+use Rattle.av_audit_run.specs.declared.transcript.Finding.TheVariants as findings
 
 -- ---- where units are no transcript
 

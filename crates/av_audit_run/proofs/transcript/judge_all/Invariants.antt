@@ -4,7 +4,7 @@ use Rattle.av_book.specs.Machine.{setting_of}
 use Rattle.av_ports.specs.Ports.{AreUnfailed, undone}
 use Rattle.av_audit_input.specs.Input.{IsOpen, OnlyReads}
 use Rattle.av_audit_run.proofs.JudgeAll.{Judged}
-use Rattle.av_audit_run.proofs.audit.judge_all.Given as goal
+use Rattle.av_audit_run.proofs.transcript.judge_all.Given as goal
 
 abbrev pub invariant-loop-index : goal.invariant-loop-index
 invariant-loop-index g l = record {

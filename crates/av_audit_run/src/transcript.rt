@@ -9,7 +9,7 @@ ghost use Rattle.av_audit.specs.declared.auditor.Phase.TheVariants.{Going};
 ghost use Rattle.av_audit_input.specs.Input.{FailsOnly, IsEnded, IsNoPortErr, OnlyReads};
 ghost use Rattle.av_audit_input.specs.Trace.{most_lines};
 ghost use Rattle.av_audit_input.specs.Unit.{most_bytes};
-ghost use Rattle.av_audit_run.specs.Audit.{AuditStops, Audits, BreaksOff, Judges, found_of};
+ghost use Rattle.av_audit_run.specs.Transcript.{AuditStops, Audits, BreaksOff, Judges, found_of};
 
 use av_audit::{Auditor, Verdict};
 use av_audit_input::{Extent, InputErr, read_trace, read_unit};
@@ -70,8 +70,9 @@ fn judge_all<P: Ports>(
             return Ok(Finding::Illegal(number));
         }
         let verdict = auditor.judge(command, unit.as_slice())?;
-        if let Some(finding) = found(verdict, number) {
-            return Ok(finding);
+        match found(verdict, number) {
+            Some(finding) => return Ok(finding),
+            None => {}
         }
     }
     if read_unit(ports, pending, extent, unit)? {
