@@ -48,7 +48,7 @@ CARRIERS = {
     "av_events": "touch zap_all zap_process zap_range fork move_entries turn_on turn_off",
     "av_judge": "seeks takes fetches swaps_in completes outcomes ages judges_complete judges_age "
     "judges_reclaim judges_exit judges_munmap",
-    "av_report_judge": "judges_entry judges_slot",
+    "av_report_judge": "judges_entry judges_maps judges_rmap judges_slot judges_stat",
     "av_world": "Memories Space Range Marks Edit Change",
     "av_access_judge": "accesses touches comes makes unneeded drops takes_behind sparing",
     "av_audit": "Auditor",

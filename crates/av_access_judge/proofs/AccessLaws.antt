@@ -11,8 +11,9 @@ use Rattle.av_plain.specs.Event.{Event, Used, after_all, after_notes, after_use,
 use Rattle.av_plain.specs.Fault.{Stop, Touches}
 use Rattle.av_plain.specs.Ledger.{Ledger, Setting}
 use Rattle.av_plain.specs.World.{World}
-use Rattle.av_plain.proofs.Access.{after_all-append, note_events-all, notes_of-append, notes_of-note_events}
+use Rattle.av_plain.proofs.Access.{after_all-append, note_events-all, notes_of-note_events}
 use Rattle.av_audit_laws.proofs.ToldPage.{touches-told}
+use Rattle.av_audit_laws.proofs.ToldReply.{served-notes}
 use Rattle.av_judge.specs.Finds.{Stand}
 use Rattle.av_judge.specs.Stage.{Meets}
 use Rattle.av_judge.proofs.Finds.{front-of, go-on, slice-cons, stand-both, stand-parts}
@@ -20,14 +21,6 @@ use Rattle.av_access_judge.specs.Access.{Ends}
 use Rattle.av_access_judge.proofs.TouchLaws.{Served, Stops}
 
 -- ---- events and their notes
-
--- the notes of a page that is served, and then those behind
-served-notes : (write : Bool) (k : Key) (notes : List Note) (later : List Event)
-    → notes_of (page_events write k notes None ++ later) ≡ notes ++ notes_of later
-served-notes write k notes later =
-    notes_of-append (page_events write k notes None) later
-    ∙ ap (λ ns. ns ++ notes_of later) (notes_of-append (note_events notes) (Used write k ∷ [])
-    ∙ append-nil (notes_of (note_events notes)) ∙ notes_of-note_events notes)
 
 -- the ledger after a page that is served
 served-after : (l : Ledger) (write : Bool) (k : Key) (notes : List Note)

@@ -1,17 +1,16 @@
 -- A page is served, part by part.
-use Rattle.std.proofs.Common.{◌≡◌, ◌⊎◌, inl, inr, ℕ, Bool, true, false, Option, Some, None, List, [], ◌∷◌, ◌++◌, refl, sym, ap, subst, ◌∙◌, append_assoc}
+use Rattle.std.proofs.Common.{◌≡◌, ◌⊎◌, inl, inr, ℕ, Bool, true, false, Option, Some, None, List, [], ◌++◌, refl, sym, ap, subst, ◌∙◌, append_assoc}
 use Rattle.av_base.specs.Keys.{Key}
 use Rattle.av_base.specs.Page.{address_of}
-use Rattle.av_base.specs.declared.slot.Slot.{Slot}
 use Rattle.av_trace.specs.declared.note.Note.{Note}
-use Rattle.av_trace.specs.declared.note.Note.TheVariants.{New, Copied, Loaded, Mapped}
+use Rattle.av_trace.specs.declared.note.Note.TheVariants.{New, Copied}
 use Rattle.av_trace.specs.declared.reply.OutOf.{OutOf}
 use Rattle.av_plain.specs.Event.{after_notes}
 use Rattle.av_plain.specs.Fault.{ComesIn, FindsNone, IsMade, Need, Ready, ZeroPage, NewPage, CopyOnWrite, SwapIn, MapCached, Serves, Sparing, Stop, Denied, Starved, Lost, drop_at, need, was_slot}
 use Rattle.av_plain.specs.Ledger.{Ledger, Setting, entry}
 use Rattle.av_plain.specs.Pass.{Seeks}
 use Rattle.av_plain.proofs.Access.{after_notes-append}
-use Rattle.av_audit_laws.proofs.ToldPage.{comes-told, made-told}
+use Rattle.av_audit_laws.proofs.ToldPage.{comes-goes-on, comes-told, made-told}
 use Rattle.av_audit_laws.proofs.ToldPass.{taken-goes-on}
 use Rattle.av_judge.specs.Finds.{Reads, Stand}
 use Rattle.av_judge.specs.Stage.{Meets}
@@ -128,14 +127,6 @@ kept-seeks m sp l Denied notes h = absurd h
 kept-seeks m sp l (Starved out) notes h = h.0
 kept-seeks m sp l Lost notes h = h.0
 
--- a page that comes in isn't kept out
-comes-apart : (m : Setting) (sp : Sparing) (l : Ledger) (k : Key) (s : Slot) (a b u : List Note) → ComesIn m sp l k (SwapIn s) a
-    → Seeks m (sp l None) l b → a ++ u ≡ b → ⊥
-comes-apart m sp l k s a b u h seeks e =
-    let mapped = Mapped k.0 (address_of k.1) h.1 in
-    taken-goes-on m (sp l None) l h.0 b (mapped ∷ u) (Loaded s) h.2 seeks
-    (sym (append_assoc h.0 (mapped ∷ []) u) ∙ (λ i. sym h.4 i ++ u) ∙ e)
-
 module _ (m : Setting) (sp : Sparing) (l : Ledger) (write : Bool) (k : Key) where
   abbrev came : Bool
   came = was_slot (need_at write l k)
@@ -170,7 +161,7 @@ module _ (m : Setting) (sp : Sparing) (l : Ledger) (write : Bool) (k : Key) wher
     end = λ u stop a b h g. ended stop a b h g;
     told = λ u v a b x y h g e. (refl, comes-told m sp l k (need_at write l k) a b x y h g e);
     apart = λ u stop a b v h g e.
-        comes-apart m sp l k g.0 a b v (subst (λ n. ComesIn m sp l k n a) g.1 h) (kept-seeks m sp l stop b g.2) e;
+        comes-goes-on m sp l k g.0 a b v (subst (λ n. ComesIn m sp l k n a) g.1 h) (kept-seeks m sp l stop b g.2) e;
   }
     where
       starved : (ns sought : List Note) (out : OutOf) → ns ≡ sought → FindsNone m sp l (need_at write l k) sought out

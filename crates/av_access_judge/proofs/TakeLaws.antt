@@ -1,6 +1,6 @@
 -- A frame is taken, part by part.
 use Rattle.std.proofs.Common.{◌≡◌, ◌⊎◌, inl, inr, ℕ, Bool, true, false, not, ◌&&◌, Option, Some, None, List, []}
-use Rattle.std.proofs.Common.{◌∷◌, ◌++◌, length, refl, sym, ap, subst, ◌∙◌, append-nil, arith}
+use Rattle.std.proofs.Common.{◌∷◌, ◌++◌, length, refl, sym, ap, subst, ◌∙◌, arith}
 use Rattle.std.specs.Prelude.{◌==◌}
 use Rattle.std.proofs.lemmas.Bool.{eqb-true}
 use Rattle.av_base.specs.Keys.{Key}
@@ -9,7 +9,6 @@ use Rattle.av_trace.specs.declared.note.Note.{Note}
 use Rattle.av_trace.specs.declared.note.Note.TheVariants.{Zeroed}
 use Rattle.av_trace.specs.declared.reply.OutOf.{OutOf}
 use Rattle.av_trace.specs.Print.{notes_text}
-use Rattle.av_plain.specs.Event.{after_notes}
 use Rattle.av_plain.specs.Fault.{FindsNone, IsMade, Need, Ready, ZeroPage, NewPage, CopyOnWrite, Sparing, pinned_by}
 use Rattle.av_plain.specs.Ledger.{Ledger, Setting, has_free}
 use Rattle.av_plain.specs.Pass.{Seeks, Spared, TakesFor, out_of}
@@ -20,8 +19,7 @@ use Rattle.av_judge.specs.Stage.{Meets}
 use Rattle.av_judge.specs.declared.notes.Taking.{Taking}
 use Rattle.av_judge.specs.declared.notes.Taking.TheVariants as takings
 use Rattle.av_judge.proofs.Finds.{stand-none}
-use Rattle.av_judge.proofs.StageLaws.{InStages, meets-neither, meets-then}
-use Rattle.av_audit_laws.proofs.ToldPass.{seeks-told}
+use Rattle.av_judge.proofs.BehindLaws.{sought-then, unsought}
 use Rattle.av_access_judge.specs.Take.{AreTaken, HasNoFrame, IsNoneFree, IsStarved, MakesFrame}
 
 -- ---- behind the pass
@@ -57,42 +55,16 @@ left-some m l (b ∷ t) false free e f h over full = cc
 
 -- ---- the pass, and what is behind it
 
-abbrev Never : Unit {0} → List Note → Type 0
-Never u notes = ⊥
-
-pub take-stages : (m : Setting) (sp : Spared) (l : Ledger) (taking : Taking)
-    → InStages (AreTaken m sp l taking) (IsStarved m sp l) (λ (u : Unit {0}). Seeks m sp l) Never
-    (λ u a. IsTakenFree m (after_notes l a) taking) (λ u a. IsNoneFree m (after_notes l a))
-take-stages m sp l taking = record {
-  split = λ f ns h. (tt, h.0, h.1, h.2, h.3, h.4);
-  join = λ u f a b h g. (a, b, h, g, refl);
-  stop = λ free ns h. inr (tt, ns, [], h.0, (h.1, refl), sym (append-nil ns));
-  halt = λ free ns h. absurd h;
-  end = λ u free a b h g. (
-    subst (Seeks m sp l) (sym (nothing a b g.1)) h,
-    ap (λ ns. has_free m (after_notes l ns)) (nothing a b g.1) ∙ g.0,
-  );
-  told = λ u v a b x y h g e. (refl, seeks-told m sp l a b x y h g e);
-  apart = λ u free a b x h g e. g;
-}
-  where
-    nothing : (a b : List Note) → b ≡ [] → a ++ b ≡ a
-    nothing a b e = ap (λ r. a ++ r) e ∙ append-nil a
-
 pub take-unsought : (m : Setting) (sp : Spared) (l l1 l' : Ledger) (taking : Taking) (bytes mid rest : List ℕ)
     → Reads (Seeks m sp l) l bytes false l1 mid → Meets (AreTaken m sp l taking) (IsStarved m sp l) l bytes None l' rest
 take-unsought m sp l l1 l' taking bytes mid rest none =
-    meets-neither (AreTaken m sp l taking) (IsStarved m sp l) (λ (u : Unit {0}). Seeks m sp l) Never
-    (λ u a. IsTakenFree m (after_notes l a) taking) (λ u a. IsNoneFree m (after_notes l a)) (take-stages m sp l taking) l l1 l' bytes mid rest
-    (record { goes = λ u notes more h st. none notes more h st; stops = λ free notes h st. h })
+    unsought m sp l (λ n. IsTakenFree m n taking) (λ n (u : Unit {0}). has_free m n ≡ false) l1 l' bytes mid rest none
 
 pub take-sought : (m : Setting) (sp : Spared) (l l1 l' : Ledger) (taking : Taking) (bytes mid rest : List ℕ) (found : Option (ℕ ⊎ Unit {0}))
     → Reads (Seeks m sp l) l bytes true l1 mid → Meets (IsTakenFree m l1 taking) (IsNoneFree m l1) l1 mid found l' rest
     → Meets (AreTaken m sp l taking) (IsStarved m sp l) l bytes found l' rest
 take-sought m sp l l1 l' taking bytes mid rest found first second =
-    meets-then (AreTaken m sp l taking) (IsStarved m sp l) (λ (u : Unit {0}). Seeks m sp l) Never
-    (λ u a. IsTakenFree m (after_notes l a) taking) (λ u a. IsNoneFree m (after_notes l a)) (take-stages m sp l taking) l l1 l' bytes mid rest tt found
-    first (λ a h e. subst (λ n. Meets (IsTakenFree m n taking) (IsNoneFree m n) l1 mid found l' rest) e second)
+    sought-then m sp l (λ n. IsTakenFree m n taking) (λ n (u : Unit {0}). has_free m n ≡ false) l1 l' bytes mid rest found first second
 
 -- ---- a page gets a frame
 

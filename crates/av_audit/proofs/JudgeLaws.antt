@@ -1,6 +1,7 @@
 -- Units of commands that have one reply.
 use Rattle.std.proofs.Common.{◌≡◌, ℕ, Bool, true, false, cond, List, [], Some, None, refl, sym, ap, subst, ◌∙◌}
-use Rattle.std.specs.Prelude.{◌+◌, ◌∷◌, ◌||◌, ◌==◌, MatchBool, MatchOption, is_some, nat_lt, not}
+use Rattle.std.specs.Prelude.{◌+◌, ◌∷◌, ◌||◌, ◌==◌, IfOk, MatchBool, MatchOption, is_some, nat_lt, not, Result, Ok, Err}
+use Rattle.std.specs.declared.alloc.AllocError.{AllocError}
 use Rattle.av_trace.specs.declared.command.Command.{Command}
 use Rattle.av_trace.specs.declared.command.Command.TheVariants.{Age, Complete, Munmap, Spawn}
 use Rattle.av_trace.specs.declared.reply.Errno.{Errno}
@@ -18,9 +19,12 @@ use Rattle.av_plain.specs.Load.{after_loads, with_loads}
 use Rattle.av_plain.specs.Refusal.{Refuses, refusal, tests, top}
 use Rattle.av_plain.specs.Step.{Follows, IsLegal, next, next_world}
 use Rattle.av_plain.specs.World.{World, lives, no_pages, set_process}
+use Rattle.av_plain.specs.Sound.{AllSound}
 use Rattle.av_plain.proofs.Refusal.{refused-next}
+use Rattle.av_plain.proofs.Sound.{soundness-stays}
 use Rattle.av_audit_laws.specs.Unit.{IsUnit, Leaves}
 use Rattle.av_book.specs.Book.{ledger_of}
+use Rattle.av_book.specs.Machine.{setting_of}
 use Rattle.av_book.specs.declared.book.Book.{Book}
 use Rattle.av_judge.specs.Says.{SaysOnly}
 use Rattle.av_judge.specs.Verdict.{IsVerdict}
@@ -121,16 +125,35 @@ spawn-seen m w l p unit legal new told is says now =
 
 -- ---- what the auditor says
 
-pub seen-right : (m : Setting) (w : World) (l : Ledger) (command : Command) (unit : List ℕ) (legal : Bool) (new : Auditor)
-    → IsSeen m w l command unit legal new.memories → l ≡ ledger_of new.book
-    → IsRight m w l command unit (verdict_of legal) new
-seen-right m w l command unit true new h same = (h.0, l, h.1, record { world = h.2; ledger = same })
-seen-right m w l command unit false new h same = h
+-- memories and ledger that a legal unit leaves are sound
+leaves-sound : (m : Setting) (w : World) (l : Ledger) (command : Command) (unit : List ℕ) (w' : World) (l' : Ledger)
+    → AllSound m w l → Leaves m w l command unit w' l' → AllSound m w' l'
+leaves-sound m w l command unit w' l' sound h =
+    subst (λ w'. AllSound m w' l') (sym h.3)
+    (subst (AllSound m (next_world m w l h.1 command h.0.answer)) (sym h.4)
+    (soundness-stays m w l command h.0 h.1 sound h.2.legal))
 
 pub left-right : (m : Setting) (w : World) (l : Ledger) (command : Command) (unit : List ℕ) (legal : Bool) (new : Auditor)
-    → IsLeft m w l command unit legal new.memories new.book → IsRight m w l command unit (verdict_of legal) new
-left-right m w l command unit true new h = (h.0, ledger_of new.book, h.1, record { world = h.2; ledger = refl })
-left-right m w l command unit false new h = h
+    → m ≡ setting_of new.machine → AllSound m w l → IsLeft m w l command unit legal new.memories new.book
+    → IsRight m w l command unit (verdict_of legal) new
+left-right m w l command unit true new same sound h = (
+  h.0,
+  ledger_of new.book,
+  h.1,
+  record {
+    world = h.2;
+    ledger = refl;
+    sound = subst (λ m. AllSound m h.0 (ledger_of new.book)) same
+        (leaves-sound m w l command unit h.0 (ledger_of new.book) sound h.1);
+  },
+)
+left-right m w l command unit false new same sound h = h
+
+-- a command that changes no entry
+pub seen-left : (m : Setting) (w : World) (command : Command) (unit : List ℕ) (legal : Bool) (memories : Memories) (book : Book)
+    → IsSeen m w (ledger_of book) command unit legal memories → IsLeft m w (ledger_of book) command unit legal memories book
+seen-left m w command unit true memories book h = h
+seen-left m w command unit false memories book h = h
 
 -- what is said of one command is said of the same
 pub right-is : (m : Setting) (w : World) (l : Ledger) (command other : Command) (unit : List ℕ) (verdict said : Verdict) (new : Auditor)
@@ -176,21 +199,14 @@ alive m w l p a len h = by (lives w p) h
     by true e = refl
     by false e = cc
 
--- a command that changes no memories
-pub book-right : (m : Setting) (w : World) (l : Ledger) (command : Command) (unit : List ℕ) (legal : Bool) (new : Auditor)
-    → is_some m.headers ≡ true → ((v : World) (answer : Answer) → next v command answer ≡ v)
-    → IsVerdict m w l command unit legal (ledger_of new.book) → IsWorld new.memories w
-    → IsRight m w l command unit (verdict_of legal) new
-book-right m w l command unit true new told stays h at = (
-  w,
-  ledger_of new.book,
-  (
-    h.reply,
-    h.events,
-    record { form = h.form; text = h.text; legal = h.legal },
-    sym (stays (with_loads m w l h.events) h.reply.answer ∙ loads-told m w l h.events told),
-    h.after,
-  ),
-  record { world = at; ledger = refl },
-)
-book-right m w l command unit false new told stays h at = λ u. h u.0 u.1 u.2.form u.2.text u.2.legal
+-- ---- of a call that may want memory
+
+-- what it ensures turns into what is asked
+pub if-ok : (P Q : Bool → Type 0) (r : Result Bool AllocError) → ((legal : Bool) → P legal → Q legal) → IfOk r P → IfOk r Q
+if-ok P Q (Ok legal) turns h = turns legal h
+if-ok P Q (Err e) turns h = tt
+
+-- what is left by one command is left by the same
+pub left-is : (m : Setting) (w : World) (l : Ledger) (command other : Command) (unit : List ℕ) (legal : Bool) (memories : Memories) (book : Book)
+    → other ≡ command → IsLeft m w l command unit legal memories book → IsLeft m w l other unit legal memories book
+left-is m w l command other unit legal memories book same h = subst (λ c. IsLeft m w l c unit legal memories book) (sym same) h

@@ -1,1 +1,10 @@
 pub mod JudgeLaws
+pub mod SwapLaws
+pub mod KnownUnits
+pub mod ShownLaws
+pub mod AccessLaws
+pub mod EndLaws
+pub mod AccessUnits
+pub mod LockLaws
+pub mod ForkLaws
+pub mod ReportingLaws

@@ -1,11 +1,13 @@
 -- What an auditor answers.
 use Rattle.std.specs.Prelude.{◌≡◌, ℕ, Bool, true, false, if◌then◌else◌, List, MatchBool}
 use Rattle.av_trace.specs.declared.command.Command.{Command}
-use Rattle.av_trace.specs.declared.command.Command.TheVariants.{Age, Complete, Exit, Munmap, Spawn}
+use Rattle.av_trace.specs.declared.command.Command.TheVariants.{Areas, Compact, Merge, Mremap, Swapoff}
 use Rattle.av_plain.specs.Ledger.{Ledger, Setting}
+use Rattle.av_plain.specs.Sound.{AllSound}
 use Rattle.av_plain.specs.World.{World}
 use Rattle.av_audit_laws.specs.Unit.{IsUnit, Leaves}
 use Rattle.av_book.specs.Book.{ledger_of}
+use Rattle.av_book.specs.Machine.{setting_of}
 use Rattle.av_book.specs.declared.book.Book.{Book}
 use Rattle.av_world.specs.Memories.{IsWorld}
 use Rattle.av_world.specs.declared.memories.Memories.{Memories}
@@ -13,10 +15,11 @@ use Rattle.av_audit.specs.declared.auditor.Auditor.{Auditor}
 use Rattle.av_audit.specs.declared.auditor.Verdict.{Verdict}
 use Rattle.av_audit.specs.declared.auditor.Verdict.TheVariants.{Legal, Illegal, Unjudged}
 
--- the auditor keeps these memories and this ledger
+-- the auditor keeps these memories and this ledger, and they are sound
 pub record IsAt (a : Auditor) (w : World) (l : Ledger) : Type 0 where
   pub world : IsWorld a.memories w
   pub ledger : l ≡ ledger_of a.book
+  pub sound : AllSound (setting_of a.machine) w l
 
 -- what is said of a command that is judged
 abbrev pub verdict_of : Bool → Verdict
@@ -24,12 +27,12 @@ verdict_of legal = if legal then Legal else Illegal
 
 -- the commands that are judged
 abbrev pub is_judged : Command → Bool
-is_judged (Spawn p) = true
-is_judged (Exit p) = true
-is_judged (Munmap p a len) = true
-is_judged (Complete n) = true
-is_judged (Age n) = true
-is_judged command = false
+is_judged (Mremap p a old new mode) = false
+is_judged (Areas p) = false
+is_judged (Swapoff k) = false
+is_judged Merge = false
+is_judged Compact = false
+is_judged command = true
 
 -- the unit is legal, and the auditor is at what it leaves; or it isn't legal; or the command isn't
 -- judged

@@ -5,11 +5,10 @@ ghost use Rattle.av_plain.specs.Ledger.{Ledger, first_ledger};
 ghost use Rattle.av_plain.specs.World.{World};
 ghost use Rattle.av_book.specs.Machine.{setting_of};
 ghost use Rattle.av_audit.specs.Judge.{IsAt, IsRight, verdict_of};
+ghost use Rattle.av_audit.specs.Swap.{FitsWords};
 
-use crate::leaving::{audits_exit, audits_munmap};
-use crate::spawn::audits_spawn;
+use crate::units::{is_judged, is_legal};
 use av_book::{Book, Machine};
-use av_judge::{judges_age, judges_complete};
 use av_trace::Command;
 use av_world::Memories;
 use std::alloc::{AllocError, Global};
@@ -72,39 +71,23 @@ impl Auditor {
 
     /// What is said of a unit for a command, while the auditor goes on.
     fn judge_next(&mut self, command: &Command, unit: &[u8]) -> Result<Verdict, AllocError>
+        requires { FitsWords self.old.machine }
         ensures machine { self.new.machine ≡ self.old.machine }
         ensures phase { self.new.phase ≡ self.old.phase }
         ensures right { IfOk result (λ verdict. (w : World) (l : Ledger) → IsAt self.old w l
             → IsRight (setting_of self.old.machine) w l command.now unit.now verdict self.new) }
     {
-        let alloc = self.alloc;
-        match command {
-            Command::Spawn { process } => {
-                Ok(said(audits_spawn(alloc, &mut self.memories, *process, unit)?))
-            }
-            Command::Exit { process } => {
-                let (memories, book) = (&mut self.memories, &mut self.book);
-                Ok(said(audits_exit(alloc, memories, book, *process, unit)?))
-            }
-            Command::Munmap {
-                process,
-                address,
-                len,
-            } => {
-                let (memories, book) = (&mut self.memories, &mut self.book);
-                let legal = audits_munmap(alloc, memories, book, *process, *address, *len, unit)?;
-                Ok(said(legal))
-            }
-            Command::Complete { slots } => {
-                Ok(said(judges_complete(&mut self.book, alloc, *slots, unit)?))
-            }
-            Command::Age { frames } => Ok(said(judges_age(&mut self.book, alloc, *frames, unit)?)),
-            _ => Ok(Verdict::Unjudged),
+        if !is_judged(command) {
+            return Ok(Verdict::Unjudged);
         }
+        let (memories, book) = (&mut self.memories, &mut self.book);
+        let legal = is_legal(self.alloc, &self.machine, memories, book, command, unit)?;
+        Ok(said(legal))
     }
 
     /// What is said of a unit for a command.
     pub fn judge(&mut self, command: &Command, unit: &[u8]) -> Result<Verdict, AllocError>
+        requires { FitsWords self.old.machine }
         ensures going { self.old.phase ≡ Phase.Going → IfOk result (λ verdict. (w : World)
             (l : Ledger) → IsAt self.old w l
             → IsRight (setting_of self.old.machine) w l command.now unit.now verdict self.new) }

@@ -11,8 +11,18 @@
 //! Only tested: nothing.
 #![tactic(auto)]
 
+mod accessing;
+mod advising;
 mod auditor;
+mod forking;
+mod known;
 mod leaving;
+mod lengths;
+mod locking;
+mod mapping;
+mod reporting;
 mod spawn;
+mod swapping;
+mod units;
 
 pub use auditor::{Auditor, Phase, Verdict};

@@ -140,7 +140,8 @@ module _ (m : Setting) (sp : Sparing) where
       → ComesIn m sp l k n a → ComesIn m sp l k (SwapIn s) a
   is-swap-in l k n s a e h = subst (λ n. ComesIn m sp l k n a) e h
 
-  comes-goes-on : (l : Ledger) (k : Key) (s : Slot) (a b x : List Note) → ComesIn m sp l k (SwapIn s) a
+  -- a page that comes in isn't the front of a pass
+  pub comes-goes-on : (l : Ledger) (k : Key) (s : Slot) (a b x : List Note) → ComesIn m sp l k (SwapIn s) a
       → Seeks m (sp l None) l b → a ++ x ≡ b → ⊥
   comes-goes-on l k s a b x h seeks e =
       let mapped = Mapped k.0 (address_of k.1) h.1 in

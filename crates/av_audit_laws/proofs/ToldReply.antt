@@ -36,7 +36,7 @@ use Rattle.av_audit_laws.proofs.ToldSwap.{off-told, outcomes-told}
 -- ---- accesses
 
 -- the notes of a page that is served are among those of the access
-served-notes : (write : Bool) (k : Key) (notes : List Note) (later : List Event)
+pub served-notes : (write : Bool) (k : Key) (notes : List Note) (later : List Event)
     → notes_of (page_events write k notes None ++ later) ≡ notes ++ notes_of later
 served-notes write k notes later =
     notes_of-append (page_events write k notes None) later

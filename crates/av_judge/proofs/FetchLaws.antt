@@ -1,10 +1,8 @@
 -- The page of a slot is fetched, part by part.
-use Rattle.std.proofs.Common.{◌≡◌, ◌⊎◌, inr, ℕ, Bool, true, false, Option, Some, None, List, [], ◌∷◌, ◌++◌, length, refl, sym, ap, subst, ◌∙◌, append-nil}
+use Rattle.std.proofs.Common.{◌≡◌, ◌⊎◌, inr, ℕ, Bool, true, false, Option, Some, None, List, [], ◌∷◌, ◌++◌, length, refl, sym, ap, subst, ◌∙◌}
 use Rattle.std.specs.Prelude.{◌==◌}
 use Rattle.av_base.specs.declared.slot.Slot.{Slot}
-use Rattle.av_trace.specs.declared.note.Note.{Note}
 use Rattle.av_trace.specs.Print.{notes_text}
-use Rattle.av_plain.specs.Event.{after_notes}
 use Rattle.av_plain.specs.Ledger.{Ledger, Setting, has_free}
 use Rattle.av_plain.specs.Pass.{Seeks, Spared}
 use Rattle.av_plain.proofs.Ledger.NoSwap.{has_free-some}
@@ -12,8 +10,7 @@ use Rattle.av_judge.specs.Fetch.{AreFetched, IsLoaded, IsUnfetched, IsUnloaded}
 use Rattle.av_judge.specs.Finds.{Gets, Reads, Stand}
 use Rattle.av_judge.specs.Stage.{Meets}
 use Rattle.av_judge.proofs.Finds.{stand-none}
-use Rattle.av_judge.proofs.StageLaws.{InStages, meets-neither, meets-then}
-use Rattle.av_audit_laws.proofs.ToldPass.{seeks-told}
+use Rattle.av_judge.proofs.BehindLaws.{sought-then, unsought}
 
 differ : (b : Bool) → b ≡ true → b ≡ false → ⊥
 differ b h g = cc
@@ -48,42 +45,16 @@ loads-not m l l1 l' s bytes mid rest some none = record {
 
 -- ---- the pass, and what is behind it
 
-abbrev Never : Bool → List Note → Type 0
-Never free notes = ⊥
-
-pub fetch-stages : (m : Setting) (sp : Spared) (l : Ledger) (s : Slot)
-    → InStages (AreFetched m sp l s) (IsUnfetched m sp l) (λ (u : Unit {0}). Seeks m sp l) Never
-    (λ u a. IsLoaded m (after_notes l a) s) (λ u a. IsUnloaded m (after_notes l a))
-fetch-stages m sp l s = record {
-  split = λ f ns h. (tt, h.0, h.1, h.2, h.3, h.4);
-  join = λ u f a b h g. (a, b, h, g, refl);
-  stop = λ free ns h. inr (tt, ns, [], h.0, (h.1, refl), sym (append-nil ns));
-  halt = λ free ns h. absurd h;
-  end = λ u free a b h g. (
-    subst (Seeks m sp l) (sym (nothing a b g.1)) h,
-    ap (λ ns. has_free m (after_notes l ns)) (nothing a b g.1) ∙ g.0,
-  );
-  told = λ u v a b x y h g e. (refl, seeks-told m sp l a b x y h g e);
-  apart = λ u free a b x h g e. g;
-}
-  where
-    nothing : (a b : List Note) → b ≡ [] → a ++ b ≡ a
-    nothing a b e = ap (λ r. a ++ r) e ∙ append-nil a
-
 pub fetch-unsought : (m : Setting) (sp : Spared) (l l1 l' : Ledger) (s : Slot) (bytes mid rest : List ℕ)
     → Reads (Seeks m sp l) l bytes false l1 mid → Meets (AreFetched m sp l s) (IsUnfetched m sp l) l bytes None l' rest
 fetch-unsought m sp l l1 l' s bytes mid rest none =
-    meets-neither (AreFetched m sp l s) (IsUnfetched m sp l) (λ (u : Unit {0}). Seeks m sp l) Never
-    (λ u a. IsLoaded m (after_notes l a) s) (λ u a. IsUnloaded m (after_notes l a)) (fetch-stages m sp l s) l l1 l' bytes mid rest
-    (record { goes = λ u notes more h st. none notes more h st; stops = λ free notes h st. h })
+    unsought m sp l (λ n. IsLoaded m n s) (λ n (free : Bool). has_free m n ≡ free) l1 l' bytes mid rest none
 
 pub fetch-sought : (m : Setting) (sp : Spared) (l l1 l' : Ledger) (s : Slot) (bytes mid rest : List ℕ) (found : Option (ℕ ⊎ Bool))
     → Reads (Seeks m sp l) l bytes true l1 mid → Meets (IsLoaded m l1 s) (IsUnloaded m l1) l1 mid found l' rest
     → Meets (AreFetched m sp l s) (IsUnfetched m sp l) l bytes found l' rest
 fetch-sought m sp l l1 l' s bytes mid rest found first second =
-    meets-then (AreFetched m sp l s) (IsUnfetched m sp l) (λ (u : Unit {0}). Seeks m sp l) Never
-    (λ u a. IsLoaded m (after_notes l a) s) (λ u a. IsUnloaded m (after_notes l a)) (fetch-stages m sp l s) l l1 l' bytes mid rest tt found
-    first (λ a h e. subst (λ n. Meets (IsLoaded m n s) (IsUnloaded m n) l1 mid found l' rest) e second)
+    sought-then m sp l (λ n. IsLoaded m n s) (λ n (free : Bool). has_free m n ≡ free) l1 l' bytes mid rest found first second
 
 -- bytes are left
 pub some-left : (t : List ℕ) → false ≡ (length t == 0) → t ≡ [] → ⊥

@@ -1,3 +1,4 @@
+pub mod BehindLaws
 pub mod ComeLaws
 pub mod FetchLaws
 pub mod Finds

@@ -6,7 +6,7 @@ use Rattle.std.proofs.lemmas.Bool.{cases_lt}
 use Rattle.std.proofs.lemmas.List.{take-append-drop, take_all, get_or-take, length-take-le}
 use Rattle.av_base.specs.declared.slot.Slot.{Slot}
 use Rattle.av_text.specs.Number.{IsNumberIn, IsWide}
-use Rattle.av_text.specs.Word.{after, line}
+use Rattle.av_text.specs.Word.{after}
 use Rattle.av_text.proofs.WordLaws.{after-again, after-found}
 use Rattle.av_trace.specs.Note.{slot_text}
 use Rattle.std.proofs.lemmas.Bool.{eq-eqb}

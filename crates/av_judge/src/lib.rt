@@ -33,7 +33,7 @@ pub use come::{Come, swaps_in};
 pub use commands::{judges_age, judges_complete, judges_reclaim};
 pub use fetch::{Fetch, fetches};
 pub use flight::{completes, ends};
-pub use notes::{Taking, take_frame, take_note, take_slot};
+pub use notes::{Taking, cut, take_frame, take_note, take_slot};
 pub use pass::unmaps;
 pub use reclaim::{ages, outcomes};
 pub use seek::{seeks, takes};

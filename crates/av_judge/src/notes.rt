@@ -89,7 +89,7 @@ fn place_of(byte: u8, bytes: &[u8]) -> Option<usize>
 }
 
 /// The bytes before the first that is this one, and those behind it.
-fn cut(byte: u8, bytes: &[u8]) -> Option<(&[u8], &[u8])>
+pub fn cut(byte: u8, bytes: &[u8]) -> Option<(&[u8], &[u8])>
     ensures found { IfSome result (λ x. IsCut byte bytes.now x.0.now x.1.now) }
     ensures none { IfNone result (lacks byte bytes.now ≡ true) }
 {

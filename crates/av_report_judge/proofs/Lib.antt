@@ -1,1 +1,3 @@
+pub mod MapLaws
 pub mod ReportLaws
+pub mod RunLaws

@@ -1,0 +1,4 @@
+pub mod Made
+pub mod Report
+pub mod Rows
+pub mod Runs

@@ -1,6 +1,6 @@
 //! Units for `entry`.
 
-ghost use Rattle.std.specs.Prelude.{◌≡◌, IfOk, None, Some, option_map};
+ghost use Rattle.std.specs.Prelude.{◌≡◌, ◌<◌, ◌^◌, IfOk, None, Some, option_map};
 ghost use Rattle.av_trace.specs.Note.{IsSlot};
 ghost use Rattle.av_trace.specs.Reply.{IfThere, IsAnswer};
 ghost use Rattle.av_text.specs.Number.{IsWide};
@@ -90,4 +90,11 @@ pub fn frame_fits(frame: Option<u32>)
     if let Some(frame) = frame {
         let _ = frame;
     }
+}
+
+/// A number of 64 bits is one.
+pub fn fits(n: u64)
+    ensures { n < 2 ^ 64 }
+{
+    let _ = n;
 }

@@ -3,6 +3,7 @@
 ghost use Rattle.std.specs.Prelude.{◌≡◌, IfOk, None};
 ghost use Rattle.av_trace.specs.Reply.{IsAnswer};
 ghost use Rattle.av_trace.specs.declared.command.Command.TheVariants as commands;
+ghost use Rattle.av_plain.specs.Ledger.{pages_used};
 ghost use Rattle.av_plain.specs.Refusal.{refusal, tests};
 ghost use Rattle.av_plain.specs.Report.{slot_answer};
 ghost use Rattle.av_plain.specs.World.{World};
@@ -14,8 +15,33 @@ use crate::entry::{frame_fits, slot_fits};
 use av_base::Slot;
 use av_book::{Book, Machine};
 use av_judge::is_answer;
-use av_trace::Answer;
+use av_trace::{Answer, Errno};
 use std::alloc::{AllocError, Global};
+
+/// How many pages a swap area uses, by its header.
+fn pages_used(machine: &Machine, area: u8) -> u32
+    ensures { result ≡ pages_used (setting_of machine.now) area }
+{
+    match machine.heads.get(area as usize) {
+        None => 0,
+        Some(head) => match &head.layout {
+            None => 0,
+            Some(layout) => layout.pages,
+        },
+    }
+}
+
+/// Why a `slot` is refused, if it is.
+pub fn refuses_slot(book: &Book, machine: &Machine, slot: Slot) -> Option<Errno>
+    ensures { (w : World) → result ≡ refusal (tests (setting_of machine.now) w
+        (ledger_of book.now) (commands.Slot slot.area slot.page)) }
+{
+    if !book.is_on(slot.area) || slot.page == 0 || pages_used(machine, slot.area) <= slot.page {
+        Some(Errno::Einval)
+    } else {
+        None
+    }
+}
 
 /// Whether a unit is legal for `slot`, where nothing refuses that.
 pub fn judges_slot(

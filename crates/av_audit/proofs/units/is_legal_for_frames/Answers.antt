@@ -1,0 +1,37 @@
+use Rattle.std.proofs.Common.{refl}
+use Rattle.av_trace.specs.declared.command.Command.TheVariants as commands
+use Rattle.av_book.specs.Book.{ledger_of}
+use Rattle.av_book.specs.Machine.{setting_of}
+use Rattle.av_audit.proofs.JudgeLaws.{if-ok, left-is, seen-left}
+use Rattle.av_audit.proofs.SwapLaws.{book-left}
+use Rattle.av_audit.proofs.units.is_legal_for_frames.Goals as goal
+
+pub returns-in-Reclaim : goal.returns-in-Reclaim
+returns-in-Reclaim c = if-ok _ _ _ (λ legal h w at sound.
+    left-is (setting_of c.args.machine.now) w (ledger_of c.args.book.now) (commands.Reclaim c.in-Reclaim.frames) c.args.command.now c.args.unit.now legal
+    c.args.memories.now c.audits_reclaim.new.book c.in-Reclaim.is
+    (h w at))
+    c.audits_reclaim.ensures
+
+pub returns-in-Age : goal.returns-in-Age
+returns-in-Age c = if-ok _ _ _ (λ legal h w at sound.
+    left-is (setting_of c.args.machine.now) w (ledger_of c.args.book.now) (commands.Age c.in-Age.frames) c.args.command.now c.args.unit.now legal
+    c.args.memories.now c.judges_age.new.book c.in-Age.is
+    (book-left (setting_of c.args.machine.now) w (ledger_of c.args.book.now) (commands.Age c.in-Age.frames) c.args.unit.now legal c.args.memories.now c.judges_age.new.book refl
+    (λ v answer. refl) (h (setting_of c.args.machine.now) w) at))
+    c.judges_age.ensures
+
+pub returns-in-Complete : goal.returns-in-Complete
+returns-in-Complete c = if-ok _ _ _ (λ legal h w at sound.
+    left-is (setting_of c.args.machine.now) w (ledger_of c.args.book.now) (commands.Complete c.in-Complete.slots) c.args.command.now c.args.unit.now legal
+    c.args.memories.now c.judges_complete.new.book c.in-Complete.is
+    (book-left (setting_of c.args.machine.now) w (ledger_of c.args.book.now) (commands.Complete c.in-Complete.slots) c.args.unit.now legal c.args.memories.now c.judges_complete.new.book refl
+    (λ v answer. refl) (h (setting_of c.args.machine.now) w) at))
+    c.judges_complete.ensures
+
+pub returns-in-Swapon : goal.returns-in-Swapon
+returns-in-Swapon c = if-ok _ _ _ (λ legal h w at sound.
+    left-is (setting_of c.args.machine.now) w (ledger_of c.args.book.now) (commands.Swapon c.in-Swapon.area c.in-Swapon.priority) c.args.command.now c.args.unit.now legal
+    c.args.memories.now c.audits_swapon.new.book c.in-Swapon.is
+    (h w at))
+    c.audits_swapon.ensures

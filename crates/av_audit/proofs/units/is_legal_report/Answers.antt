@@ -1,0 +1,42 @@
+use Rattle.std.proofs.Common.{refl}
+use Rattle.av_trace.specs.declared.command.Command.TheVariants as commands
+use Rattle.av_book.specs.Book.{ledger_of}
+use Rattle.av_book.specs.Machine.{setting_of}
+use Rattle.av_audit.proofs.JudgeLaws.{if-ok, left-is, seen-left}
+use Rattle.av_audit.proofs.SwapLaws.{book-left}
+use Rattle.av_audit.proofs.units.is_legal_report.Goals as goal
+
+pub returns-in-Maps : goal.returns-in-Maps
+returns-in-Maps c = if-ok _ _ _ (λ legal h w at.
+    left-is (setting_of c.args.machine.now) w (ledger_of c.args.book.now) (commands.Maps c.in-Maps.process) c.args.command.now c.args.unit.now legal
+    c.args.memories.now c.args.book.now c.in-Maps.is
+    (h (setting_of c.args.machine.now) w at refl))
+    c.audits_maps.ensures
+
+pub returns-in-Rmap : goal.returns-in-Rmap
+returns-in-Rmap c = if-ok _ _ _ (λ legal h w at.
+    left-is (setting_of c.args.machine.now) w (ledger_of c.args.book.now) (commands.Rmap c.in-Rmap.process c.in-Rmap.address) c.args.command.now c.args.unit.now legal
+    c.args.memories.now c.args.book.now c.in-Rmap.is
+    (h (setting_of c.args.machine.now) w at refl))
+    c.audits_rmap.ensures
+
+pub returns-in-Entry : goal.returns-in-Entry
+returns-in-Entry c = if-ok _ _ _ (λ legal h w at.
+    left-is (setting_of c.args.machine.now) w (ledger_of c.args.book.now) (commands.Entry c.in-Entry.process c.in-Entry.address) c.args.command.now c.args.unit.now legal
+    c.args.memories.now c.args.book.now c.in-Entry.is
+    (h (setting_of c.args.machine.now) w at refl))
+    c.audits_entry.ensures
+
+pub returns-in-Slot : goal.returns-in-Slot
+returns-in-Slot c = if-ok _ _ _ (λ legal h w at.
+    left-is (setting_of c.args.machine.now) w (ledger_of c.args.book.now) (commands.Slot c.in-Slot.area c.in-Slot.page) c.args.command.now c.args.unit.now legal
+    c.args.memories.now c.args.book.now c.in-Slot.is
+    (h w at))
+    c.audits_slot.ensures
+
+pub returns-in-Stat : goal.returns-in-Stat
+returns-in-Stat c = if-ok _ _ _ (λ legal h w at.
+    left-is (setting_of c.args.machine.now) w (ledger_of c.args.book.now) commands.Stat c.args.command.now c.args.unit.now legal
+    c.args.memories.now c.args.book.now c.in-Stat.is
+    (h w at))
+    c.audits_stat.ensures

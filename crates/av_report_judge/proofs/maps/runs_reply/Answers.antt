@@ -1,0 +1,23 @@
+use Rattle.std.proofs.Common.{List, length, subst}
+use Rattle.av_text.specs.Number.{IsWide}
+use Rattle.av_trace.specs.declared.reply.Answer.TheVariants.{Runs}
+use Rattle.av_trace.specs.declared.row.Row.{Row}
+use Rattle.av_plain.specs.World.{pages}
+use Rattle.av_world.specs.declared.space.Range.{Range}
+use Rattle.av_report_judge.proofs.MapLaws.{AreMadeRuns, maps-told, maps-wide}
+use Rattle.av_report_judge.proofs.maps.runs_reply.Goals as goal
+
+pub returns-then-not-branch : goal.returns-then-not-branch
+returns-then-not-branch c = λ w p has.
+    maps-wide c.args.space.now (pages w p) c.in_ok-cut.cut.items c.in_ok-add_runs.field-0 c.add_runs.new.rows has c.in_ok-cut.ensures
+    (subst (λ (cs : List Range). AreMadeRuns cs c.in_ok-add_runs.field-0 c.add_runs.new.rows) c.as_slice.ensures.value c.in_ok-add_runs.ensures)
+    c.if-not-branch.true
+
+pub returns : goal.returns
+returns c = λ w p has.
+    maps-told c.args.space.now (pages w p) c.in_ok-cut.cut.items c.in_ok-add_runs.field-0 c.add_runs.new.rows has c.in_ok-cut.ensures
+    (subst (λ (cs : List Range). AreMadeRuns cs c.in_ok-add_runs.field-0 c.add_runs.new.rows) c.as_slice.ensures.value c.in_ok-add_runs.ensures)
+    (record { answer = Runs (length c.as_slice-2.result.now); notes = c.new-reply.result.notes; rows = c.add_runs.new.rows })
+    c.if-not-branch.false
+    (subst (λ (r : List Row). IsWide (length r)) c.as_slice-2.ensures c.fits.ensures)
+    (λ i. record { answer = Runs (length (c.as_slice-2.ensures i)); notes = (c.new-reply.ensures i).notes; rows = c.add_runs.new.rows })

@@ -1,0 +1,4 @@
+pub mod StageLaws
+pub mod UserLaws
+pub mod EmptyLaws
+pub mod CloseLaws

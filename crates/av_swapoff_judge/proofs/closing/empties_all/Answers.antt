@@ -1,0 +1,106 @@
+use Rattle.std.proofs.Common.{inl, inr, true, false, Option, Some, None, sym, ap, subst, ◌∙◌}
+use Rattle.av_plain.specs.Ledger.{slots_in_use}
+use Rattle.av_plain.specs.Pass.{Spared, out_of}
+use Rattle.av_plain.specs.Swapoff.{Closed, NoRoom, Unread, sparing_area}
+use Rattle.av_book.specs.Book.{ledger_of}
+use Rattle.av_book.specs.Machine.{setting_of}
+use Rattle.av_judge.specs.Stage.{Meets}
+use Rattle.av_judge.proofs.FetchLaws.{some-left}
+use Rattle.av_swapoff_judge.specs.Close.{AreEmptied, IsWhole}
+use Rattle.av_swapoff_judge.specs.Empty.{Empties, IsStuck, emptied_of}
+use Rattle.av_swapoff_judge.specs.Users.{IsFirst}
+use Rattle.av_swapoff_judge.specs.declared.emptying.Emptying.{Emptying}
+use Rattle.av_swapoff_judge.proofs.CloseLaws.{emptied-halt, emptied-more, emptied-neither, emptied-over, emptied-then, none-left}
+use Rattle.av_swapoff_judge.proofs.closing.empties_all.Goals as goal
+
+pub returns-in-None : goal.returns-in-None
+returns-in-None c = λ w at.
+    let m = setting_of c.args.machine.now in
+    let l = ledger_of c.loop-slot.book in
+    let l1 = ledger_of c.empties.new.book in
+    let s = c.in-Some.slot in
+    let k = c.args.area in
+    let mid = c.empties.new.unit.rest.now in
+    let bytes = c.loop-slot.unit.rest.now in
+    let first = c.in-Some.ensures in
+    let met : Meets (Empties m (sparing_area w k l) l s) (IsStuck m (sparing_area w k l) l s) l bytes None l1 mid =
+    subst (λ (o : Option Emptying). Meets (Empties m (sparing_area w k l) l s) (IsStuck m (sparing_area w k l) l s) l bytes (emptied_of o) l1 mid)
+    c.in-None.is
+    (subst (λ (sp : Spared). Meets (Empties m sp l s) (IsStuck m sp l s) l bytes (emptied_of c.in_ok-empties.field-0) l1 mid)
+    (c.in_ok-spared.ensures w at) c.in_ok-empties.ensures) in
+    c.loop-slot.invariant w at None l1
+    (emptied-neither m w k l s.page first.0 first.2 s (λ i. record { area = first.1 i; page = s.page }) bytes mid l1 l1 met)
+
+pub returns-in-Some-Starved : goal.returns-in-Some-Starved
+returns-in-Some-Starved c = λ w at.
+    let m = setting_of c.args.machine.now in
+    let l = ledger_of c.loop-slot.book in
+    let l1 = ledger_of c.empties.new.book in
+    let s = c.in-Some.slot in
+    let k = c.args.area in
+    let mid = c.empties.new.unit.rest.now in
+    let bytes = c.loop-slot.unit.rest.now in
+    let first = c.in-Some.ensures in
+    let met : Meets (Empties m (sparing_area w k l) l s) (IsStuck m (sparing_area w k l) l s) l bytes (Some (inr false)) l1 mid =
+    subst (λ (o : Option Emptying). Meets (Empties m (sparing_area w k l) l s) (IsStuck m (sparing_area w k l) l s) l bytes (emptied_of o) l1 mid)
+    (c.in-Some-Starved.is ∙ ap Some c.in-Some-Starved.field-0-is)
+    (subst (λ (sp : Spared). Meets (Empties m sp l s) (IsStuck m sp l s) l bytes (emptied_of c.in_ok-empties.field-0) l1 mid)
+    (c.in_ok-spared.ensures w at) c.in_ok-empties.ensures) in
+    let out = c.out_of.ensures ∙ ap (λ (sp : Spared). out_of m sp l1) (c.in_ok-spared.ensures w at) in
+    c.loop-slot.invariant w at (Some (NoRoom c.out_of.result)) l1
+    (subst (λ o. IsWhole (AreEmptied m w k l) l bytes (Some (NoRoom o)) l1) (sym out)
+    (emptied-halt m w k l s.page first.0 first.2 s (λ i. record { area = first.1 i; page = s.page }) bytes mid l1 false met))
+
+pub returns-in-Some-Lost : goal.returns-in-Some-Lost
+returns-in-Some-Lost c = λ w at.
+    let m = setting_of c.args.machine.now in
+    let l = ledger_of c.loop-slot.book in
+    let l1 = ledger_of c.empties.new.book in
+    let s = c.in-Some.slot in
+    let k = c.args.area in
+    let mid = c.empties.new.unit.rest.now in
+    let bytes = c.loop-slot.unit.rest.now in
+    let first = c.in-Some.ensures in
+    let met : Meets (Empties m (sparing_area w k l) l s) (IsStuck m (sparing_area w k l) l s) l bytes (Some (inr true)) l1 mid =
+    subst (λ (o : Option Emptying). Meets (Empties m (sparing_area w k l) l s) (IsStuck m (sparing_area w k l) l s) l bytes (emptied_of o) l1 mid)
+    (c.in-Some-Lost.is ∙ ap Some c.in-Some-Lost.field-0-is)
+    (subst (λ (sp : Spared). Meets (Empties m sp l s) (IsStuck m sp l s) l bytes (emptied_of c.in_ok-empties.field-0) l1 mid)
+    (c.in_ok-spared.ensures w at) c.in_ok-empties.ensures) in
+    c.loop-slot.invariant w at (Some Unread) l1
+    (emptied-halt m w k l s.page first.0 first.2 s (λ i. record { area = first.1 i; page = s.page }) bytes mid l1 true met)
+
+pub loop-slot-preserved : goal.loop-slot-preserved
+loop-slot-preserved c = λ w at found l' later.
+    let m = setting_of c.args.machine.now in
+    let l = ledger_of c.loop-slot.book in
+    let l1 = ledger_of c.empties.new.book in
+    let s = c.in-Some.slot in
+    let k = c.args.area in
+    let mid = c.empties.new.unit.rest.now in
+    let bytes = c.loop-slot.unit.rest.now in
+    let first = c.in-Some.ensures in
+    let met : Meets (Empties m (sparing_area w k l) l s) (IsStuck m (sparing_area w k l) l s) l bytes (Some (inl tt)) l1 mid =
+    subst (λ (o : Option Emptying). Meets (Empties m (sparing_area w k l) l s) (IsStuck m (sparing_area w k l) l s) l bytes (emptied_of o) l1 mid)
+    (c.in-Some-Emptied.is ∙ ap Some c.in-Some-Emptied.field-0-is)
+    (subst (λ (sp : Spared). Meets (Empties m sp l s) (IsStuck m sp l s) l bytes (emptied_of c.in_ok-empties.field-0) l1 mid)
+    (c.in_ok-spared.ensures w at) c.in_ok-empties.ensures) in
+    c.loop-slot.invariant w at found l'
+    (emptied-then m w k l s.page first.0 first.2 s (λ i. record { area = first.1 i; page = s.page }) bytes mid l1 l' found met later)
+
+pub returns-then-is_empty : goal.returns-then-is_empty
+returns-then-is_empty c = λ w at.
+    let m = setting_of c.args.machine.now in
+    let l = ledger_of c.loop-slot.book in
+    c.loop-slot.invariant w at (Some Closed) l
+    (emptied-over m w c.args.area l c.loop-slot.unit.rest.now
+    (subst (IsFirst c.args.area (slots_in_use m l c.args.area)) c.in_default.is c.least_in_use.ensures)
+    (none-left c.loop-slot.unit.rest.now (sym c.is_empty.ensures ∙ c.if-is_empty.true)))
+
+pub returns-else-is_empty : goal.returns-else-is_empty
+returns-else-is_empty c = λ w at.
+    let m = setting_of c.args.machine.now in
+    let l = ledger_of c.loop-slot.book in
+    c.loop-slot.invariant w at None l
+    (emptied-more m w c.args.area l l c.loop-slot.unit.rest.now
+    (subst (IsFirst c.args.area (slots_in_use m l c.args.area)) c.in_default.is c.least_in_use.ensures)
+    (some-left c.loop-slot.unit.rest.now (sym c.if-is_empty.false ∙ c.is_empty.ensures)))

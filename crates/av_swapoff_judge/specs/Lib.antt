@@ -1,0 +1,3 @@
+pub mod Users
+pub mod Empty
+pub mod Close
