@@ -1,10 +1,11 @@
 //! A trace is read, and then its transcript judged, unit by unit.
 
-ghost use Rattle.std.specs.Prelude.{◌≡◌, ◌<◌, ◌≤◌, [], IfOk, IfErr, length, true};
+ghost use Rattle.std.specs.Prelude.{◌≡◌, ◌≤◌, [], IfOk, IfErr, length, true};
 ghost use Rattle.av_ports.specs.Ports.{undone};
 ghost use Rattle.av_plain.specs.Ledger.{first_ledger};
-ghost use Rattle.av_book.specs.Machine.{AreNamed, setting_of};
+ghost use Rattle.av_book.specs.Machine.{setting_of};
 ghost use Rattle.av_audit.specs.Judge.{IsAt};
+ghost use Rattle.av_audit.specs.Swap.{FitsWords};
 ghost use Rattle.av_audit.specs.declared.auditor.Phase.TheVariants.{Going};
 ghost use Rattle.av_audit_input.specs.Input.{FailsOnly, IsEnded, IsNoPortErr, OnlyReads};
 ghost use Rattle.av_audit_input.specs.Trace.{most_lines};
@@ -49,8 +50,7 @@ fn judge_all<P: Ports>(
 ) -> Result<Finding, InputErr>
     requires first { IsAt auditor.old [] first_ledger }
     requires going { auditor.old.phase ≡ Going }
-    requires some { 0 < auditor.old.machine.frames }
-    requires fits { AreNamed (setting_of auditor.old.machine) }
+    requires words { FitsWords auditor.old.machine }
     requires few { length commands.now ≤ most_lines }
     requires all { extent.old.left ≡ most_bytes }
     requires ended { extent.old.ended ≡ true → IsEnded pending.old (P.view ports.old) }
@@ -83,8 +83,7 @@ fn judge_all<P: Ports>(
 
 /// Reads a trace, and judges its transcript on this machine.
 pub fn audit<P: Ports>(alloc: Global, machine: Machine, ports: &mut P) -> Result<Finding, InputErr>
-    requires some { 0 < machine.frames }
-    requires fits { AreNamed (setting_of machine) }
+    requires { FitsWords machine }
     ensures audits { IfOk result
         (λ finding. Audits finding (setting_of machine) (P.view ports.old) (P.view ports.new)) }
     ensures stops { IfErr result

@@ -4,8 +4,9 @@ use Rattle.std.proofs.lemmas.Bool.Decides.{nat_tests}
 use Rattle.std.specs.Prelude.{IfSome, Result, Err, Ok, codes, nat_eq, option_map, option_and_then, slice_get, unwrap_or}
 use Rattle.std.specs.List.{AllByRecursion, ends_with, list_any}
 use Rattle.av_swapdev.specs.Device.{most_pages}
-use Rattle.av_swapdev.specs.Header.{Layout as PlainLayout, all_named, answer_of, area_pages, bad_count, header_of, is_out, last_page, layout_of as layout_by, most_bad, order_of, read_by, read_in, with_slots}
+use Rattle.av_swapdev.specs.Header.{AddsUp, Layout as PlainLayout, all_named, answer_of, area_pages, bad_count, header_of, in_numbers, is_out, last_page, layout_of as layout_by, most_bad, order_of, read_by, read_in, with_slots}
 use Rattle.av_swapdev.specs.declared.header.Order.{Order}
+use Rattle.av_swapdev.specs.declared.header.Header.{Header}
 use Rattle.av_swapdev.specs.declared.header.HeaderErr.{HeaderErr}
 use Rattle.av_swapdev.specs.declared.header.HeaderErr.TheVariants.{BadPage, LastPage, Short, Signature, TooManyBad}
 use Rattle.av_plain.specs.Device.{Device, setting_of, without_fault}
@@ -14,7 +15,7 @@ use Rattle.av_book.specs.Machine.{AreNamed, layout_of, setting_of as setting_of_
 use Rattle.av_book.specs.declared.machine.Head.{Head}
 use Rattle.av_book.specs.declared.machine.Layout.{Layout}
 use Rattle.av_book.specs.declared.machine.Machine.{Machine}
-use Rattle.av_machine.specs.Heads.{IsHead, IsLayoutIn, IsMachineOf}
+use Rattle.av_machine.specs.Heads.{AreCounted, IsCounted, IsHead, IsLayoutIn, IsMachineOf}
 
 -- ---- an area without pages has no header
 
@@ -175,3 +176,28 @@ machine-named pages sizes machine few small h k some =
 pub fault-nothing : (read : Result PlainLayout HeaderErr) (fault : HeaderErr) → Err fault ≡ answer_of read → None ≡ without_fault read
 fault-nothing (Ok layout) fault e = cc
 fault-nothing (Err x) fault e = refl
+
+-- a page without one names few bad pages
+numbers-of : (read : Result PlainLayout HeaderErr) (header : Header) → Ok header ≡ answer_of read
+    → (layout : PlainLayout) × (read ≡ Ok layout) × (header ≡ in_numbers layout)
+numbers-of (Ok layout) header e = (layout, refl, cc)
+numbers-of (Err x) header e = cc
+
+pub few-bad : (page : List ℕ) (size : ℕ) (header : Header) (bad : List ℕ) → Ok header ≡ answer_of (header_of page size) → AddsUp header size
+    → ((device : ℕ) (layout : PlainLayout) → header_of page device ≡ Ok layout → bad ≡ layout.bad) → length bad < 2 ^ 32
+few-bad page size header bad exact adds same =
+    let n = numbers-of (header_of page size) header exact in
+    let many : header.bad ≡ length n.0.bad = ap (λ (h : Header). h.bad) n.2 in
+    omega (arith, ap length (same size n.0 n.1), many, adds.all, adds.most)
+
+counted-at : (pages : Option (ℕ → ℕ → List ℕ)) (area : ℕ) (sizes : List ℕ) (heads : List Head) → AreHeads pages area sizes heads
+    → (k : ℕ) → IsCounted (option_and_then (λ (h : Head). h.layout) (slice_get heads k))
+counted-at pages area [] [] h k = tt
+counted-at pages area [] (x ∷ heads) h k = absurd h
+counted-at pages area (s ∷ sizes) [] h k = absurd h
+counted-at pages area (s ∷ sizes) (x ∷ heads) h zero = h.0.4
+counted-at pages area (s ∷ sizes) (x ∷ heads) h (suc k) = counted-at pages (suc area) sizes heads h.1 k
+
+pub machine-counted : (pages : Option (ℕ → ℕ → List ℕ)) (sizes : List ℕ) (machine : Machine) → AreHeads pages 0 sizes machine.heads.items
+    → AreCounted machine
+machine-counted pages sizes machine h = counted-at pages 0 sizes machine.heads.items h

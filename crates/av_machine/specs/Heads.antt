@@ -1,6 +1,7 @@
 -- What page 0 of each swap area says.
 use Rattle.std.specs.Prelude.{◌≡◌, ◌<◌, ◌≤◌, ℕ, List, Option, Some, IfSome, option_map}
-use Rattle.av_book.specs.Machine.{layout_of, setting_of as setting_of_machine}
+use Rattle.std.specs.Prelude.{◌^◌, MatchOption, length, option_and_then}
+use Rattle.av_book.specs.Machine.{head_of, layout_of, setting_of as setting_of_machine}
 use Rattle.av_book.specs.declared.machine.Head.{Head}
 use Rattle.av_book.specs.declared.machine.Layout.{Layout}
 use Rattle.av_book.specs.declared.machine.Machine.{Machine}
@@ -12,12 +13,21 @@ use Rattle.av_plain.specs.Ledger.{Setting}
 abbrev pub IsLayoutIn : List ℕ → ℕ → Option Layout → Type 0
 IsLayoutIn page size layout = option_map layout_of layout ≡ without_fault (header_of page size)
 
+-- a header names fewer bad pages than a number of 32 bits counts
+abbrev pub IsCounted : Option Layout → Type 0
+IsCounted layout = MatchOption layout (Unit {0}) (λ layout. length layout.bad.items < 2 ^ 32)
+
+-- each header does
+abbrev pub AreCounted : Machine → Type 0
+AreCounted machine =
+    (k : ℕ) → IsCounted (option_and_then (λ (h : Head). h.layout) (head_of machine k))
+
 -- what page 0 of an area with so many pages says, if it has one: where pages are told, the one that
 -- is told, else some page
 abbrev pub IsHead : Option (ℕ → ℕ → List ℕ) → ℕ → ℕ → Head → Type 0
 IsHead pages area size head =
     (page : List ℕ) × (0 < size → IfSome pages (λ told. told area 0 ≡ page))
-    × (head.pages ≡ size) × IsLayoutIn page size head.layout
+    × (head.pages ≡ size) × IsLayoutIn page size head.layout × IsCounted head.layout
 
 -- nothing changed of the device but that it may have failed
 pub record OnlyFails (old new : Device) : Type 0 where

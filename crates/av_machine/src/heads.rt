@@ -8,7 +8,7 @@ ghost use Rattle.av_plain.specs.Device.{seen_by};
 ghost use Rattle.av_swapdev.specs.Device.{most_areas, most_pages};
 ghost use Rattle.av_book.specs.Machine.{AreNamed, setting_of};
 ghost use Rattle.av_machine.specs.declared.heads.MachineErr.TheVariants.{Memory};
-ghost use Rattle.av_machine.specs.Heads.{IsHead, IsLayoutIn, IsMachineOf, OnlyFails};
+ghost use Rattle.av_machine.specs.Heads.{AreCounted, IsCounted, IsHead, IsLayoutIn, IsMachineOf, OnlyFails};
 
 use av_book::{Head, Layout, Machine};
 use av_swapdev::{PAGE_LEN, SwapDev, bad_pages, read_header};
@@ -33,7 +33,8 @@ impl From<AllocError> for MachineErr {
 /// What a page 0 says of an area with so many pages, if it has no fault.
 fn layout_in(alloc: Global, page: &[u8], size: u32) -> Result<Option<Layout>, AllocError>
     requires { length page.now ≡ page_size }
-    ensures { IfOk result (IsLayoutIn page.now size) }
+    ensures said { IfOk result (IsLayoutIn page.now size) }
+    ensures counted { IfOk result IsCounted }
 {
     match read_header(page, size) {
         Err(_) => Ok(None),
@@ -94,6 +95,7 @@ pub fn read_machine<D: SwapDev>(
     ensures machine { IfOk result
         (IsMachineOf frames (seen_by D.sizes D.pages D.failures D.history dev.old)) }
     ensures named { IfOk result (λ machine. AreNamed (setting_of machine)) }
+    ensures counted { IfOk result AreCounted }
     ensures frames { IfOk result (λ machine. machine.frames ≡ frames) }
     ensures same { OnlyFails (seen_by D.sizes D.pages D.failures D.history dev.old)
         (seen_by D.sizes D.pages D.failures D.history dev.new) }

@@ -5,6 +5,7 @@ use Rattle.av_ports.specs.Ports.{undone}
 use Rattle.av_ports.proofs.Times.{unfailed_then}
 use Rattle.av_book.specs.Machine.{setting_of}
 use Rattle.av_audit.specs.Judge.{IsRight}
+use Rattle.av_audit.specs.Swap.{FitsWords}
 use Rattle.av_audit_input.specs.Input.{IsEnded}
 use Rattle.av_audit_input.proofs.InputLaws.{fails-open, is-open-then, only-then}
 use Rattle.av_audit_run.specs.Transcript.{Judges}
@@ -224,3 +225,6 @@ returns-clause-judged g c =
 
 pub returns-clause-only : goal.returns-clause-only
 returns-clause-only g c = only-then _ _ _ c.loop-index.invariant.only c.read_unit-2.ensures.only
+
+pub judge-requires : goal.judge-requires
+judge-requires g c = subst FitsWords (sym c.loop-index.invariant.machine) c.requires.words

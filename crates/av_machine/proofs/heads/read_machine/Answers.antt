@@ -4,7 +4,7 @@ use Rattle.std.proofs.lemmas.List.{with_items_is}
 use Rattle.av_plain.specs.Device.{seen_by}
 use Rattle.av_book.specs.declared.machine.Machine.{Machine}
 use Rattle.av_machine.specs.Heads.{IsHead}
-use Rattle.av_machine.proofs.HeadLaws.{AreHeads, heads-more, machine-is, machine-named}
+use Rattle.av_machine.proofs.HeadLaws.{AreHeads, heads-more, machine-counted, machine-is, machine-named}
 use Rattle.av_machine.proofs.heads.read_machine.Goals as goal
 
 pub loop-area-preserved : goal.loop-area-preserved
@@ -54,3 +54,10 @@ returns-clause-named g c =
     let all = take_all c.loop-area.area c.args.sizes.now (omega (arith, c.loop-area-test.false)) in
     machine-named pages c.args.sizes.now machine c.requires.few c.requires.small
     (subst (λ s. AreHeads pages 0 s machine.heads.items) all c.loop-area.invariant.heads)
+
+pub returns-clause-counted : goal.returns-clause-counted
+returns-clause-counted g c =
+    let pages = g.D.SwapDev.pages c.args.dev.now in
+    let machine : Machine = record { frames = c.args.frames; heads = c.loop-area.heads } in
+    let all = take_all c.loop-area.area c.args.sizes.now (omega (arith, c.loop-area-test.false)) in
+    machine-counted pages c.args.sizes.now machine (subst (λ s. AreHeads pages 0 s machine.heads.items) all c.loop-area.invariant.heads)
