@@ -1,5 +1,6 @@
 -- Lines of a trace that are taken.
-use Rattle.std.proofs.Common.{◌≡◌, ℕ, ◌+◌, ◌<◌, ◌≤◌, Bool, true, false, List, [], ◌∷◌, ◌++◌, length, take, drop, Option, refl, sym, ap, subst, ◌∙◌, arith, append-nil, append_assoc, inl, inr}
+use Rattle.std.proofs.Common.{◌≡◌, ℕ, ◌+◌, ◌<◌, ◌≤◌, Bool, true, false, List, [], ◌∷◌, ◌++◌, length, take, drop, Option, refl, sym, ap, subst, ◌∙◌, arith}
+use Rattle.std.proofs.Common.{append-nil, append_assoc, inl, inr}
 use Rattle.std.specs.Prelude.{◌≢◌, ◌==◌, option_to_list, IfErr, OnErr, Result, Ok, Err}
 use Rattle.std.specs.List.{AllByRecursion}
 use Rattle.std.proofs.lemmas.List.{take_all, drop_all}
@@ -16,7 +17,8 @@ use Rattle.av_audit_input.proofs.InputLaws.{fails-since}
 use Rattle.av_audit_input.specs.declared.input_err.InputErr.{InputErr}
 use Rattle.av_audit_input.specs.declared.input_err.InputErr.TheVariants as input
 use Rattle.av_audit_input.specs.declared.trace.Next.TheVariants as nexts
-use Rattle.av_audit_input.specs.Trace.{all_lines, mark, next_of, AreSaid, IsKept, IsNoMark, IsNotKept, IsTrace, IsTraceLine, Keeps, StandsNext, StopsLine, StopsMark, StopsTrace, StopsWithin, TakesLine, TakesMark, TakesNext, TakesTrace}
+use Rattle.av_audit_input.specs.Trace.{all_lines, mark, next_of, AreSaid, IsKept, IsNoMark, IsNotKept, IsTrace, IsTraceLine, Keeps, StandsNext, StopsLine}
+use Rattle.av_audit_input.specs.Trace.{StopsMark, StopsTrace, StopsWithin, TakesLine, TakesMark, TakesNext, TakesTrace}
 
 -- the line in front, as it is taken
 pub record IsTaken (line : Line) (ended : Bool) (ending ahead mid : List ℕ) (old now : PortsView) : Type 0 where
@@ -202,8 +204,11 @@ ends-line lines line cs cs' number ahead mid after old now new past few takes ke
       bytes = all_lines lines ++ (line ++ []);
       trace = record { good = w.0; few = omega (arith, w.1, few); said = w.2 };
       took = Took-then (undone ahead old) (undone mid now) (undone after new) (all_lines lines) (line ++ []) past.took takes.took;
-      ends = (inl (inr (ap (λ l. (all_lines lines ++ l) ++ 10 ∷ []) (append-nil line) ∙ append_assoc (all_lines lines) line (10 ∷ [])
-          ∙ sym (lines-more lines line))), ended);
+      ends = (
+        inl (inr (ap (λ l. (all_lines lines ++ l) ++ 10 ∷ []) (append-nil line) ∙ append_assoc (all_lines lines) line (10 ∷ [])
+            ∙ sym (lines-more lines line))),
+        ended,
+      );
     }
 
 -- the input ends behind these lines

@@ -48,8 +48,8 @@ FailsOnly (Err error) old new = FailsBy error old new
 abbrev pub IsEnded : List ℕ → PortsView → Type 0
 IsEnded ahead now = (ahead ≡ []) × IsAtEnd now.source
 
--- whether the input had ended, and has now: then nothing is left of it, and what has ended stays so;
--- and where it has not, the source told no end
+-- whether the input had ended, and whether it has now: then nothing is left of it, and what has
+-- ended stays so; and where it has not, the source told no end
 pub record IsOpen (was is : Bool) (ahead : List ℕ) (old new : PortsView) : Type 0 where
   pub stays : was ≡ true → is ≡ true
   pub ended : is ≡ true → IsEnded ahead new

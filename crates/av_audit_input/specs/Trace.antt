@@ -113,12 +113,12 @@ StopsTrace error count ahead now = StopsLine error (count + 1) ahead now
 
 -- some lines of a trace were taken, and the next one not
 pub record StopsWithin (error : InputErr) (ahead ahead' : List ℕ) (old new : PortsView) : Type 0
-    where
-  pub lines : List (List ℕ)
-  pub commands : List Command
-  pub trace : IsTrace lines commands
-  pub took : Took (undone ahead old) (undone ahead' new) (all_lines lines)
-  pub stops : StopsTrace error (length lines) ahead' new
+  where
+    pub lines : List (List ℕ)
+    pub commands : List Command
+    pub trace : IsTrace lines commands
+    pub took : Took (undone ahead old) (undone ahead' new) (all_lines lines)
+    pub stops : StopsTrace error (length lines) ahead' new
 
 -- ---- one line
 

@@ -1,4 +1,13 @@
-//! What is audited: a trace, and behind the line `%%` a transcript, which is read unit by unit.
+//! What is audited: a trace, and behind the line `%%` a transcript, which is read unit by unit. A
+//! unit is a line and all lines behind it that begin with a space.
+//!
+//! Proved: the trace is read line by line, up to its mark or to the end of the input, and what it
+//! commands is kept, in order (`read_trace`). Each unit is read whole, and is the next one of all
+//! that the source has, where it tells that (`read_unit`); so nothing of the transcript is lost. A
+//! unit that goes past 2^32 bytes isn't read. Before each read the sink is flushed, behind the end
+//! of the input nothing is read, and what failed is what the error tells of.
+//!
+//! Only tested: that memory suffices.
 #![tactic(auto)]
 
 mod input_err;

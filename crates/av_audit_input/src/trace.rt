@@ -4,7 +4,8 @@ ghost use Rattle.std.specs.Prelude.{◌≡◌, ◌≢◌, [], IfOk, IfErr, OnOk,
 ghost use Rattle.av_ports.specs.Ports.{undone};
 ghost use Rattle.av_audit_input.specs.Input.{FailsOnly, OnlyReads};
 ghost use Rattle.av_audit_input.specs.Trace.{mark, IsKept, IsNotKept, StopsLine, StopsMark};
-ghost use Rattle.av_audit_input.specs.Trace.{StopsWithin, TakesMark, TakesNext, TakesTrace, last_error};
+ghost use Rattle.av_audit_input.specs.Trace.{StopsWithin, TakesMark, TakesNext, TakesTrace};
+ghost use Rattle.av_audit_input.specs.Trace.{last_error};
 ghost use Rattle.av_audit_input.specs.Trace.{next_of};
 
 use crate::input_err::{InputErr, error_at};

@@ -2,7 +2,8 @@
 
 ghost use Rattle.std.specs.Prelude.{◌≡◌, ◌<◌, IfOk, IfErr, OnOk, OnErr, is_ok, length, true, false};
 ghost use Rattle.av_ports.specs.Ports.{undone};
-ghost use Rattle.av_audit_input.specs.Input.{FailsOnly, HasMore, IsEnded, IsNoPortErr, IsOpen, IsPortErr};
+ghost use Rattle.av_audit_input.specs.Input.{FailsOnly, HasMore, IsEnded, IsNoPortErr, IsOpen};
+ghost use Rattle.av_audit_input.specs.Input.{IsPortErr};
 ghost use Rattle.av_audit_input.specs.Input.{OnlyReads};
 ghost use Rattle.av_audit_input.specs.Unit.{LeavesPiece, StopsUnit, TakesPiece, TakesUnit};
 ghost use Rattle.av_audit_input.specs.Unit.{most_bytes};

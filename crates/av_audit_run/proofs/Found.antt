@@ -1,19 +1,20 @@
 -- What is found of units is found of all of them, and of none two things.
-use Rattle.std.proofs.Common.{◌≡◌, ℕ, ◌+◌, ◌<◌, Bool, true, false, List, [], ◌∷◌, ◌++◌, ◌⊎◌, length, length-append, Option, Some, None, refl, sym, ap, subst, ◌∙◌, arith, append-nil, append_assoc, inl, inr}
+use Rattle.std.proofs.Common.{◌≡◌, ℕ, ◌+◌, Bool, true, false, List, [], ◌∷◌, ◌++◌, ◌⊎◌, length, length-append, Option, Some, None, refl, sym, ap, subst, ◌∙◌}
+use Rattle.std.proofs.Common.{arith, append-nil, append_assoc, inl, inr}
 use Rattle.std.specs.Prelude.{IfSome, unwrap_or}
 use Rattle.av_io.specs.Source.{Took, in_front}
 use Rattle.av_ports.specs.Ports.{PortsView, undone}
 use Rattle.av_trace.specs.declared.command.Command.{Command}
 use Rattle.av_plain.specs.Ledger.{Ledger, Setting, first_ledger}
 use Rattle.av_plain.specs.World.{World}
-use Rattle.av_audit_laws.specs.Unit.{AreUnits, Leaves}
+use Rattle.av_audit_laws.specs.Unit.{AreUnits}
 use Rattle.av_audit_laws.proofs.UnitLaws.{leaves-one}
 use Rattle.av_audit_input.specs.Input.{IsEnded}
 use Rattle.av_audit_input.specs.Trace.{EndsTrace}
-use Rattle.av_audit_input.specs.Unit.{bytes_of, units_of, Cuts}
+use Rattle.av_audit_input.specs.Unit.{bytes_of, units_of}
 use Rattle.av_audit_run.specs.declared.transcript.Finding.{Finding}
 use Rattle.av_audit_run.specs.declared.transcript.Finding.TheVariants as findings
-use Rattle.av_audit_run.specs.Transcript.{AreLegal, Audits, Finds, IsAuditOf, IsFoundOf, IsFront, IsUnknown, IsWrong, Judges, StopsAt}
+use Rattle.av_audit_run.specs.Transcript.{AreLegal, Audits, Finds, IsAuditOf, IsFoundOf, IsFront, IsUnknown, IsWrong, StopsAt}
 
 -- what the others are legal from
 behind : (m : Setting) (w : World) (l : Ledger) (done others : List Command) (legal rest : List (List ℕ)) (w1 w' : World) (l1 l' : Ledger)

@@ -1,14 +1,15 @@
 -- The units that were judged so far, and where the judging ends.
-use Rattle.std.proofs.Common.{◌≡◌, ℕ, zero, suc, ◌+◌, ◌<◌, ◌≤◌, Bool, true, false, List, [], ◌∷◌, ◌++◌, ◌⊎◌, length, length-append, take, take-add, drop, drop-cons, get_or, Option, Some, None, refl, sym, ap, subst, ◌∙◌, arith, append-nil, inl, inr}
+use Rattle.std.proofs.Common.{◌≡◌, ℕ, suc, ◌+◌, ◌<◌, ◌≤◌, true, List, [], ◌∷◌, ◌++◌, length, length-append, take, take-add, drop, drop-cons, get_or, Option}
+use Rattle.std.proofs.Common.{Some, None, refl, sym, ap, subst, ◌∙◌, arith, append-nil, inl, inr}
 use Rattle.std.specs.List.{AllByRecursion}
 use Rattle.std.proofs.lemmas.List.{take-append-drop}
-use Rattle.av_io.specs.Source.{Took, in_front}
+use Rattle.av_io.specs.Source.{in_front}
 use Rattle.av_ports.specs.Ports.{PortsView, undone}
 use Rattle.av_ports.proofs.Bytes.{in_front-then}
 use Rattle.av_trace.specs.declared.command.Command.{Command}
 use Rattle.av_plain.specs.Ledger.{Ledger, Setting, first_ledger}
 use Rattle.av_plain.specs.World.{World}
-use Rattle.av_audit_laws.specs.Unit.{AreUnits, IsUnit, Leaves}
+use Rattle.av_audit_laws.specs.Unit.{AreUnits, Leaves}
 use Rattle.std.specs.Prelude.{option_to_list, unwrap_or}
 use Rattle.av_audit_input.specs.Trace.{AreSaid}
 use Rattle.av_audit.specs.Judge.{IsAt, IsRight}
@@ -20,7 +21,7 @@ use Rattle.av_audit_input.specs.declared.input_err.InputErr.{InputErr}
 use Rattle.av_audit_input.specs.declared.input_err.InputErr.TheVariants as input
 use Rattle.av_audit_input.proofs.UnitLaws.{bytes-more, cut-more, cut-none}
 use Rattle.av_audit_run.specs.declared.transcript.Finding.{Finding}
-use Rattle.av_audit_run.specs.Transcript.{found_of, AreLegal, BreaksOff, Finds, IsOver, IsUnknown, IsWrong, Judges, StopsAt, StopsReading}
+use Rattle.av_audit_run.specs.Transcript.{found_of, BreaksOff, IsUnknown, IsWrong, Judges, StopsAt, StopsReading}
 use Rattle.av_audit_run.specs.declared.transcript.Finding.TheVariants as findings
 
 units-more : (m : Setting) (w : World) (l : Ledger) (cs : List Command) (us : List (List ℕ)) (w' w'' : World) (l' l'' : Ledger) (c : Command)
@@ -145,11 +146,14 @@ module _ (m : Setting) (commands : List Command) (number : ℕ) (before now : Op
     each = h.each;
     cuts = h.cuts;
     few = omega (arith, h.counts);
-    finds = ((
-      h.world,
-      h.ledger,
-      subst (λ cs. AreUnits m [] first_ledger cs h.units h.world h.ledger) all h.are_units,
-    ), ended);
+    finds = (
+      (
+        h.world,
+        h.ledger,
+        subst (λ cs. AreUnits m [] first_ledger cs h.units h.world h.ledger) all h.are_units,
+      ),
+      ended,
+    );
   }
 
   -- a unit was taken that ends it

@@ -1,5 +1,5 @@
 -- What an audit finds in a transcript.
-use Rattle.std.specs.Prelude.{◌≡◌, ◌⊎◌, ℕ, ◌+◌, ◌<◌, ◌≤◌, Bool, true, false, List, [], ◌∷◌, ◌++◌}
+use Rattle.std.specs.Prelude.{◌≡◌, ◌⊎◌, ℕ, ◌+◌, ◌<◌, ◌≤◌, Bool, false, List, [], ◌∷◌, ◌++◌}
 use Rattle.std.specs.Prelude.{length, Option, Some, None}
 use Rattle.std.specs.List.{AllByRecursion}
 use Rattle.av_io.specs.Source.{Took}

@@ -1,10 +1,12 @@
 -- The swap areas of a machine, by what page 0 of each says.
-use Rattle.std.proofs.Common.{◌≡◌, ℕ, zero, suc, ◌+◌, ◌<◌, ◌≤◌, ◌^◌, min, nat_lt, Bool, true, false, cond, ◌==◌, List, [], ◌∷◌, ◌++◌, length, get_or, Option, Some, None, refl, sym, ap, subst, ◌∙◌, arith}
+use Rattle.std.proofs.Common.{◌≡◌, ℕ, zero, suc, ◌+◌, ◌<◌, ◌≤◌, ◌^◌, min, nat_lt, Bool, true, false, cond, ◌==◌, List, [], ◌∷◌, ◌++◌, length, get_or, Option}
+use Rattle.std.proofs.Common.{Some, None, refl, sym, ap, subst, ◌∙◌, arith}
 use Rattle.std.proofs.lemmas.Bool.Decides.{nat_tests}
 use Rattle.std.specs.Prelude.{IfSome, Result, Err, Ok, codes, nat_eq, option_map, option_and_then, slice_get, unwrap_or}
 use Rattle.std.specs.List.{AllByRecursion, ends_with, list_any}
 use Rattle.av_swapdev.specs.Device.{most_pages}
-use Rattle.av_swapdev.specs.Header.{AddsUp, Layout as PlainLayout, all_named, answer_of, area_pages, bad_count, header_of, in_numbers, is_out, last_page, layout_of as layout_by, most_bad, order_of, read_by, read_in, with_slots}
+use Rattle.av_swapdev.specs.Header.{AddsUp, Layout as PlainLayout, all_named, answer_of, area_pages, bad_count, header_of, in_numbers, is_out, last_page}
+use Rattle.av_swapdev.specs.Header.{layout_of as layout_by, most_bad, order_of, read_by, read_in, with_slots}
 use Rattle.av_swapdev.specs.declared.header.Order.{Order}
 use Rattle.av_swapdev.specs.declared.header.Header.{Header}
 use Rattle.av_swapdev.specs.declared.header.HeaderErr.{HeaderErr}
@@ -33,10 +35,10 @@ nothing-in order page = by (last_page order page == 0) refl (nat_lt 0 (area_page
     by true e b f = refl
     by false e true f = refl
     by false e false f = absurd (
-      let few : area_pages order page ≤ 0 = grind (arith, nat_tests, f) in
-      let last : 0 < last_page order page = grind (arith, nat_tests, e) in
-      omega (arith, few, last)
-    )
+        let few : area_pages order page ≤ 0 = grind (arith, nat_tests, f) in
+        let last : 0 < last_page order page = grind (arith, nat_tests, e) in
+        omega (arith, few, last)
+        )
 
 pub nothing : (page : List ℕ) → without_fault (header_of page 0) ≡ None
 nothing page = by (ends_with nat_eq page (codes "SWAPSPACE2"))

@@ -8,7 +8,8 @@ ghost use Rattle.av_plain.specs.Device.{seen_by};
 ghost use Rattle.av_swapdev.specs.Device.{most_areas, most_pages};
 ghost use Rattle.av_book.specs.Machine.{AreNamed, setting_of};
 ghost use Rattle.av_machine.specs.declared.heads.MachineErr.TheVariants.{Memory};
-ghost use Rattle.av_machine.specs.Heads.{AreCounted, IsCounted, IsHead, IsLayoutIn, IsMachineOf, OnlyFails};
+ghost use Rattle.av_machine.specs.Heads.{AreCounted, IsCounted, IsHead, IsLayoutIn, IsMachineOf};
+ghost use Rattle.av_machine.specs.Heads.{OnlyFails};
 
 use av_book::{Head, Layout, Machine};
 use av_swapdev::{PAGE_LEN, SwapDev, bad_pages, read_header};

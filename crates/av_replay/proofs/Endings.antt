@@ -1,5 +1,6 @@
 -- How a turn ends a run.
-use Rattle.std.proofs.Common.{◌≡◌, ◌≢◌, ℕ, ◌+◌, ◌<◌, ◌≤◌, List, [], ◌∷◌, ◌++◌, ◌⊎◌, length, take, Option, Some, None, Bool, true, false, refl, sym, ap, subst, ◌∙◌, append_assoc, append-nil, length-append, arith, inl, inr}
+use Rattle.std.proofs.Common.{◌≡◌, ◌≢◌, ℕ, ◌+◌, ◌<◌, ◌≤◌, List, [], ◌∷◌, ◌++◌, ◌⊎◌, length, take, Option, Some, None, Bool, true, false, refl, sym, ap, subst}
+use Rattle.std.proofs.Common.{◌∙◌, append_assoc, append-nil, length-append, arith, inl, inr}
 use Rattle.std.specs.Prelude.{IfSome, if◌then◌else◌}
 use Rattle.std.specs.Option.{option_to_list}
 use Rattle.std.proofs.lemmas.List.Elements.{All-nil}
@@ -15,12 +16,15 @@ use Rattle.av_ports.specs.declared.run_err.RunErr.{RunErr}
 use Rattle.av_ports.specs.declared.run_err.RunErr.TheVariants as errors
 use Rattle.av_ports.specs.Ports.{PortsView, OnlySink, undone, AreFlushed, AreUnfailed, ReadsOn, IsAtEnd, IsReadFault}
 use Rattle.av_ports.specs.Line.{IsLine}
-use Rattle.av_replay.specs.Turn.{Begins, Commands, HandsDeviceNext, IsEnding, TakesLine, Waits, CutsShort, IsUnflushed, Halts, DoesNext, FindsEnd, Finishes, pages_of_run}
-use Rattle.av_replay.specs.Replay.{most_lines, all_lines, Transcribes, Run, done_lines, Replays, IsHandedBack, StopsAt, MayGoOn, IsCutOff, Ends, status_at, Headline, can_go_on, kernel_at, FailsOnlyAt, FailsUntold, IsFlushed, DoesTrace, FlushesLast}
+use Rattle.av_replay.specs.Turn.{Begins, Commands, HandsDeviceNext, IsEnding, TakesLine, Waits, CutsShort, IsUnflushed, Halts, DoesNext, FindsEnd, Finishes}
+use Rattle.av_replay.specs.Turn.{pages_of_run}
+use Rattle.av_replay.specs.Replay.{most_lines, all_lines, Transcribes, Run, done_lines, Replays, IsHandedBack, StopsAt, MayGoOn, IsCutOff, Ends, status_at}
+use Rattle.av_replay.specs.Replay.{Headline, can_go_on, kernel_at, FailsOnlyAt, FailsUntold, IsFlushed, DoesTrace, FlushesLast}
 use Rattle.av_ports.proofs.Bytes.{Took-none, Took-ahead, Gained-none}
 use Rattle.av_ports.proofs.Times.{failed_since, read_fault_since, flushed_none, only_sink}
 use Rattle.av_replay.proofs.Calls.{handed_on}
-use Rattle.av_replay.proofs.Runs.{rose_none, rose_on, Past, whole, SoFar, longer, next_answers, read_more, wrote_more, device_more, failures_more, legal_more, kernel_more, text_more, all_push, Transcribes-push, joined-push, asked_more}
+use Rattle.av_replay.proofs.Runs.{rose_none, rose_on, Past, whole, SoFar, longer, next_answers, read_more, wrote_more, device_more, failures_more, legal_more}
+use Rattle.av_replay.proofs.Runs.{kernel_more, text_more, all_push, Transcribes-push, joined-push, asked_more}
 use Rattle.av_plain.proofs.Wrote.{device-itself, device-on, wrote-none, wrote-same, wrote-then}
 use Rattle.av_base.specs.declared.slot.Slot.{Slot}
 use Rattle.av_swapdev.specs.Device.{History}

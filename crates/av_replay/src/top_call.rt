@@ -7,7 +7,8 @@ ghost use Rattle.av_plain.specs.Device.{seen_by};
 ghost use Rattle.av_replay.specs.Attach.{HasNone};
 ghost use Rattle.av_replay.specs.KernelPorts.{ports_by};
 ghost use Rattle.av_replay.specs.Replay.{can_go_on};
-ghost use Rattle.av_replay.specs.TopCall.{AskForAudit, AskForLoad, AttachesFewerAsked, DoesAsked, RefusesWords};
+ghost use Rattle.av_replay.specs.TopCall.{AskForAudit, AskForLoad, AttachesFewerAsked, DoesAsked};
+ghost use Rattle.av_replay.specs.TopCall.{RefusesWords};
 ghost use Rattle.av_replay.specs.TopCall.{status_of};
 
 use crate::audit_over::audit_over;

@@ -1,5 +1,6 @@
 -- The forms of words, by the places that words fill.
-use Rattle.std.proofs.Common.{◌≡◌, ◌∙◌, ℕ, ◌==◌, ◌<◌, ◌≤◌, ◌^◌, Bool, ◌&&◌, not, true, false, zero, suc, refl, sym, subst, ap, ap₂, arith, List, [], ◌∷◌, ◌++◌, length, Option, Some, codes, get_or}
+use Rattle.std.proofs.Common.{◌≡◌, ◌∙◌, ℕ, ◌==◌, ◌<◌, ◌≤◌, ◌^◌, Bool, ◌&&◌, not, true, false, zero, suc, refl, sym, subst, ap, ap₂, arith, List, [], ◌∷◌, ◌++◌}
+use Rattle.std.proofs.Common.{length, Option, Some, codes, get_or}
 use Rattle.std.specs.List.{list_all}
 use Rattle.std.specs.Option.{unwrap_or}
 use Rattle.std.specs.Fmt.{decimal}

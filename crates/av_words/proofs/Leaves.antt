@@ -125,7 +125,8 @@ module _ (verb : Text) (frames : Text) (e : is_name frames ≡ true) where
   only_turn : turn_fault (frames_leaf verb) [] (at false nothing_held 1) frames ≡ []
   only_turn = turn_plain (frames_leaf verb) false nothing_held 1 (number_at (codes "FRAMES") 1) refl frames e
 
-  frames_walked : (rest : List Text) → walk (frames_leaf verb).rules [] nothing_held (frames ∷ rest) ≡ fold (walked (frames_leaf verb).rules []) (at false frames_held 2) rest
+  frames_walked : (rest : List Text) → walk (frames_leaf verb).rules [] nothing_held (frames ∷ rest)
+      ≡ fold (walked (frames_leaf verb).rules []) (at false frames_held 2) rest
   frames_walked rest = ap (λ (w : Walk). fold (walked (frames_leaf verb).rules []) w rest) only_step
 
   frames_passes : (rest : List Text)
@@ -151,10 +152,15 @@ module _ (verb : Text) (frames : Text) (e : is_name frames ≡ true) where
   pub frames_fills : (names : List Text) → list_all is_name names ≡ true → length names ≤ most_names
       → Fills (frames_leaf verb) (frames ∷ names) (rows_in (run frames names))
   unfolding defaults_fault walk_fault
-  frames_fills [] es few = (leaf_fault (frames_leaf verb) (frames ∷ []) _ (frames_walked []) (frames_passes []), leaf_rows (frames_leaf verb) (frames ∷ []) _ (frames_walked []))
+  frames_fills [] es few = (
+    leaf_fault (frames_leaf verb) (frames ∷ []) _ (frames_walked []) (frames_passes []),
+    leaf_rows (frames_leaf verb) (frames ∷ []) _ (frames_walked []),
+  )
   frames_fills (name ∷ names) es few =
-      let parts = both _ _ es in
-      (frames_fault name names parts.0 parts.1 ∙ few_names _ few, leaf_rows (frames_leaf verb) (frames ∷ name ∷ names) _ (frames_names name names parts.0 parts.1))
+      let parts = both _ _ es in (
+        frames_fault name names parts.0 parts.1 ∙ few_names _ few,
+        leaf_rows (frames_leaf verb) (frames ∷ name ∷ names) _ (frames_names name names parts.0 parts.1),
+      )
 
   pub frames_many : (names : List Text) → list_all is_name names ≡ true → most_names < length names → Fails (frames_leaf verb) (frames ∷ names)
   frames_many [] es many = absurd (omega arith)

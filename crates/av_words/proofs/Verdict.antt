@@ -1,13 +1,16 @@
 -- Which words the parser takes, and what it finds in them, where no word is a flag.
-use Rattle.std.proofs.Common.{◌≡◌, ◌⊎◌, ◌∙◌, ◌+◌, ◌<◌, ◌≤◌, Bool, ◌||◌, cond, true, false, inl, inr, refl, sym, subst, ap, ap₂, arith, List, [], ◌∷◌, length, Some, None, codes, is_some}
+use Rattle.std.proofs.Common.{◌≡◌, ◌⊎◌, ◌∙◌, ◌+◌, ◌<◌, ◌≤◌, Bool, ◌||◌, cond, true, false, inl, inr, refl, sym, subst, ap, ap₂, arith, List, [], ◌∷◌, length}
+use Rattle.std.proofs.Common.{Some, None, codes, is_some}
 use Rattle.std.specs.List.{fold, list_all}
 use Rattle.std.specs.Option.{option_map}
 use Rattle.std.specs.Str.{bytes_eq}
 use Rattle.std.proofs.lemmas.Bool.{cases_lt}
 use Rattle.std.proofs.lemmas.Slice.Eq.{bytes_eq-Decides}
-use Rattle.clap.specs.Walk.{Held, Names, Step, Text, Walk, finished, idle, nothing_held, rows_after, settled, subcommand_met, subcommand_or_other, walk, walk_from, walked, word_met}
+use Rattle.clap.specs.Walk.{Held, Names, Step, Text, Walk, finished, idle, nothing_held, rows_after, settled, subcommand_met, subcommand_or_other, walk}
+use Rattle.clap.specs.Walk.{walk_from, walked, word_met}
 use Rattle.clap.specs.Simple.{App, built, entered, is_simple, names_of, subcommand_of}
-use Rattle.clap.specs.Faults.{check_fault, defaults_fault, entered_fault, fault_of, is_simple_and_free, level_fault, other_fault, settle_fault, step_fault, turn_fault, walk_fault}
+use Rattle.clap.specs.Faults.{check_fault, defaults_fault, entered_fault, fault_of, is_simple_and_free, level_fault, other_fault, settle_fault, step_fault}
+use Rattle.clap.specs.Faults.{turn_fault, walk_fault}
 use Rattle.clap.specs.Kinds.{HasKind, Kinds, or_else}
 use Rattle.clap.specs.Values.{kind_of}
 use Rattle.clap.specs.declared.error.Error.{Error}
@@ -18,7 +21,8 @@ use Rattle.av_words.specs.Words.{is_name, most_names}
 use Rattle.av_words.specs.Command.{program_app}
 use Rattle.av_words.specs.Places.{HasNoSplit, IsParsed, IsSplit, Split, rows_in, audit, run, verb_in, work}
 use Rattle.av_words.proofs.Places.{both, no_other_fault, other_plain, other_verb}
-use Rattle.av_words.proofs.Leaves.{frames_bare, frames_fills, frames_leaf, frames_many, not_none, or_nil, work_bare, work_fills, work_leaf, work_many, work_one, work_two}
+use Rattle.av_words.proofs.Leaves.{frames_bare, frames_fills, frames_leaf, frames_many, not_none, or_nil, work_bare, work_fills, work_leaf, work_many, work_one}
+use Rattle.av_words.proofs.Leaves.{work_two}
 
 pub program_is_simple : is_simple program_app ≡ true
 program_is_simple = refl
@@ -228,6 +232,7 @@ verdict (verb ∷ rest) e =
   where
     is : (word : Text) → bytes_eq word verb ≡ true → Takes (word ∷ rest) ⊎ Refuses (word ∷ rest) → Takes (verb ∷ rest) ⊎ Refuses (verb ∷ rest)
     is word same = subst (λ v. Takes (v ∷ rest) ⊎ Refuses (v ∷ rest)) ((bytes_eq-Decides word verb).0 same)
+
     go : (r : Bool) → bytes_eq (codes "run") verb ≡ r → (w : Bool) → bytes_eq (codes "work") verb ≡ w
         → (a : Bool) → bytes_eq (codes "audit") verb ≡ a → Takes (verb ∷ rest) ⊎ Refuses (verb ∷ rest)
     go true r w f a g = is (codes "run") r (run_verdict rest (both _ _ e).1)

@@ -2,7 +2,8 @@
 
 ghost use Rattle.std.specs.Prelude.{◌≡◌, IfOk, false};
 ghost use Rattle.clap.specs.Words.{app_of, rule_of};
-ghost use Rattle.av_words.specs.Command.{number_rule, names_rule, frames_app, work_app, program_app};
+ghost use Rattle.av_words.specs.Command.{number_rule, names_rule, frames_app, work_app};
+ghost use Rattle.av_words.specs.Command.{program_app};
 
 use clap::{Arg, Command};
 use std::alloc::{AllocError, Global};

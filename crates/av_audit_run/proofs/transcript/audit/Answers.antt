@@ -1,4 +1,4 @@
-use Rattle.std.proofs.Common.{◌≤◌, length, sym, ap, subst, arith}
+use Rattle.std.proofs.Common.{length, ap, arith}
 use Rattle.av_audit_input.proofs.InputLaws.{only-then}
 use Rattle.av_audit_run.proofs.JudgeAll.{said-few}
 use Rattle.av_audit_run.proofs.transcript.audit.Goals as goal

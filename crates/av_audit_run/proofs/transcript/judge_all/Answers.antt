@@ -1,4 +1,4 @@
-use Rattle.std.proofs.Common.{◌≡◌, ℕ, suc, ◌+◌, length, drop, take, refl, sym, ap, subst, ◌∙◌, arith, take_all}
+use Rattle.std.proofs.Common.{◌≡◌, suc, ◌+◌, length, drop, sym, subst, ◌∙◌, arith, take_all}
 use Rattle.std.proofs.lemmas.List.{drop_all}
 use Rattle.std.proofs.lemmas.Result.{err_from_is_err_and}
 use Rattle.av_ports.specs.Ports.{undone}
@@ -7,7 +7,7 @@ use Rattle.av_book.specs.Machine.{setting_of}
 use Rattle.av_audit.specs.Judge.{IsRight}
 use Rattle.av_audit.specs.Swap.{FitsWords}
 use Rattle.av_audit_input.specs.Input.{IsEnded}
-use Rattle.av_audit_input.proofs.InputLaws.{fails-open, is-open-then, only-then}
+use Rattle.av_audit_input.proofs.InputLaws.{is-open-then, only-then}
 use Rattle.av_audit_run.specs.Transcript.{Judges}
 use Rattle.av_audit_run.specs.declared.transcript.Finding.TheVariants as findings
 use Rattle.av_audit_run.proofs.JudgeAll.{all-legal, at-place, missing, reading-breaks, taken, too-many, verdict-ends, verdict-goes, verdict-legal, wants-memory}

@@ -1,4 +1,4 @@
-use Rattle.std.proofs.Common.{◌≡◌, ◌≤◌}
+use Rattle.std.proofs.Common.{◌≡◌}
 use Rattle.av_audit.specs.declared.auditor.Phase.TheVariants.{Going}
 use Rattle.av_book.specs.Machine.{setting_of}
 use Rattle.av_ports.specs.Ports.{AreUnfailed, undone}
