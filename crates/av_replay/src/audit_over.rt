@@ -7,7 +7,8 @@ ghost use Rattle.av_plain.specs.Device.{seen_by};
 ghost use Rattle.av_ports.specs.Ports.{OnlySink};
 ghost use Rattle.av_swapdev.specs.Device.{most_areas, most_pages};
 ghost use Rattle.av_step.specs.Step.{sizes_of};
-ghost use Rattle.av_book.specs.Machine.{AreNamed, setting_of};
+ghost use Rattle.av_audit.specs.Swap.{FitsWords};
+ghost use Rattle.av_book.specs.Machine.{setting_of};
 ghost use Rattle.av_machine.specs.Heads.{OnlyFails};
 ghost use Rattle.av_replay.specs.Attach.{AttachesFewer, HasNone};
 ghost use Rattle.av_replay.specs.Audit.{DoesAudit, EndsAudit, LosesHeader, legal_text, status_by};
@@ -48,8 +49,7 @@ fn status_of(error: InputErr) -> Status
 
 /// Judges a transcript on this machine, and writes what was found, if it is legal.
 fn audit_ports<P: Ports>(alloc: Global, machine: Machine, ports: &mut P) -> Status
-    requires some { 0 < machine.frames }
-    requires fits { AreNamed (setting_of machine) }
+    requires { FitsWords machine }
     ensures ends { EndsAudit result (setting_of machine) (P.view ports.old) (P.view ports.new) }
     ensures kept { P.kept ports.new ≡ P.kept ports.old }
 {
@@ -69,8 +69,7 @@ fn audit_lent<S: Source, K: Sink, D: SwapDev>(
     sink: &mut K,
     dev: &mut D,
 ) -> Status
-    requires some { 0 < machine.frames }
-    requires fits { AreNamed (setting_of machine) }
+    requires { FitsWords machine }
     ensures { let at = ports_by S.view K.view D.sizes D.pages D.failures D.history in
         EndsAudit result (setting_of machine) (at source.old sink.old dev.old)
         (at source.new sink.new dev.new) }
