@@ -13,3 +13,4 @@ pub mod LoadFront
 pub mod LoadLines
 pub mod Loads
 pub mod Sums
+pub mod Audits

@@ -136,13 +136,18 @@ pub fn audit_over<S: Source, K: Sink, D: SwapDev>(
         (seen_by D.sizes D.pages D.failures D.history dev.new) }
     ensures kernel { result.kernel ≡ None }
 {
-    let status = match attach_all(alloc, names, dev) {
-        Ok(pages) => audit_areas(alloc, frames, &pages, source, sink, dev),
-        Err(AttachErr::Failed) => Status::AttachFault,
-        Err(AttachErr::Memory) => Status::Memory,
-    };
-    Outcome {
-        status,
-        kernel: None,
+    match attach_all(alloc, names, dev) {
+        Ok(pages) => Outcome {
+            status: audit_areas(alloc, frames, &pages, source, sink, dev),
+            kernel: None,
+        },
+        Err(AttachErr::Failed) => Outcome {
+            status: Status::AttachFault,
+            kernel: None,
+        },
+        Err(AttachErr::Memory) => Outcome {
+            status: Status::Memory,
+            kernel: None,
+        },
     }
 }
