@@ -14,3 +14,4 @@ pub mod LoadLines
 pub mod Loads
 pub mod Sums
 pub mod Audits
+pub mod Asks
