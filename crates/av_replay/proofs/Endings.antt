@@ -1,5 +1,6 @@
 -- How a turn ends a run.
-use Rattle.std.proofs.Common.{◌≡◌, ◌≢◌, ℕ, ◌+◌, ◌<◌, ◌≤◌, List, [], ◌∷◌, ◌++◌, ◌⊎◌, length, take, Option, Some, None, Bool, true, false, refl, sym, ap, subst, ◌∙◌, append_assoc, append-nil, length-append, arith, inl, inr}
+use Rattle.std.proofs.Common.{◌≡◌, ◌≢◌, ℕ, ◌+◌, ◌<◌, ◌≤◌, List, [], ◌∷◌, ◌++◌, ◌⊎◌, length, take, Option, Some, None, Bool, true, false, refl, sym, ap, subst}
+use Rattle.std.proofs.Common.{◌∙◌, append_assoc, append-nil, length-append, arith, inl, inr}
 use Rattle.std.specs.Prelude.{IfSome, if◌then◌else◌}
 use Rattle.std.specs.Option.{option_to_list}
 use Rattle.std.proofs.lemmas.List.Elements.{All-nil}
@@ -15,12 +16,15 @@ use Rattle.av_ports.specs.declared.run_err.RunErr.{RunErr}
 use Rattle.av_ports.specs.declared.run_err.RunErr.TheVariants as errors
 use Rattle.av_ports.specs.Ports.{PortsView, OnlySink, undone, AreFlushed, AreUnfailed, ReadsOn, IsAtEnd, IsReadFault}
 use Rattle.av_ports.specs.Line.{IsLine}
-use Rattle.av_replay.specs.Turn.{Begins, Commands, HandsDeviceNext, IsEnding, TakesLine, Waits, CutsShort, IsUnflushed, Halts, DoesNext, FindsEnd, Finishes, pages_of_run}
-use Rattle.av_replay.specs.Replay.{most_lines, all_lines, Transcribes, Run, done_lines, Replays, IsHandedBack, StopsAt, MayGoOn, IsCutOff, Ends, status_at, Headline, can_go_on, kernel_at, FailsOnlyAt, FailsUntold, IsFlushed, DoesTrace, FlushesLast}
+use Rattle.av_replay.specs.Turn.{Begins, Commands, HandsDeviceNext, IsEnding, TakesLine, Waits, CutsShort, IsUnflushed, Halts, DoesNext, FindsEnd, Finishes}
+use Rattle.av_replay.specs.Turn.{pages_of_run}
+use Rattle.av_replay.specs.Replay.{most_lines, all_lines, Transcribes, Run, done_lines, Replays, IsHandedBack, StopsAt, MayGoOn, IsCutOff, Ends, status_at}
+use Rattle.av_replay.specs.Replay.{Headline, can_go_on, kernel_at, FailsOnlyAt, FailsUntold, IsFlushed, DoesTrace, FlushesLast}
 use Rattle.av_ports.proofs.Bytes.{Took-none, Took-ahead, Gained-none}
 use Rattle.av_ports.proofs.Times.{failed_since, read_fault_since, flushed_none, only_sink}
 use Rattle.av_replay.proofs.Calls.{handed_on}
-use Rattle.av_replay.proofs.Runs.{rose_none, rose_on, Past, whole, SoFar, longer, next_answers, read_more, wrote_more, device_more, failures_more, legal_more, kernel_more, text_more, all_push, Transcribes-push, joined-push, asked_more}
+use Rattle.av_replay.proofs.Runs.{rose_none, rose_on, Past, whole, SoFar, longer, next_answers, read_more, wrote_more, device_more, failures_more, legal_more}
+use Rattle.av_replay.proofs.Runs.{kernel_more, text_more, all_push, Transcribes-push, joined-push, asked_more}
 use Rattle.av_plain.proofs.Wrote.{device-itself, device-on, wrote-none, wrote-same, wrote-then}
 use Rattle.av_base.specs.declared.slot.Slot.{Slot}
 use Rattle.av_swapdev.specs.Device.{History}
@@ -383,6 +387,9 @@ module _ (n : ℕ) (past : Past) (ahead rest : List ℕ) (old now new : PortsVie
       (record { waits = waits; part = nil_is_line rest f.0; untold = f.1 }) f.2
   finishes statuses.Usage f = absurd f
   finishes statuses.AttachFault f = absurd f
+  finishes (statuses.Illegal number) f = absurd f
+  finishes statuses.TooLong f = absurd f
+  finishes (statuses.Unjudged number) f = absurd f
   finishes (statuses.BadLine number) f = absurd f
   finishes statuses.Memory f = absurd f
 
@@ -544,6 +551,9 @@ module _ (n : ℕ) (old now : PortsView) (kernel : Machine) (sink : SinkView) wh
       named statuses.WriteFault last f.0 (unflushed was so statuses.TooMany h.run h.rest h.written h.replays (only_told h.told (λ e. cc)) h.handed_back h.ends.0 h.ends.1 f.1)
   replayed statuses.Usage last f h was memory so none = absurd h.ends.0
   replayed statuses.AttachFault last f h was memory so none = absurd h.ends.0
+  replayed (statuses.Illegal number) last f h was memory so none = absurd h.ends.0
+  replayed statuses.TooLong last f h was memory so none = absurd h.ends.0
+  replayed (statuses.Unjudged number) last f h was memory so none = absurd h.ends.0
   replayed statuses.ReadFault last f h was memory so none =
       named statuses.ReadFault last f.0 (same_sink statuses.ReadFault f.1
       (record { headline = h; unfailed = was; flushed = record { none_kept = none refl; flushed = so } }))

@@ -13,3 +13,5 @@ pub mod LoadFront
 pub mod LoadLines
 pub mod Loads
 pub mod Sums
+pub mod Audits
+pub mod Asks

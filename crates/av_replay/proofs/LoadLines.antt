@@ -16,7 +16,8 @@ use Rattle.av_replay.specs.Replay.{all_lines}
 use Rattle.av_replay.specs.Template.{IsDrawn, text_with, no_draws}
 use Rattle.av_replay.specs.Trace.{IsGood, IsTrace, lines_of}
 use Rattle.av_words.specs.Words.{most_load, most_names}
-use Rattle.av_replay.specs.Work.{address_of, after_line, commands_from, draws_of, first_commands, first_process, load, load_lines, reads_and_writes, turn_on, turn_on_commands}
+use Rattle.av_replay.specs.Work.{address_of, after_line, commands_from, draws_of, first_commands, first_process, load, load_lines, reads_and_writes, turn_on}
+use Rattle.av_replay.specs.Work.{turn_on_commands}
 use Rattle.av_replay.proofs.LoadFront.{same}
 use Rattle.av_replay.proofs.Plain.{IsShort, is-short, short}
 use Rattle.av_replay.proofs.Ranges.{drawn-command}

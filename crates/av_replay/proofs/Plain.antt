@@ -6,7 +6,8 @@ use Rattle.av_trace.specs.declared.command.Command.{Command}
 use Rattle.av_trace.specs.declared.command.Command.TheVariants as commands
 use Rattle.av_trace.specs.declared.place.Place.TheVariants.{Fixed}
 use Rattle.av_replay.specs.Work.{address_of, command_by, reads_only, reads_and_writes}
-use Rattle.av_replay.proofs.Templates.{write-line, read-line, fork-line, exit-line, reclaim-line, age-line, complete-line, mprotect-read-line, mprotect-write-line, munmap-line, mmap-line}
+use Rattle.av_replay.proofs.Templates.{write-line, read-line, fork-line, exit-line, reclaim-line, age-line, complete-line, mprotect-read-line}
+use Rattle.av_replay.proofs.Templates.{mprotect-write-line, munmap-line, mmap-line}
 use Rattle.std.specs.List.{list_all}
 use Rattle.std.proofs.lemmas.Bool.Decides.{nat_tests}
 use Rattle.std.proofs.lemmas.List.Elements.{All-cons, All-nil}

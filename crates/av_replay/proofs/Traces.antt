@@ -1,5 +1,6 @@
 -- A trace of good lines is done, or memory runs out; and what is done writes its transcript.
-use Rattle.std.proofs.Common.{eqb, ◌≡◌, ◌≢◌, ℕ, ◌<◌, ◌≤◌, List, [], ◌∷◌, ◌++◌, length, take, drop, Option, Some, None, length-take-le, refl, sym, ap, subst, ◌∙◌, append_assoc, append-nil, arith, inl, inr, length-append}
+use Rattle.std.proofs.Common.{eqb, ◌≡◌, ◌≢◌, ℕ, ◌<◌, ◌≤◌, List, [], ◌∷◌, ◌++◌, length, take, drop, Option, Some, None, length-take-le, refl, sym, ap, subst}
+use Rattle.std.proofs.Common.{◌∙◌, append_assoc, append-nil, arith, inl, inr, length-append}
 use Rattle.std.specs.Prelude.{All, unwrap_or, option_map, IfSome}
 use Rattle.std.specs.List.{AllByRecursion}
 use Rattle.std.specs.Option.{option_to_list}
@@ -166,6 +167,9 @@ complete n statuses.Done old new kernel h content e trace no_read no_write = inl
 complete n statuses.Memory old new kernel h content e trace no_read no_write = inr refl
 complete n statuses.Usage old new kernel h content e trace no_read no_write = absurd h.ends.0
 complete n statuses.AttachFault old new kernel h content e trace no_read no_write = absurd h.ends.0
+complete n (statuses.Illegal number) old new kernel h content e trace no_read no_write = absurd h.ends.0
+complete n statuses.TooLong old new kernel h content e trace no_read no_write = absurd h.ends.0
+complete n (statuses.Unjudged number) old new kernel h content e trace no_read no_write = absurd h.ends.0
 complete n statuses.ReadFault old new kernel h content e trace no_read no_write = absurd (no_read h.ends.2.failures)
 complete n statuses.WriteFault old new kernel h content e trace no_read no_write = absurd (no_write h.ends.1)
 complete n (statuses.BadLine number) old new kernel h content e trace no_read no_write =

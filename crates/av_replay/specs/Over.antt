@@ -7,6 +7,7 @@ use Rattle.av_replay.specs.declared.status.Status.{Status}
 use Rattle.av_replay.specs.declared.status.Status.TheVariants as statuses
 use Rattle.av_words.specs.declared.words.Asked.{Asked}
 use Rattle.av_words.specs.declared.words.Asked.TheVariants as asked
+use Rattle.av_replay.specs.Audit.{DoesAudit}
 use Rattle.av_replay.specs.Attach.{Attaches, Tries}
 use Rattle.av_ports.specs.Ports.{PortsView}
 use Rattle.av_replay.specs.Replay.{DoesTrace}
@@ -43,11 +44,19 @@ WorksOver seed lines frames names status old new device device' kernel =
     DoesLoad frames (load_lines (length names) seed lines) status old new attached device' kernel)
     (λ attached. (new ≡ old) × (device' ≡ attached) × (kernel ≡ None))
 
+-- it judged a transcript
+abbrev pub AuditsOver : ℕ → List (List ℕ) → Status → PortsView → PortsView → Type 0
+AuditsOver frames names status old new = RunsOverAreas names status old.device
+    (λ attached. DoesAudit frames status (record old { device = attached }) new)
+    (λ attached. new ≡ record old { device = attached })
+
 -- it did what the words ask for
 abbrev pub DoesOver :
     Asked → List (List ℕ) → Status → PortsView → PortsView → Option Machine → Type 0
 DoesOver (asked.Run frames) names status old new kernel =
     ReplaysOver frames names status old new kernel
+DoesOver (asked.Audit frames) names status old new kernel =
+    (kernel ≡ None) × AuditsOver frames names status old new
 DoesOver (asked.Work seed lines frames) names status old new kernel =
     (new.source ≡ old.source)
     × WorksOver seed lines frames names status old.sink new.sink old.device new.device kernel

@@ -92,6 +92,9 @@ abbrev pub can_go_on : Status → Bool
 can_go_on statuses.Usage = false
 can_go_on statuses.AttachFault = false
 can_go_on statuses.Memory = false
+can_go_on (statuses.Illegal n) = false
+can_go_on statuses.TooLong = false
+can_go_on (statuses.Unjudged n) = false
 can_go_on status = true
 
 -- the kernel, where it can go on
@@ -132,6 +135,9 @@ StopsAt statuses.Usage new run rest = ⊥
 StopsAt statuses.AttachFault new run rest = ⊥
 StopsAt statuses.WriteFault new run rest = ⊥
 StopsAt statuses.Memory new run rest = ⊥
+StopsAt (statuses.Illegal n) new run rest = ⊥
+StopsAt statuses.TooLong new run rest = ⊥
+StopsAt (statuses.Unjudged n) new run rest = ⊥
 
 -- the text of the last line's reply was cut short, and those before it are whole
 pub record IsCutOff (run : Run) (written : List ℕ) : Type 0 where

@@ -10,6 +10,7 @@ use Rattle.av_words.specs.declared.words.WordsErr.TheVariants as errors
 use Rattle.av_replay.specs.declared.status.Status.{Status}
 use Rattle.av_replay.specs.declared.status.Status.TheVariants as statuses
 use Rattle.av_replay.specs.Attach.{AttachesFewer}
+use Rattle.av_replay.specs.Audit.{LosesHeader}
 use Rattle.av_replay.specs.Over.{DoesOver}
 use Rattle.av_ports.specs.Ports.{PortsView}
 
@@ -44,8 +45,14 @@ AskForLoad words =
     (seed lines frames : ℕ) × (names : List (List ℕ))
     × IsForm words (asked.Work seed lines frames) names
 
--- fewer areas are attached than the words name, up to the first that failed
+-- the words ask for an audit
+abbrev pub AskForAudit : List (List ℕ) → Type 0
+AskForAudit words =
+    (frames : ℕ) × (names : List (List ℕ)) × IsForm words (asked.Audit frames) names
+
+-- fewer areas are attached than the words name, up to the first that failed; or for an audit all,
+-- and page 0 of one could not be read
 abbrev pub AttachesFewerAsked : List (List ℕ) → Device → Device → Type 0
 AttachesFewerAsked words old new =
     (demand : Asked) × (names : List (List ℕ)) × IsForm words demand names
-    × AttachesFewer names old new
+    × (AttachesFewer names old new ⊎ (AskForAudit words × LosesHeader names old new))

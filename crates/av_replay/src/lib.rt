@@ -20,6 +20,7 @@
 #![tactic(auto)]
 
 mod attach;
+mod audit_over;
 mod draws;
 mod kernel_ports;
 mod laws;

@@ -29,7 +29,12 @@ pub fn hand_back(status: Status, kernel: Kernel) -> Outcome
     ensures kernel { result.kernel ≡ kernel_at status kernel }
 {
     match status {
-        Status::Usage | Status::Memory | Status::AttachFault => Outcome {
+        Status::Usage
+        | Status::Memory
+        | Status::AttachFault
+        | Status::Illegal(_)
+        | Status::TooLong
+        | Status::Unjudged(_) => Outcome {
             status,
             kernel: None,
         },

@@ -19,4 +19,11 @@ pub enum Status {
     TooMany,
     /// A swap area could not be attached: the device failed. Nothing was read or written.
     AttachFault,
+    /// The reply of this number, from 1, isn't legal, is wanting, or comes after the last command.
+    /// Those before it are legal.
+    Illegal(u32),
+    /// The transcript's byte 2^32 + 1 came. The replies before it that are whole are legal.
+    TooLong,
+    /// The reply of this number is of a command that isn't judged. Those before it are legal.
+    Unjudged(u32),
 }

@@ -4,14 +4,14 @@
 //! that it hands back. Its last line is `Kernel::totals`: a `stat` by `step` would be one command
 //! more than the load has.
 
-ghost use Rattle.std.specs.Prelude.{◌≡◌, false, IfOk};
+ghost use Rattle.std.specs.Prelude.{◌≡◌, ◌<◌, false, length, IfOk};
 ghost use Rattle.av_text.specs.Word.{Adds};
 ghost use Rattle.av_plain.specs.Device.{setting_of};
 ghost use Rattle.av_plain.specs.Report.{totals as totals_of};
 ghost use Rattle.av_plain.specs.Transcript.{State};
 ghost use Rattle.av_kernel.specs.Kernel.{Stands};
 ghost use Rattle.av_ports.specs.Ports.{OnlySink};
-ghost use Rattle.av_replay.specs.Summary.{SumsUp, count_line, summary_text, tally_text};
+ghost use Rattle.av_replay.specs.Summary.{EndsText, SumsUp, count_line, summary_text, tally_text};
 
 use crate::replay::flush_last;
 use crate::status::Status;
@@ -64,6 +64,21 @@ fn make_summary(
     Ok(text)
 }
 
+/// Writes a text in the end, and flushes the sink.
+pub fn write_last<P: Ports>(ports: &mut P, text: &[u8]) -> Status
+    requires { 0 < length text.now }
+    ensures ends { EndsText result (P.view ports.old).sink (P.view ports.new).sink text.now }
+    ensures only { OnlySink (P.view ports.old) (P.view ports.new) }
+    ensures kept { P.kept ports.new ≡ P.kept ports.old }
+{
+    let status = match write_all(ports, text) {
+        Ok(()) => Status::Done,
+        Err(SinkErr::Failed) => Status::WriteFault,
+        Err(SinkErr::Memory) => Status::Memory,
+    };
+    flush_last(status, ports)
+}
+
 /// Writes the summary of a load of so many lines, which this kernel did, and flushes the sink.
 pub fn sum_up<P: Ports>(alloc: Global, lines: u64, kernel: &Kernel, ports: &mut P) -> Status
     requires unspent { kernel.now.spent ≡ false }
@@ -78,10 +93,5 @@ pub fn sum_up<P: Ports>(alloc: Global, lines: u64, kernel: &Kernel, ports: &mut 
     let Ok(text) = make_summary(alloc, lines, &kernel.tally(), kernel.totals()) else {
         return Status::Memory;
     };
-    let status = match write_all(ports, text.as_slice()) {
-        Ok(()) => Status::Done,
-        Err(SinkErr::Failed) => Status::WriteFault,
-        Err(SinkErr::Memory) => Status::Memory,
-    };
-    flush_last(status, ports)
+    write_last(ports, text.as_slice())
 }

@@ -7,9 +7,11 @@ ghost use Rattle.av_plain.specs.Device.{seen_by};
 ghost use Rattle.av_replay.specs.Attach.{HasNone};
 ghost use Rattle.av_replay.specs.KernelPorts.{ports_by};
 ghost use Rattle.av_replay.specs.Replay.{can_go_on};
-ghost use Rattle.av_replay.specs.TopCall.{AskForLoad, AttachesFewerAsked, DoesAsked, RefusesWords};
+ghost use Rattle.av_replay.specs.TopCall.{AskForAudit, AskForLoad, AttachesFewerAsked, DoesAsked};
+ghost use Rattle.av_replay.specs.TopCall.{RefusesWords};
 ghost use Rattle.av_replay.specs.TopCall.{status_of};
 
+use crate::audit_over::audit_over;
 use crate::outcome::Outcome;
 use crate::over::run_over;
 use crate::progress::Progress;
@@ -86,8 +88,10 @@ pub fn run<S: Source, K: Sink, D: SwapDev, P: Progress>(
         → AttachesFewerAsked (map string_bytes words.now)
         (seen_by D.sizes D.pages D.failures D.history dev.old)
         (seen_by D.sizes D.pages D.failures D.history dev.new) }
-    // A kernel is handed back exactly where there is one to go on with.
-    ensures kernel { is_some result.kernel ≡ can_go_on result.status }
+    // A kernel is handed back exactly where there is one to go on with, and none after an audit.
+    ensures kernel { (AskForAudit (map string_bytes words.now) → ⊥)
+        → is_some result.kernel ≡ can_go_on result.status }
+    ensures none { AskForAudit (map string_bytes words.now) → result.kernel ≡ None }
 {
     let (asked, names) = match read_words(alloc, words) {
         Ok(read) => read,
@@ -100,5 +104,6 @@ pub fn run<S: Source, K: Sink, D: SwapDev, P: Progress>(
             lines,
             frames,
         } => work_over(alloc, seed, lines, frames, &names, sink, dev, progress),
+        Asked::Audit { frames } => audit_over(alloc, frames, &names, source, sink, dev),
     }
 }

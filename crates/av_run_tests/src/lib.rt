@@ -7,6 +7,8 @@
 #[cfg(test)]
 mod areas;
 #[cfg(test)]
+mod audit;
+#[cfg(test)]
 mod device;
 #[cfg(test)]
 mod fault;

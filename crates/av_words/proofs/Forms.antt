@@ -1,5 +1,6 @@
 -- The forms of words, by the places that words fill.
-use Rattle.std.proofs.Common.{◌≡◌, ◌∙◌, ℕ, ◌==◌, ◌<◌, ◌≤◌, ◌^◌, Bool, ◌&&◌, not, true, false, zero, suc, refl, sym, subst, ap, ap₂, arith, List, [], ◌∷◌, ◌++◌, length, Option, Some, codes, get_or}
+use Rattle.std.proofs.Common.{◌≡◌, ◌∙◌, ℕ, ◌==◌, ◌<◌, ◌≤◌, ◌^◌, Bool, ◌&&◌, not, true, false, zero, suc, refl, sym, subst, ap, ap₂, arith, List, [], ◌∷◌, ◌++◌}
+use Rattle.std.proofs.Common.{length, Option, Some, codes, get_or}
 use Rattle.std.specs.List.{list_all}
 use Rattle.std.specs.Option.{unwrap_or}
 use Rattle.std.specs.Fmt.{decimal}
@@ -8,7 +9,7 @@ use Rattle.std.proofs.lemmas.Fmt.{decimal_digit, decimal_nonempty, first_decimal
 use Rattle.std.proofs.lemmas.List.Folds.{list_all-append}
 use Rattle.clap.specs.Walk.{Row, Text, all_of}
 use Rattle.av_words.specs.Words.{HasNoForm, IsForm, IsInRange, is_name, words_of}
-use Rattle.av_words.specs.Places.{HasNoSplit, HasValues, IsAskedBy, IsParsed, Split, name_rows, names_in, rows_in, run, verb_in, words_in, work}
+use Rattle.av_words.specs.Places.{HasNoSplit, HasValues, IsAskedBy, IsParsed, Split, name_rows, names_in, rows_in, audit, run, verb_in, words_in, work}
 use Rattle.av_words.specs.declared.words.Asked.{Asked}
 use Rattle.av_words.specs.declared.words.Asked.TheVariants as asked
 use Rattle.av_words.proofs.Places.{both, other_verb}
@@ -33,6 +34,7 @@ decimal_is_name (suc n) fits = digit_first (decimal (suc n)) (decimal_nonempty (
 
 form_words : (demand : Asked) → IsInRange demand → list_all is_name (words_of demand) ≡ true
 form_words (asked.Run frames) within = ap (λ b. b && true) (decimal_is_name frames (omega (arith, within.most)))
+form_words (asked.Audit frames) within = ap (λ b. b && true) (decimal_is_name frames (omega (arith, within.most)))
 form_words (asked.Work seed lines frames) within =
     ap₂ (λ a b. a && b) (decimal_is_name seed (omega (arith, within.0.most)))
     (ap₂ (λ a b. a && (b && true)) (decimal_is_name lines (omega (arith, within.1.most))) (decimal_is_name frames (omega (arith, within.2.most))))
@@ -47,14 +49,17 @@ form_is_plain words demand names form =
 
 abbrev split_of : Asked → List Text → Split
 split_of (asked.Run frames) names = run (decimal frames) names
+split_of (asked.Audit frames) names = audit (decimal frames) names
 split_of (asked.Work seed lines frames) names = work (decimal seed) (decimal lines) (decimal frames) names
 
 split_words : (demand : Asked) (names : List Text) → words_of demand ++ names ≡ words_in (split_of demand names)
 split_words (asked.Run frames) names = refl
+split_words (asked.Audit frames) names = refl
 split_words (asked.Work seed lines frames) names = refl
 
 split_names : (demand : Asked) (names : List Text) → names ≡ names_in (split_of demand names)
 split_names (asked.Run frames) names = refl
+split_names (asked.Audit frames) names = refl
 split_names (asked.Work seed lines frames) names = refl
 
 pub no_form : (words : List Text) → HasNoSplit words → HasNoForm words
@@ -75,6 +80,11 @@ asks (run f ns) (asked.Work seed lines frames) names e = absurd (other_verb (cod
 asks (work s l f ns) (asked.Run frames) names e = absurd (other_verb (codes "work") (codes "run") refl (ap (word_at 0) e) refl)
 asks (work s l f ns) (asked.Work seed lines frames) names e =
     (refl, ap Some (ap (word_at 1) e), ap Some (ap (word_at 2) e), ap Some (ap (word_at 3) e))
+asks (run f ns) (asked.Audit frames) names e = absurd (other_verb (codes "run") (codes "audit") refl (ap (word_at 0) e) refl)
+asks (work s l f ns) (asked.Audit frames) names e = absurd (other_verb (codes "work") (codes "audit") refl (ap (word_at 0) e) refl)
+asks (audit f ns) (asked.Audit frames) names e = (refl, ap Some (ap (word_at 1) e))
+asks (audit f ns) (asked.Run frames) names e = absurd (other_verb (codes "audit") (codes "run") refl (ap (word_at 0) e) refl)
+asks (audit f ns) (asked.Work seed lines frames) names e = absurd (other_verb (codes "audit") (codes "work") refl (ap (word_at 0) e) refl)
 
 words_asked : (split : Split) (demand : Asked) → HasValues (verb_in split) (rows_in split) demand → words_in split ≡ words_of demand ++ names_in split
 words_asked (run f ns) (asked.Run frames) v = ap (λ t. codes "run" ∷ t ∷ ns) (some_same v.1)
@@ -82,6 +92,11 @@ words_asked (run f ns) (asked.Work seed lines frames) v = absurd (other_verb (co
 words_asked (work s l f ns) (asked.Run frames) v = absurd (other_verb (codes "work") (codes "run") refl v.0 refl)
 words_asked (work s l f ns) (asked.Work seed lines frames) v =
     λ i. codes "work" ∷ some_same v.1 i ∷ some_same v.2 i ∷ some_same v.3 i ∷ ns
+words_asked (run f ns) (asked.Audit frames) v = absurd (other_verb (codes "run") (codes "audit") refl v.0 refl)
+words_asked (work s l f ns) (asked.Audit frames) v = absurd (other_verb (codes "work") (codes "audit") refl v.0 refl)
+words_asked (audit f ns) (asked.Audit frames) v = ap (λ t. codes "audit" ∷ t ∷ ns) (some_same v.1)
+words_asked (audit f ns) (asked.Run frames) v = absurd (other_verb (codes "audit") (codes "run") refl v.0 refl)
+words_asked (audit f ns) (asked.Work seed lines frames) v = absurd (other_verb (codes "audit") (codes "work") refl v.0 refl)
 
 names_found : (names : List Text) → unwrap_or (all_of (codes "SWAP") (name_rows names)) [] ≡ names
 names_found [] = refl
@@ -90,9 +105,11 @@ names_found (name ∷ names) = refl
 all_names : (split : Split) → unwrap_or (all_of (codes "SWAP") (rows_in split)) [] ≡ names_in split
 all_names (run f ns) = names_found ns
 all_names (work s l f ns) = names_found ns
+all_names (audit f ns) = names_found ns
 
 plain_names : (split : Split) → list_all is_name (words_in split) ≡ true → list_all is_name (names_in split) ≡ true
 plain_names (run f ns) e = (both (is_name f) (list_all is_name ns) e).1
+plain_names (audit f ns) e = (both (is_name f) (list_all is_name ns) e).1
 plain_names (work s l f ns) e =
     let behind_seed = both (is_name s) (is_name l && (is_name f && list_all is_name ns)) e in
     let behind_lines = both (is_name l) (is_name f && list_all is_name ns) behind_seed.1 in

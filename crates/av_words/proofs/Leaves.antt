@@ -1,4 +1,4 @@
--- What `run` and `work` make of the words behind them.
+-- What `run`, `audit` and `work` make of the words behind them.
 use Rattle.std.proofs.Common.{◌≡◌, ◌∙◌, ℕ, ◌<◌, ◌≤◌, Bool, cond, true, false, refl, sym, ap, arith, List, [], ◌∷◌, length, Some, codes, nat_lt}
 use Rattle.std.specs.List.{fold, list_all}
 use Rattle.std.specs.Option.{option_map_or}
@@ -11,16 +11,16 @@ use Rattle.clap.specs.declared.builder.value_parser.ValueParser.TheVariants as v
 use Rattle.clap.specs.declared.error.kind.ErrorKind.{ErrorKind}
 use Rattle.clap.specs.declared.error.kind.ErrorKind.TheVariants as kind
 use Rattle.av_words.specs.Words.{is_name, most_names}
-use Rattle.av_words.specs.Command.{number_rule, program_app, run_app, work_app}
+use Rattle.av_words.specs.Command.{frames_app, number_rule, program_app, work_app}
 use Rattle.av_words.specs.Places.{row, rows_in, run, work}
 use Rattle.av_words.proofs.Places.{at, both, holding, names_at, names_fault, turn_plain, walked_names, walked_plain}
 
--- the two commands as the parser builds them
+-- the commands as the parser builds them
 abbrev pub leaf : Shape → Shape
 leaf s = built_leaf (inherited (with_leaf_noted (marked_built program_app.top)) s)
 
-abbrev pub run_leaf : Shape
-run_leaf = leaf run_app.top
+abbrev pub frames_leaf : Text → Shape
+frames_leaf verb = leaf (frames_app verb).top
 
 abbrev pub work_leaf : Shape
 work_leaf = leaf work_app.top
@@ -110,61 +110,67 @@ module _ (s : Shape) (h : Held) (rows : List Row) (place : ℕ) (found : arg_by_
       turn_then s (at false h place) (at true (holding rows (codes "SWAP") (name ∷ [])) place) name names (first_passes name e) (first_walked name e)
       ∙ names_fault s rows place found (name ∷ []) names es
 
--- ---- run
+-- ---- run and audit
 
-module _ (frames : Text) (e : is_name frames ≡ true) where
-  abbrev run_rows : List Row
-  run_rows = row (codes "FRAMES") (frames ∷ []) ∷ []
+module _ (verb : Text) (frames : Text) (e : is_name frames ≡ true) where
+  abbrev frames_rows : List Row
+  frames_rows = row (codes "FRAMES") (frames ∷ []) ∷ []
 
-  abbrev run_held : Held
-  run_held = holding [] (codes "FRAMES") (frames ∷ [])
+  abbrev frames_held : Held
+  frames_held = holding [] (codes "FRAMES") (frames ∷ [])
 
-  run_step : walked run_leaf.rules [] (at false nothing_held 1) frames ≡ at false run_held 2
-  run_step = walked_plain run_leaf false nothing_held 1 (number_at (codes "FRAMES") 1) refl frames e
+  only_step : walked (frames_leaf verb).rules [] (at false nothing_held 1) frames ≡ at false frames_held 2
+  only_step = walked_plain (frames_leaf verb) false nothing_held 1 (number_at (codes "FRAMES") 1) refl frames e
 
-  run_turn : turn_fault run_leaf [] (at false nothing_held 1) frames ≡ []
-  run_turn = turn_plain run_leaf false nothing_held 1 (number_at (codes "FRAMES") 1) refl frames e
+  only_turn : turn_fault (frames_leaf verb) [] (at false nothing_held 1) frames ≡ []
+  only_turn = turn_plain (frames_leaf verb) false nothing_held 1 (number_at (codes "FRAMES") 1) refl frames e
 
-  run_walked : (rest : List Text) → walk run_leaf.rules [] nothing_held (frames ∷ rest) ≡ fold (walked run_leaf.rules []) (at false run_held 2) rest
-  run_walked rest = ap (λ (w : Walk). fold (walked run_leaf.rules []) w rest) run_step
+  frames_walked : (rest : List Text) → walk (frames_leaf verb).rules [] nothing_held (frames ∷ rest)
+      ≡ fold (walked (frames_leaf verb).rules []) (at false frames_held 2) rest
+  frames_walked rest = ap (λ (w : Walk). fold (walked (frames_leaf verb).rules []) w rest) only_step
 
-  run_passes : (rest : List Text)
-      → walk_fault run_leaf [] (walk_from nothing_held) (frames ∷ rest) ≡ walk_fault run_leaf [] (at false run_held 2) rest
-  run_passes rest = turn_then run_leaf (at false nothing_held 1) (at false run_held 2) frames rest run_turn run_step
+  frames_passes : (rest : List Text)
+      → walk_fault (frames_leaf verb) [] (walk_from nothing_held) (frames ∷ rest) ≡ walk_fault (frames_leaf verb) [] (at false frames_held 2) rest
+  frames_passes rest = turn_then (frames_leaf verb) (at false nothing_held 1) (at false frames_held 2) frames rest only_turn only_step
 
-  run_end : (name : Text) (names : List Text)
-      → end_fault run_leaf (holding run_rows (codes "SWAP") (name ∷ names)) ≡ range_kinds 0 most_names (length (name ∷ names))
+  frames_end : (name : Text) (names : List Text)
+      → end_fault (frames_leaf verb) (holding frames_rows (codes "SWAP") (name ∷ names)) ≡ range_kinds 0 most_names (length (name ∷ names))
   unfolding defaults_fault
-  run_end name names =
+  frames_end name names =
       let range = range_kinds 0 most_names (length (name ∷ names)) in
       ap (λ k. or_else (or_else range k) []) (strings names) ∙ or_nil (or_else range []) ∙ or_nil range
 
   module _ (name : Text) (names : List Text) (n : is_name name ≡ true) (ns : list_all is_name names ≡ true) where
-    run_names : walk run_leaf.rules [] nothing_held (frames ∷ name ∷ names) ≡ at true (holding run_rows (codes "SWAP") (name ∷ names)) 2
-    run_names = run_walked (name ∷ names) ∙ all_walked run_leaf run_held run_rows 2 refl (λ x. refl) refl name names n ns
+    frames_names : walk (frames_leaf verb).rules [] nothing_held (frames ∷ name ∷ names) ≡ at true (holding frames_rows (codes "SWAP") (name ∷ names)) 2
+    frames_names = frames_walked (name ∷ names) ∙ all_walked (frames_leaf verb) frames_held frames_rows 2 refl (λ x. refl) refl name names n ns
 
-    run_fault : level_fault run_leaf [] nothing_held (frames ∷ name ∷ names) false [] ≡ range_kinds 0 most_names (length (name ∷ names))
-    run_fault =
-        leaf_fault run_leaf (frames ∷ name ∷ names) _ run_names
-        (run_passes (name ∷ names) ∙ all_pass run_leaf run_held run_rows 2 refl (λ x. refl) refl name names n ns) ∙ run_end name names
+    frames_fault : level_fault (frames_leaf verb) [] nothing_held (frames ∷ name ∷ names) false [] ≡ range_kinds 0 most_names (length (name ∷ names))
+    frames_fault =
+        leaf_fault (frames_leaf verb) (frames ∷ name ∷ names) _ frames_names
+        (frames_passes (name ∷ names) ∙ all_pass (frames_leaf verb) frames_held frames_rows 2 refl (λ x. refl) refl name names n ns) ∙ frames_end name names
 
-  pub run_fills : (names : List Text) → list_all is_name names ≡ true → length names ≤ most_names
-      → Fills run_leaf (frames ∷ names) (rows_in (run frames names))
+  pub frames_fills : (names : List Text) → list_all is_name names ≡ true → length names ≤ most_names
+      → Fills (frames_leaf verb) (frames ∷ names) (rows_in (run frames names))
   unfolding defaults_fault walk_fault
-  run_fills [] es few = (leaf_fault run_leaf (frames ∷ []) _ (run_walked []) (run_passes []), leaf_rows run_leaf (frames ∷ []) _ (run_walked []))
-  run_fills (name ∷ names) es few =
-      let parts = both _ _ es in
-      (run_fault name names parts.0 parts.1 ∙ few_names _ few, leaf_rows run_leaf (frames ∷ name ∷ names) _ (run_names name names parts.0 parts.1))
+  frames_fills [] es few = (
+    leaf_fault (frames_leaf verb) (frames ∷ []) _ (frames_walked []) (frames_passes []),
+    leaf_rows (frames_leaf verb) (frames ∷ []) _ (frames_walked []),
+  )
+  frames_fills (name ∷ names) es few =
+      let parts = both _ _ es in (
+        frames_fault name names parts.0 parts.1 ∙ few_names _ few,
+        leaf_rows (frames_leaf verb) (frames ∷ name ∷ names) _ (frames_names name names parts.0 parts.1),
+      )
 
-  pub run_many : (names : List Text) → list_all is_name names ≡ true → most_names < length names → Fails run_leaf (frames ∷ names)
-  run_many [] es many = absurd (omega arith)
-  run_many (name ∷ names) es many =
+  pub frames_many : (names : List Text) → list_all is_name names ≡ true → most_names < length names → Fails (frames_leaf verb) (frames ∷ names)
+  frames_many [] es many = absurd (omega arith)
+  frames_many (name ∷ names) es many =
       let parts = both _ _ es in
-      not_none kind.TooManyValues [] _ (run_fault name names parts.0 parts.1 ∙ many_names _ many)
+      not_none kind.TooManyValues [] _ (frames_fault name names parts.0 parts.1 ∙ many_names _ many)
 
-pub run_bare : Fails run_leaf []
+pub frames_bare : (verb : Text) → Fails (frames_leaf verb) []
 unfolding defaults_fault walk_fault
-run_bare none = not_none kind.MissingRequiredArgument [] _ refl none
+frames_bare verb none = not_none kind.MissingRequiredArgument [] _ refl none
 
 -- ---- work
 

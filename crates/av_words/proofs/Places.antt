@@ -1,12 +1,14 @@
 -- What a command of positional arguments makes of words that are no flags: each goes to the argument
 -- whose place it has.
-use Rattle.std.proofs.Common.{◌≡◌, ◌∙◌, ℕ, ◌==◌, Bool, ◌&&◌, not, cond, true, false, refl, sym, ap, List, [], ◌∷◌, ◌++◌, Some, None, append-nil, append_assoc, codes}
+use Rattle.std.proofs.Common.{◌≡◌, ◌∙◌, ℕ, ◌==◌, Bool, ◌&&◌, not, cond, true, false, refl, sym, ap, List, [], ◌∷◌, ◌++◌, Some, None, append-nil, append_assoc}
+use Rattle.std.proofs.Common.{codes}
 use Rattle.std.specs.List.{fold, list_all}
 use Rattle.std.specs.Option.{option_map_or}
 use Rattle.std.specs.Str.{bytes_eq}
 use Rattle.std.proofs.lemmas.Bool.{true≢false}
 use Rattle.clap.specs.Lexer.{long_of, short_of}
-use Rattle.clap.specs.Walk.{Held, Row, Rule, Step, Text, Walk, Waiting, after_step, arg_by_index, idle, long_or_other, positional, short_or_plain, subcommand_or_other, to_positional, trailing, value, walked, word_met}
+use Rattle.clap.specs.Walk.{Held, Row, Rule, Step, Text, Walk, Waiting, after_step, arg_by_index, idle, long_or_other, positional, short_or_plain}
+use Rattle.clap.specs.Walk.{subcommand_or_other, to_positional, trailing, value, walked, word_met}
 use Rattle.clap.specs.Simple.{Shape, filled, with_index}
 use Rattle.clap.specs.Faults.{bundle_fault, flag_word_fault, other_fault, positional_fault, step_fault, stray_fault, turn_fault, walk_fault, word_fault}
 use Rattle.clap.specs.Kinds.{or_else}

@@ -15,8 +15,9 @@ names_rule = record (new_rule (codes "SWAP")) {
   range = Some (record { start_inclusive = 0; end_inclusive = most_names });
 }
 
-abbrev pub run_app : App
-run_app = with_rule (with_rule (new_app (codes "run")) (number_rule (codes "FRAMES"))) names_rule
+-- a verb, the number of frames, and names
+abbrev pub frames_app : Text → App
+frames_app verb = with_rule (with_rule (new_app verb) (number_rule (codes "FRAMES"))) names_rule
 
 abbrev pub work_app : App
 work_app = with_rule (with_rule (with_rule (with_rule (new_app (codes "work"))
@@ -33,4 +34,6 @@ bare_app = on_top (λ s. record s {
 }) (new_app (codes "avsim"))
 
 abbrev pub program_app : App
-program_app = with_subcommand (with_subcommand bare_app run_app.top) work_app.top
+program_app = with_subcommand
+    (with_subcommand (with_subcommand bare_app (frames_app (codes "run")).top) work_app.top)
+    (frames_app (codes "audit")).top

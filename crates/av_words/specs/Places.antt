@@ -13,18 +13,22 @@ use Rattle.av_words.specs.declared.words.Asked.TheVariants as asked
 pub data Split : Type 0 where
   run : Text → List Text → Split
   work : Text → Text → Text → List Text → Split
+  audit : Text → List Text → Split
 
 abbrev pub words_in : Split → List Text
 words_in (run frames names) = codes "run" ∷ frames ∷ names
 words_in (work seed lines frames names) = codes "work" ∷ seed ∷ lines ∷ frames ∷ names
+words_in (audit frames names) = codes "audit" ∷ frames ∷ names
 
 abbrev pub names_in : Split → List Text
 names_in (run frames names) = names
 names_in (work seed lines frames names) = names
+names_in (audit frames names) = names
 
 abbrev pub verb_in : Split → Text
 verb_in (run frames names) = codes "run"
 verb_in (work seed lines frames names) = codes "work"
+verb_in (audit frames names) = codes "audit"
 
 -- the values that words gave an argument
 abbrev pub row : Text → List Text → Row
@@ -45,6 +49,7 @@ rows_in (run frames names) = row (codes "FRAMES") (frames ∷ []) ∷ name_rows 
 rows_in (work seed lines frames names) =
     row (codes "SEED") (seed ∷ []) ∷ row (codes "LINES") (lines ∷ [])
     ∷ row (codes "FRAMES") (frames ∷ []) ∷ name_rows names
+rows_in (audit frames names) = row (codes "FRAMES") (frames ∷ []) ∷ name_rows names
 
 -- the words fill the places of a command, with no more names than there may be
 pub record IsSplit (words : List Text) (split : Split) : Type 0 where
@@ -72,6 +77,8 @@ HasValues verb rows (asked.Run frames) =
 HasValues verb rows (asked.Work seed lines frames) =
     (verb ≡ codes "work") × IsValue (codes "SEED") rows seed
     × IsValue (codes "LINES") rows lines × IsValue (codes "FRAMES") rows frames
+HasValues verb rows (asked.Audit frames) =
+    (verb ≡ codes "audit") × IsValue (codes "FRAMES") rows frames
 
 abbrev pub IsAskedBy : Text → List Row → Asked → Type 0
 IsAskedBy verb rows demand = HasValues verb rows demand × IsInRange demand

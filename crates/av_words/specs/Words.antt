@@ -21,11 +21,13 @@ abbrev pub is_name : List ℕ → Bool
 is_name [] = false
 is_name (b ∷ word) = not (b == 45)
 
--- `run` and how many frames there are; or `work`, a seed, how many lines, and how many frames
+-- `run` and how many frames there are; `work`, a seed, how many lines, and how many frames; or
+-- `audit` and how many frames
 abbrev pub words_of : Asked → List (List ℕ)
 words_of (asked.Run frames) = codes "run" ∷ decimal frames ∷ []
 words_of (asked.Work seed lines frames) =
     codes "work" ∷ decimal seed ∷ decimal lines ∷ decimal frames ∷ []
+words_of (asked.Audit frames) = codes "audit" ∷ decimal frames ∷ []
 
 -- the numbers are in range
 abbrev pub IsInRange : Asked → Type 0
@@ -33,6 +35,7 @@ IsInRange (asked.Run frames) = IsNumberIn 1 most_frames frames
 IsInRange (asked.Work seed lines frames) =
     IsNumberIn 0 (2 ^ 64 - 1) seed × IsNumberIn 1 most_load lines
     × IsNumberIn 1 most_frames frames
+IsInRange (asked.Audit frames) = IsNumberIn 1 most_frames frames
 
 -- the names of swap areas: not too many, and each may be one
 pub record AreNames (names : List (List ℕ)) : Type 0 where

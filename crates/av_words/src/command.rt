@@ -2,7 +2,8 @@
 
 ghost use Rattle.std.specs.Prelude.{◌≡◌, IfOk, false};
 ghost use Rattle.clap.specs.Words.{app_of, rule_of};
-ghost use Rattle.av_words.specs.Command.{number_rule, names_rule, run_app, work_app, program_app};
+ghost use Rattle.av_words.specs.Command.{number_rule, names_rule, frames_app, work_app};
+ghost use Rattle.av_words.specs.Command.{program_app};
 
 use clap::{Arg, Command};
 use std::alloc::{AllocError, Global};
@@ -26,11 +27,11 @@ fn names_arg<'a>(alloc: Global) -> Arg<'a>
     Arg::new(alloc, "SWAP").num_args(0..=MOST_NAMES)
 }
 
-/// `run FRAMES [SWAP..]`
-fn run_command<'a>(alloc: Global) -> Result<Command<'a>, AllocError>
-    ensures { IfOk result (λ c. app_of c ≡ run_app) }
+/// A verb, the number of frames, and names: `run FRAMES [SWAP..]`, `audit FRAMES [SWAP..]`
+fn frames_command<'a>(alloc: Global, verb: &'a str) -> Result<Command<'a>, AllocError>
+    ensures { IfOk result (λ c. app_of c ≡ frames_app verb.entry.now) }
 {
-    Command::new(alloc, "run")
+    Command::new(alloc, verb)
         .arg(number_arg(alloc, "FRAMES"))?
         .arg(names_arg(alloc))
 }
@@ -56,6 +57,7 @@ pub fn program_command<'a>(alloc: Global) -> Result<Command<'a>, AllocError>
         .disable_help_flag(true)
         .disable_help_subcommand(true)
         .subcommand_required(true)
-        .subcommand(run_command(alloc)?)?
-        .subcommand(work_command(alloc)?)
+        .subcommand(frames_command(alloc, "run")?)?
+        .subcommand(work_command(alloc)?)?
+        .subcommand(frames_command(alloc, "audit")?)
 }

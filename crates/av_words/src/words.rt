@@ -23,12 +23,13 @@ use std::alloc::{AllocError, Global};
 /// So many lines may be asked for.
 const MOST_LOAD: u64 = 1_000_000;
 
-/// What the words ask for: a trace on a machine of so many frames, or a load of so many lines from
-/// a seed on.
+/// What the words ask for: a trace on a machine of so many frames, a load of so many lines from a
+/// seed on, or that a transcript be judged, of a trace on a machine of so many frames.
 #[derive(Clone, Copy, Drop, Debug, PartialEq, Eq)]
 pub enum Asked {
     Run { frames: u32 },
     Work { seed: u64, lines: u32, frames: u32 },
+    Audit { frames: u32 },
 }
 
 /// Why the words were not read.
@@ -124,6 +125,10 @@ fn asked_by(verb: &str, values: &ArgMatches<'_>) -> Option<Asked>
                 lines,
                 frames,
             })
+        }
+        "audit" => {
+            let frames = frames_of(values)?;
+            Some(Asked::Audit { frames })
         }
         _ => None,
     }

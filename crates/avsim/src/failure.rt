@@ -9,7 +9,7 @@ use thiserror::Error;
 /// Why the program failed, in the words that it prints.
 #[derive(Debug, Drop, Error)]
 pub enum Failure {
-    #[error("usage: avsim run FRAMES [SWAP..] | avsim work SEED LINES FRAMES [SWAP..]")]
+    #[error("usage: avsim run FRAMES [SWAP..] | avsim work SEED LINES FRAMES [SWAP..] | avsim audit FRAMES [SWAP..]")]
     Usage,
     #[error("line {0}: not a command")]
     BadLine(u32),
@@ -23,6 +23,12 @@ pub enum Failure {
     TooMany,
     #[error("swap file can't be opened")]
     Attach,
+    #[error("reply {0}: not legal")]
+    Illegal(u32),
+    #[error("transcript too long")]
+    TooLong,
+    #[error("reply {0}: not judged yet")]
+    Unjudged(u32),
 }
 
 impl Failure {
@@ -39,6 +45,9 @@ impl Failure {
             Status::Memory => Some(Failure::Memory),
             Status::TooMany => Some(Failure::TooMany),
             Status::AttachFault => Some(Failure::Attach),
+            Status::Illegal(reply) => Some(Failure::Illegal(reply)),
+            Status::TooLong => Some(Failure::TooLong),
+            Status::Unjudged(reply) => Some(Failure::Unjudged(reply)),
         }
     }
 }
@@ -56,5 +65,8 @@ pub fn exit_number(status: Status) -> u8
         Status::Memory => 6,
         Status::TooMany => 7,
         Status::AttachFault => 8,
+        Status::Illegal(_) => 9,
+        Status::TooLong => 10,
+        Status::Unjudged(_) => 11,
     }
 }

@@ -3,7 +3,8 @@ use Rattle.std.proofs.lemmas.Bool.{cond-true, cond-false, eq-eqb, ne_eqb, lt-ltb
 use Rattle.av_base.specs.declared.prot.Prot.{Prot}
 use Rattle.av_trace.specs.declared.command.Command.TheVariants as commands
 use Rattle.av_replay.specs.Work.{address_of}
-use Rattle.av_replay.proofs.Templates.{whole, write-is, read-is, fork-is, exit-is, reclaim-is, age-is, complete-is, mprotect-read, mprotect-write, munmap-is, mmap-is, by-kind, write-kind, read-kind}
+use Rattle.av_replay.proofs.Templates.{whole, write-is, read-is, fork-is, exit-is, reclaim-is, age-is, complete-is, mprotect-read, mprotect-write, munmap-is}
+use Rattle.av_replay.proofs.Templates.{mmap-is, by-kind, write-kind, read-kind}
 use Rattle.av_replay.proofs.template.template_of.Goals as goal
 
 pub returns-in-9 : goal.returns-in-9
