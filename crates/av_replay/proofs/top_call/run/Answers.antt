@@ -127,10 +127,15 @@ returns-clause-fewer g c =
     let names = map (λ name. name.now) c.deref-in-Audit.result.now in
     let form = form-of (map string_bytes c.args.words.now) _ (asked.Audit c.in-Audit.frames) _ c.deref-in-Audit.result.now c.in-Audit.is c.deref-in-Audit.ensures.value
     c.in-Ok.ensures.found in
-    λ fault. (asked.Audit c.in-Audit.frames, names, form, elim (c.audit_over.ensures.fewer fault) [
-      | inl fewer ↦ inl fewer
-      | inr loses ↦ inr ((c.in-Audit.frames, names, form), loses)
-    ])
+    λ fault. (
+      asked.Audit c.in-Audit.frames,
+      names,
+      form,
+      elim (c.audit_over.ensures.fewer fault) [
+        | inl fewer ↦ inl fewer
+        | inr loses ↦ inr ((c.in-Audit.frames, names, form), loses)
+      ],
+    )
 
 pub returns-clause-kernel : goal.returns-clause-kernel
 returns-clause-kernel g c =
