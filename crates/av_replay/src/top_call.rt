@@ -36,9 +36,13 @@ fn refuse_words(error: WordsErr) -> Outcome
     }
 }
 
-/// Runs the program on the command line's words, which are `run` and the number of frames, or
-/// `work`, a seed, a number of lines and one of frames; and then the names of swap areas, if there
-/// are some. The device has none before.
+/// Runs the program on the command line's words, which are `run` or `audit` and the number of
+/// frames, or `work`, a seed, a number of lines and one of frames; and then the names of swap
+/// areas, if there are some. The device has none before.
+///
+/// `audit` reads a trace, the line `%%` and a transcript, and judges that by the definitions alone,
+/// over areas of which only page 0 is read: `legal` is written where it is, and else the status
+/// tells the first reply that isn't, or that isn't judged.
 ///
 /// `work` reads nothing. It makes its lines from the seed, each when it is done, writes none of
 /// their replies, and in the end a summary: what the kernel that is handed back counted, and what
