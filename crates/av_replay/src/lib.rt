@@ -1,5 +1,5 @@
 //! Replays a trace from a source and writes its transcript to a sink; or does a load that is made
-//! from a number, and writes a summary of it.
+//! from a number, and writes a summary of it; or judges a transcript that somebody else wrote.
 //!
 //! Proved: `run` says for each status what was read, done and written, and why and exactly where a
 //! run ends early. There was one flush of the sink for each read of the source, and it is said how
@@ -16,7 +16,9 @@
 //! wrote it up to a place in its last reply (`bad_lines_end_runs`, `lines_are_done_up_to_the_most`,
 //! `replies_are_out_before_a_read`, `failed_writes_cut_the_last_reply`). Of a load: its lines are
 //! those of the seed, their transcript is legal, the summary counts it and the kernel handed back,
-//! and nothing is read. That memory suffices is only tested.
+//! and nothing is read. Of an audit: that the transcript is legal, or which reply is the first that
+//! isn't, or isn't judged, is so by the definitions (`DoesAudit`), and no kernel is handed back.
+//! That memory suffices is only tested.
 #![tactic(auto)]
 
 mod attach;
