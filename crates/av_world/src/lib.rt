@@ -2,9 +2,10 @@
 //!
 //! Proved: a process's pages are those that the definitions have, after each call: pages that are
 //! mapped, unmapped, protected, marked or wiped (`Space::edit`), and processes that come and go
-//! (`Memories`), a child's, and bytes that are written and read. And what the definitions ask of
-//! them: whether a page may be accessed or is locked, how many pages come before a hole or a locked
-//! page, whether pages have one protection, the greatest gap.
+//! (`Memories`), a child's, pages that become more, or fewer, or move, and bytes that are written
+//! and read. And what the definitions ask of them: whether a page may be accessed or is locked, how
+//! many pages come before a hole or a locked page, whether pages have one protection, the greatest
+//! gap.
 //!
 //! Pages are kept as ranges, so a call doesn't cost more where its own range is long. But it goes
 //! over all ranges of the process and, where it unmaps or wipes, over all its pages with bytes; and
@@ -23,6 +24,7 @@ mod memories;
 mod prots;
 mod questions;
 mod ranges;
+mod remap;
 mod space;
 
 pub use edit::Edit;
