@@ -16,7 +16,8 @@ use Rattle.av_trace.specs.declared.reply.Errno.TheVariants.{Efault, Einval, Eper
 use Rattle.av_plain.specs.Event.{Event, notes_of}
 use Rattle.av_plain.specs.Ledger.{Ledger, Setting}
 use Rattle.av_plain.specs.Mremap.{MovesTo, events_to, left_behind, leaves_old, may_stay, process_after_mremap, target_of}
-use Rattle.av_plain.specs.Refusal.{Tests, are_bad_lengths, is_below_low, is_no_target, is_tail_too_high, lacks_pages, mremap_tests, overlap, refusal, tests, top}
+use Rattle.av_plain.specs.Refusal.{Tests, are_bad_lengths, is_below_low, is_no_target, is_tail_too_high, lacks_pages, mremap_tests, overlap}
+use Rattle.av_plain.specs.Refusal.{refusal, tests, top}
 use Rattle.av_plain.specs.Step.{next}
 use Rattle.av_plain.specs.World.{Process, World, is_mapped, lives, meets, pages, set_process, wiped}
 use Rattle.av_judge.proofs.KnownLaws.{AnswersOnly}
@@ -142,7 +143,8 @@ below-top q from n to m stays below at page high = by (within to m page) (within
     none false c = refl
 
     by : (a b : Bool) → within to m page ≡ a
-        → cond a (cond (nat_lt (page - to) n) (q (from + (page - to))) (option_map wiped (q (from + n - 1)))) (cond b (left_behind stays (q page)) (q page)) ≡ None
+        → cond a (cond (nat_lt (page - to) n) (q (from + (page - to))) (option_map wiped (q (from + n - 1))))
+        (cond b (left_behind stays (q page)) (q page)) ≡ None
     by true b e =
         let t = at page (above e) (under e) high in
         ap (λ x. cond x (q (from + (page - to))) (option_map wiped (q (from + n - 1)))) (first e t.1)

@@ -7,8 +7,8 @@ ghost use Rattle.av_plain.specs.Mremap.{process_after_mremap};
 ghost use Rattle.av_plain.specs.World.{Process, World, lives, pages, set_process};
 ghost use Rattle.av_world.specs.Memories.{IsWorld};
 ghost use Rattle.av_world.specs.Remap.{AreMoved, IsBelowTop, marks_after, moved_part};
-ghost use Rattle.av_world.specs.Remap.{destination as destination_of, moved_bound as moved_bound_of};
-ghost use Rattle.av_world.specs.Remap.{old_change as old_change_of};
+ghost use Rattle.av_world.specs.Remap.{destination as destination_of};
+ghost use Rattle.av_world.specs.Remap.{moved_bound as moved_bound_of, old_change as old_change_of};
 ghost use Rattle.av_world.specs.Space.{IsSpace, marks_in};
 
 use crate::memories::Memories;

@@ -32,8 +32,8 @@ returns-then-not-branch c = λ m w at told.
     let hm = c.pages_of-m.ensures.pages in
     mremap-said m w l l1 p c.args.address c.args.old c.args.new c.args.mode to c.args.unit.now false c.args.memories.now told
     c.place_after-to.ensures.low (sym (c.refuses_mremap.ensures.tests m w l at) ∙ c.in-None.is)
-    (subst (λ n. MovesTo (pages w p) from n (pages_of c.args.new) c.args.mode to) hn (subst (λ m. MovesTo (pages w p) from c.pages_of-n.result m c.args.mode to) hm
-    (c.place_after-to.ensures.place w at)))
+    (subst (λ n. MovesTo (pages w p) from n (pages_of c.args.new) c.args.mode to) hn
+    (subst (λ m. MovesTo (pages w p) from c.pages_of-n.result m c.args.mode to) hm (c.place_after-to.ensures.place w at)))
     (subst (λ n. SaysEvents l (map_answer to) (events_to l p from n to (pages_of c.args.new)) c.args.unit.now false l1) hn
     (subst (λ m. SaysEvents l (map_answer to) (events_to l p from c.pages_of-n.result to m) c.args.unit.now false l1) hm
     (subst (λ (b : Bool). SaysEvents l (map_answer to) (events_to l p from c.pages_of-n.result to c.pages_of-m.result) c.args.unit.now b l1)
