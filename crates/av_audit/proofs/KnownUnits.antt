@@ -168,7 +168,7 @@ advice-form q from n change events fit = by (nat_lt (pages_advised q from n chan
 
 -- ---- a place
 
-gap-one : (is_taken : ℕ → Bool) (n : ℕ) (to to' : Option ℕ) → IsGap is_taken n to → IsGap is_taken n to' → to ≡ to'
+pub gap-one : (is_taken : ℕ → Bool) (n : ℕ) (to to' : Option ℕ) → IsGap is_taken n to → IsGap is_taken n to' → to ≡ to'
 gap-one is_taken n None None h g = refl
 gap-one is_taken n None (Some page) h g = absurd (h page g.0)
 gap-one is_taken n (Some page) None h g = absurd (g page h.0)
@@ -185,11 +185,11 @@ goes-one q n (At a) to to' h g = by (is_room q n (page_of a)) h g
 goes-one q n (Fixed a) to to' h g = h ∙ sym g
 goes-one q n (NoReplace a) to to' h g = h ∙ sym g
 
-map-is : (to : Option ℕ) (answer : Answer) → IsMapAt answer to → answer ≡ map_answer to
+pub map-is : (to : Option ℕ) (answer : Answer) → IsMapAt answer to → answer ≡ map_answer to
 map-is None answer h = h
 map-is (Some page) answer h = h
 
-is-map : (to : Option ℕ) → IsMapAt (map_answer to) to
+pub is-map : (to : Option ℕ) → IsMapAt (map_answer to) to
 is-map None = refl
 is-map (Some page) = refl
 

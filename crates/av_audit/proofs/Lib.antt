@@ -7,5 +7,6 @@ pub mod AccessUnits
 pub mod LockLaws
 pub mod ForkLaws
 pub mod RemapLaws
+pub mod RemapUnits
 pub mod ReportingLaws
 pub mod SwapoffUnits

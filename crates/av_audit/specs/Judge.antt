@@ -1,7 +1,7 @@
 -- What an auditor answers.
 use Rattle.std.specs.Prelude.{◌≡◌, ℕ, Bool, true, false, if◌then◌else◌, List, MatchBool}
 use Rattle.av_trace.specs.declared.command.Command.{Command}
-use Rattle.av_trace.specs.declared.command.Command.TheVariants.{Areas, Mremap}
+use Rattle.av_trace.specs.declared.command.Command.TheVariants.{Areas}
 use Rattle.av_plain.specs.Ledger.{Ledger, Setting}
 use Rattle.av_plain.specs.Sound.{AllSound}
 use Rattle.av_plain.specs.World.{World}
@@ -27,7 +27,6 @@ verdict_of legal = if legal then Legal else Illegal
 
 -- the commands that are judged
 abbrev pub is_judged : Command → Bool
-is_judged (Mremap p a old new mode) = false
 is_judged (Areas p) = false
 is_judged command = true
 

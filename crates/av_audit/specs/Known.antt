@@ -22,7 +22,7 @@ pub record SaysEvents (l : Ledger) (answer : Answer) (events : List Event) (unit
   pub form : AllByRecursion IsNote (notes_of events)
   pub after : l' ≡ after_all l events
 
--- what an mmap answers whose pages go to a page, or that there is no place
+-- what is answered where pages stand from a page on then, or that there is no place
 abbrev pub map_answer : Option ℕ → Answer
 map_answer None = Refused Enomem
 map_answer (Some page) = MapAt (address_of page)

@@ -1,12 +1,13 @@
 //! Units whose reply is known before they are read.
 
-ghost use Rattle.std.specs.Prelude.{◌≡◌, ◌+◌, ◌<◌, ◌^◌, ℕ, IfOk};
+ghost use Rattle.std.specs.Prelude.{◌≡◌, ◌+◌, ◌<◌, ◌^◌, ℕ, IfOk, IfSome};
 ghost use Rattle.av_plain.specs.Map.{hole_answer as hole_answer_of};
 ghost use Rattle.av_plain.specs.World.{Process, pages_to_hole};
 ghost use Rattle.av_plain.specs.Zap.{keys_in, zaps_of};
 ghost use Rattle.av_book.specs.Book.{ledger_of};
-ghost use Rattle.av_audit.specs.Known.{SaysEvents};
+ghost use Rattle.av_audit.specs.Known.{SaysEvents, map_answer as map_answer_of};
 
+use av_base::PAGE_SIZE;
 use av_book::Book;
 use av_events::zap_range;
 use av_judge::{all_fit, is_reply};
@@ -46,5 +47,16 @@ pub fn hole_answer(before: u64, n: u64) -> Answer
         Answer::Done
     } else {
         Answer::Refused(Errno::Enomem)
+    }
+}
+
+/// What is answered where pages stand from a page on then, or that there is no place.
+pub fn map_answer(to: Option<u64>) -> Answer
+    requires { IfSome to (λ page. page < 2 ^ 52) }
+    ensures { result ≡ map_answer_of to }
+{
+    match to {
+        None => Answer::Refused(Errno::Enomem),
+        Some(page) => Answer::MapAt(page * PAGE_SIZE),
     }
 }

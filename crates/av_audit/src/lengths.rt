@@ -1,6 +1,6 @@
 //! Lengths in bytes, as pages.
 
-ghost use Rattle.std.specs.Prelude.{◌≡◌, ◌+◌, ◌≤◌, ◌^◌};
+ghost use Rattle.std.specs.Prelude.{◌≡◌, ◌+◌, ◌<◌, ◌≤◌, ◌^◌};
 ghost use Rattle.av_base.specs.Page as bytes;
 ghost use Rattle.av_plain.specs.Refusal as refusals;
 
@@ -13,6 +13,7 @@ const ADDRESS_PAGES: u64 = 1 << 52;
 pub fn pages_of(length: u64) -> u64
     ensures pages { result ≡ bytes.pages_of length }
     ensures most { result ≤ 2 ^ 52 }
+    ensures some { 0 < length → 0 < result }
 {
     length.div_ceil(PAGE_SIZE)
 }

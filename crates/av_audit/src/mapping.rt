@@ -19,7 +19,7 @@ ghost use Rattle.av_world.specs.Memories.{IsWorld};
 ghost use Rattle.av_audit.specs.Judge.{IsLeft, IsSeen};
 ghost use Rattle.av_audit.specs.Known.{SaysEvents, map_answer as map_answer_of};
 
-use crate::known::{hole_answer, says_zaps};
+use crate::known::{hole_answer, map_answer, says_zaps};
 use crate::lengths::{pages_of, wraps};
 use av_base::{LOW_PAGE, PAGE_SIZE, Prot, TOP_PAGE};
 use av_book::Book;
@@ -136,17 +136,6 @@ fn place_of_mmap(
         return Err(Errno::Enomem);
     }
     place_for(memories, process, n, place)
-}
-
-/// What an mmap answers whose pages go to a page, or that there is no place.
-fn map_answer(to: Option<u64>) -> Answer
-    requires { IfSome to (λ page. page ≤ top_page) }
-    ensures { result ≡ map_answer_of to }
-{
-    match to {
-        None => Answer::Refused(Errno::Enomem),
-        Some(page) => Answer::MapAt(page * PAGE_SIZE),
-    }
 }
 
 /// The entries go that a mapping of n pages takes away; and whether the unit is the text of this

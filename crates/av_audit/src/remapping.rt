@@ -1,9 +1,9 @@
 //! Units of `mremap`.
 
-ghost use Rattle.std.specs.Prelude.{◌≡◌, ◌+◌, ◌++◌, ◌<◌, ◌≤◌, ◌^◌, IfSome, OnOk, Some};
-ghost use Rattle.std.specs.Prelude.{if◌then◌else◌, true};
+ghost use Rattle.std.specs.Prelude.{◌≡◌, ◌+◌, ◌++◌, ◌<◌, ◌≤◌, ◌^◌, IfOk, IfSome, None, OnOk, Some};
+ghost use Rattle.std.specs.Prelude.{if◌then◌else◌, is_some, true};
 ghost use Rattle.av_base.specs.Limits.{top_page};
-ghost use Rattle.av_base.specs.Page.{is_on_page};
+ghost use Rattle.av_base.specs.Page.{is_on_page, page_of, pages_of as pages_of_bytes};
 ghost use Rattle.av_trace.specs.declared.command.Command.TheVariants as commands;
 ghost use Rattle.av_vma.specs.Gap.{IsGap};
 ghost use Rattle.av_plain.specs.Event.{after_all, notes_of};
@@ -11,15 +11,21 @@ ghost use Rattle.av_plain.specs.Ledger.{Ledger, Setting};
 ghost use Rattle.av_plain.specs.Mremap as plain;
 ghost use Rattle.av_plain.specs.Refusal as refusals;
 ghost use Rattle.av_plain.specs.Refusal.{refusal, tests};
-ghost use Rattle.av_plain.specs.World.{World, is_mapped, pages};
+ghost use Rattle.av_plain.specs.Step.{next};
+ghost use Rattle.av_plain.specs.World.{World, is_mapped, lives, pages};
 ghost use Rattle.av_book.specs.Book.{ledger_of};
 ghost use Rattle.av_world.specs.Memories.{IsWorld};
+ghost use Rattle.av_world.specs.Remap.{IsBelowTop};
+ghost use Rattle.av_audit.specs.Judge.{IsLeft};
+ghost use Rattle.av_audit.specs.Known.{SaysEvents, map_answer as map_answer_of};
 
+use crate::known::map_answer;
 use crate::lengths::pages_of;
 use av_base::{LOW_PAGE, PAGE_SIZE, TOP_PAGE};
 use av_book::Book;
 use av_events::{move_entries, zap_range};
-use av_trace::{Errno, Mode, Notes};
+use av_judge::{all_fit, is_answer, is_reply};
+use av_trace::{Answer, Errno, Mode, Notes, Reply};
 use av_world::Memories;
 use std::alloc::{AllocError, Global};
 
@@ -122,7 +128,8 @@ fn refuses_mremap(
     new: u64,
     mode: Mode,
 ) -> Option<Errno>
-    ensures { (m : Setting) (w : World) (l : Ledger) → IsWorld memories.now w
+    ensures some { result ≡ None → (0 < old) × (0 < new) }
+    ensures tests { (m : Setting) (w : World) (l : Ledger) → IsWorld memories.now w
         → result ≡ refusal (tests m w l (commands.Mremap process address old new mode)) }
 {
     if !memories.lives(process) {
@@ -181,9 +188,11 @@ fn place_after(
     mode: Mode,
 ) -> Option<u64>
     requires some { 0 < m }
-    requires few { from + n < 2 ^ 63 }
+    requires low { from < 2 ^ 52 }
+    requires few { n ≤ 2 ^ 52 }
     requires new_few { m ≤ 2 ^ 52 }
-    ensures { (w : World) → IsWorld memories.now w
+    ensures low { IfSome result (λ to. to < 2 ^ 52) }
+    ensures place { (w : World) → IsWorld memories.now w
         → plain.MovesTo (pages w process) from n m mode result }
 {
     match mode {
@@ -227,4 +236,96 @@ fn follow_mremap(
     zap_range(book, alloc, process, to, m, notes)?;
     zap_range(book, alloc, process, from + m, shorter, notes)?;
     move_entries(book, alloc, process, n.min(m), from, to)
+}
+
+/// The entries go and move as an mremap takes them whose pages stand from a page on then, if there
+/// is room; and whether the unit is the text of its answer with the notes of that. Without memory a
+/// part may be done.
+fn says_mremap(
+    alloc: Global,
+    book: &mut Book,
+    process: u16,
+    from: u64,
+    n: u64,
+    to: Option<u64>,
+    m: u64,
+    unit: &[u8],
+) -> Result<bool, AllocError>
+    requires from { from < 2 ^ 52 }
+    requires to { IfSome to (λ page. page < 2 ^ 52) }
+    requires few { n ≤ 2 ^ 52 }
+    requires new_few { m ≤ 2 ^ 52 }
+    ensures { IfOk result (λ legal. SaysEvents (ledger_of book.old) (map_answer_of to)
+        (plain.events_to (ledger_of book.old) process from n to m) unit.now legal
+        (ledger_of book.new)) }
+{
+    let mut reply = Reply::new(alloc);
+    reply.answer = map_answer(to);
+    if let Some(to) = to {
+        follow_mremap(alloc, book, process, from, n, to, m, &mut reply.notes)?;
+    }
+    all_fit(reply.notes.as_slice());
+    is_reply(alloc, &reply, unit)
+}
+
+/// The pages of an mremap stand from a page on then, if there is room. Without memory a part may be
+/// done.
+fn remap_to(
+    memories: &mut Memories,
+    process: u16,
+    address: u64,
+    old: u64,
+    new: u64,
+    mode: Mode,
+    to: Option<u64>,
+) -> Result<(), AllocError>
+    requires some { 0 < old }
+    requires to { IfSome to (λ page. page < 2 ^ 52) }
+    ensures { OnOk result ((w : World) → IsWorld memories.old w → lives w process ≡ true
+        → IfSome to (λ to. IsBelowTop (plain.process_after_mremap (page_of address)
+        (pages_of_bytes old) to (pages_of_bytes new) (plain.leaves_old mode) (pages w process)))
+        → IsWorld memories.new
+        (next w (commands.Mremap process address old new mode) (map_answer_of to))) }
+{
+    match to {
+        None => Ok(()),
+        Some(to) => {
+            let from = address / PAGE_SIZE;
+            let n = pages_of(old);
+            let m = pages_of(new);
+            memories.remap(process, from, n, to, m, leaves_old(mode))
+        }
+    }
+}
+
+/// Whether a unit is legal for `mremap`.
+pub fn audits_mremap(
+    alloc: Global,
+    memories: &mut Memories,
+    book: &mut Book,
+    process: u16,
+    address: u64,
+    old: u64,
+    new: u64,
+    mode: Mode,
+    unit: &[u8],
+) -> Result<bool, AllocError>
+    ensures { IfOk result (λ legal. (m : Setting) (w : World) → IsWorld memories.old w
+        → is_some m.headers ≡ true → IsLeft m w (ledger_of book.old)
+        (commands.Mremap process address old new mode) unit.now legal memories.new book.new) }
+{
+    match refuses_mremap(memories, process, address, old, new, mode) {
+        Some(error) => is_answer(alloc, &Answer::Refused(error), unit),
+        None => {
+            let from = address / PAGE_SIZE;
+            let n = pages_of(old);
+            let m = pages_of(new);
+            let to = place_after(memories, process, from, n, m, mode);
+            if !says_mremap(alloc, book, process, from, n, to, m, unit)? {
+                return Ok(false);
+            }
+            remap_to(memories, process, address, old, new, mode, to)?;
+            Ok(true)
+        }
+    }
 }

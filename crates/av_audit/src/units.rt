@@ -17,6 +17,7 @@ use crate::leaving::{audits_exit, audits_munmap};
 use crate::locking::audits_mlock;
 use crate::mapping::{audits_mmap, audits_mprotect};
 use crate::neighbours::{audits_compact, audits_merge};
+use crate::remapping::audits_mremap;
 use crate::reporting::{audits_entry, audits_maps, audits_rmap, audits_slot, audits_stat};
 use crate::spawn::audits_spawn;
 use crate::swapping::{audits_reclaim, audits_swapoff, audits_swapon};
@@ -30,7 +31,7 @@ use std::alloc::{AllocError, Global};
 pub fn is_judged(command: &Command) -> bool
     ensures { result ≡ is_judged command.now }
 {
-    !matches!(command, Command::Mremap { .. } | Command::Areas { .. })
+    !matches!(command, Command::Areas { .. })
 }
 
 /// Whether a unit is legal. Memories and book are then as it leaves them.
@@ -138,6 +139,15 @@ fn is_legal_for_pages(
             len,
             prot,
         } => audits_mprotect(alloc, memories, *process, *address, *len, *prot, unit),
+        Command::Mremap {
+            process,
+            address,
+            old_len,
+            new_len,
+            mode,
+        } => audits_mremap(
+            alloc, memories, book, *process, *address, *old_len, *new_len, *mode, unit,
+        ),
         Command::Madvise {
             process,
             address,

@@ -5,4 +5,5 @@ pub mod SpaceLaws
 pub mod WorldLaws
 pub mod BytesLaws
 pub mod ChildLaws
+pub mod RemapLaws
 pub mod ProtLaws

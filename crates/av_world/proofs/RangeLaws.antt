@@ -10,7 +10,7 @@ use Rattle.av_world.specs.declared.ranges.Change.TheVariants.{Unmap, Protect, Ma
 use Rattle.av_world.specs.declared.space.Marks.{Marks}
 use Rattle.av_world.specs.declared.space.Range.{Range}
 
-marks-part : (a b : ℕ) (k : Marks) (rest : List Range) (page : ℕ)
+pub marks-part : (a b : ℕ) (k : Marks) (rest : List Range) (page : ℕ)
     → marks_in (part a b k ++ rest) page ≡ cond (nat_le a page && nat_lt page b) (Some k) (marks_in rest page)
 marks-part a b k rest page = by (nat_lt a b) refl
   where
@@ -24,11 +24,11 @@ marks-part a b k rest page = by (nat_lt a b) refl
         outside = grind (arith, nat_tests, is)
 
 -- what is said, or else this
-abbrev over : Option Marks → Option Marks → Option Marks
+abbrev pub over : Option Marks → Option Marks → Option Marks
 over None later = later
 over (Some k) later = Some k
 
-marks-part-of : (a b : ℕ) (o : Option Marks) (rest : List Range) (page : ℕ)
+pub marks-part-of : (a b : ℕ) (o : Option Marks) (rest : List Range) (page : ℕ)
     → marks_in (part_of a b o ++ rest) page ≡ cond (nat_le a page && nat_lt page b) (over o (marks_in rest page)) (marks_in rest page)
 marks-part-of a b None rest page = by (nat_le a page && nat_lt page b)
   where

@@ -136,7 +136,7 @@ bytes-kept old new from n page is = ap (lookup (is_at (nat_cmp page))) is
     by true false h g o = (λ i. cond (not-lt page from h i || yes-le (from + n) page g i) o None)
     by false b h g o = (λ i. cond (yes-lt page from h i || nat_le (from + n) page) o None)
 
-one-wiped : (b : Bool) (o : Option Marks) (bytes : Option (Vec ℕ Global)) (p : Option Page) → IsPage o (byte_in bytes) p
+pub one-wiped : (b : Bool) (o : Option Marks) (bytes : Option (Vec ℕ Global)) (p : Option Page) → IsPage o (byte_in bytes) p
     → IsPage o (byte_in (cond b None bytes)) (cond b (option_map wiped p) p)
 one-wiped true None bytes None h = tt
 one-wiped true None bytes (Some p) h = absurd h

@@ -4,3 +4,4 @@ pub mod Memories
 pub mod Holes
 pub mod Bytes
 pub mod Child
+pub mod Remap

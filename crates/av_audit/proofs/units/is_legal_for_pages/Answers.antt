@@ -34,6 +34,14 @@ returns-in-Mprotect c = IfOk-weaker c.audits_mprotect.result _ _ (λ legal h w a
     (h (setting_of c.args.machine.now) w (ledger_of c.args.book.now) at refl)))
     c.audits_mprotect.ensures
 
+pub returns-in-Mremap : goal.returns-in-Mremap
+returns-in-Mremap c = IfOk-weaker c.audits_mremap.result _ _ (λ legal h w at.
+    left-is (setting_of c.args.machine.now) w (ledger_of c.args.book.now)
+    (commands.Mremap c.in-Mremap.process c.in-Mremap.address c.in-Mremap.old_len c.in-Mremap.new_len c.in-Mremap.mode)
+    c.args.command.now c.args.unit.now legal c.audits_mremap.new.memories c.audits_mremap.new.book c.in-Mremap.is
+    (h (setting_of c.args.machine.now) w at refl))
+    c.audits_mremap.ensures
+
 pub returns-in-Madvise : goal.returns-in-Madvise
 returns-in-Madvise c = IfOk-weaker c.audits_madvise.result _ _ (λ legal h w at.
     left-is (setting_of c.args.machine.now) w (ledger_of c.args.book.now)
