@@ -1,20 +1,11 @@
 //! What processes see, as data. It knows the definitions alone, and no kernel.
 //!
-<<<<<<< HEAD
 //! Proved: a process's pages are those that the definitions have, after each call that maps,
-//! unmaps, protects, marks or wipes some (`Memories::edit`), writes bytes (`write`), makes a child
-//! (`fork`) or ends a process (`remove`). What is asked of them is what the definitions say: the
-//! bytes from an address on, whether a page may be accessed, is locked or goes over to a child, how
-//! many pages come before a hole or a locked page, whether pages have one protection, and the
-//! greatest gap.
-=======
-//! Proved: a process's pages are those that the definitions have, after each call: pages that are
-//! mapped, unmapped, protected, marked or wiped (`Space::edit`), and processes that come and go
-//! (`Memories`), a child's, pages that become more, or fewer, or move, and bytes that are written
-//! and read. And what the definitions ask of them: whether a page may be accessed or is locked, how
-//! many pages come before a hole or a locked page, whether pages have one protection, the greatest
-//! gap.
->>>>>>> 631681fa3422d8efdcfda6f9a05b1cebe10ff9d6
+//! unmaps, protects, marks or wipes some (`Memories::edit`), makes them more or fewer or moves them
+//! (`remap`), writes bytes (`write`), makes a child (`fork`) or ends a process (`remove`). What is
+//! asked of them is what the definitions say: the bytes from an address on, whether a page may be
+//! accessed, is locked or goes over to a child, how many pages come before a hole or a locked page,
+//! whether pages have one protection, and the greatest gap.
 //!
 //! Pages are kept as ranges, so a call doesn't cost more where its own range is long. But it goes
 //! over all ranges of the process, a fork for each of them; where it unmaps or wipes, over all its
