@@ -17,7 +17,8 @@ pub enum Status {
     Memory,
     /// The first byte of line 2^24 + 1 came. The lines before it are done.
     TooMany,
-    /// A swap area could not be attached: the device failed. Nothing was read or written.
+    /// A swap area could not be attached, or for an audit its page 0 could not be read: the device
+    /// failed. Nothing was read or written.
     AttachFault,
     /// The reply of this number, from 1, isn't legal, is wanting, or comes after the last command.
     /// Those before it are legal.

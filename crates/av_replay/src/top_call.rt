@@ -84,7 +84,8 @@ pub fn run<S: Source, K: Sink, D: SwapDev, P: Progress>(
     ensures nothing { result.status ≡ Status.Usage
         → (source.new ≡ source.old) × (sink.new ≡ sink.old) × (dev.new ≡ dev.old) }
     // An area can't be attached only where the device failed; then those are whose names stand
-    // before the first that failed, and nothing is read or written.
+    // before the first that failed, and nothing is read or written. An audit ends so, too, where
+    // page 0 of an area can't be read.
     ensures fault { result.status ≡ Status.AttachFault →
         Rose (D.failures dev.old) (D.failures dev.new)
         × (source.new ≡ source.old) × (sink.new ≡ sink.old) }
