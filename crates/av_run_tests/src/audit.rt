@@ -15,16 +15,6 @@ const LEGAL: Run<'static> = Run {
     ..NOTHING
 };
 
-/// One whose reply of this number isn't.
-const fn illegal(number: u32, trace: &'static [u8]) -> Run<'static> {
-    Run {
-        words: &["audit", "4"],
-        trace,
-        status: Status::Illegal(number),
-        ..NOTHING
-    }
-}
-
 /// Audits, with how they end.
 const CASES: [Run<'static>; 13] = [
     LEGAL,
@@ -42,44 +32,63 @@ const CASES: [Run<'static>; 13] = [
 ok\nmap 7fffffffe000\nok\n new 1 7fffffffe000 3\n",
         ..LEGAL
     },
-    illegal(
-        3,
-        b"spawn 1\nmmap 1 4096 rw-\nwrite 1 7fffffffe000 41\n%%\n\
+    Run {
+        trace: b"spawn 1\nmmap 1 4096 rw-\nwrite 1 7fffffffe000 41\n%%\n\
 ok\nmap 7fffffffe000\nok\n new 1 7fffffffe000 4\n",
-    ),
+        status: Status::Illegal(3),
+        text: b"",
+        ..LEGAL
+    },
     // Another byte; a note that is wanting; no newline; another address.
-    illegal(
-        3,
-        b"spawn 1\nmmap 1 4096 rw-\nread 1 7fffffffe000 1\n%%\n\
+    Run {
+        trace: b"spawn 1\nmmap 1 4096 rw-\nread 1 7fffffffe000 1\n%%\n\
 ok\nmap 7fffffffe000\ndata 01\n zero 1 7fffffffe000\n",
-    ),
-    illegal(
-        3,
-        b"spawn 1\nmmap 1 4096 rw-\nread 1 7fffffffe000 1\n%%\n\
+        status: Status::Illegal(3),
+        text: b"",
+        ..LEGAL
+    },
+    Run {
+        trace: b"spawn 1\nmmap 1 4096 rw-\nread 1 7fffffffe000 1\n%%\n\
 ok\nmap 7fffffffe000\ndata 00\n",
-    ),
-    illegal(
-        3,
-        b"spawn 1\nmmap 1 4096 rw-\nread 1 7fffffffe000 1\n%%\n\
+        status: Status::Illegal(3),
+        text: b"",
+        ..LEGAL
+    },
+    Run {
+        trace: b"spawn 1\nmmap 1 4096 rw-\nread 1 7fffffffe000 1\n%%\n\
 ok\nmap 7fffffffe000\ndata 00\n zero 1 7fffffffe000",
-    ),
-    illegal(
-        2,
-        b"spawn 1\nmmap 1 4096 rw-\nread 1 7fffffffe000 1\n%%\n\
+        status: Status::Illegal(3),
+        text: b"",
+        ..LEGAL
+    },
+    Run {
+        trace: b"spawn 1\nmmap 1 4096 rw-\nread 1 7fffffffe000 1\n%%\n\
 ok\nmap 7fffffffd000\ndata 00\n zero 1 7fffffffe000\n",
-    ),
+        status: Status::Illegal(2),
+        text: b"",
+        ..LEGAL
+    },
     // A reply that is wanting, one too many, and none at all, without the mark.
-    illegal(
-        3,
-        b"spawn 1\nmmap 1 4096 rw-\nread 1 7fffffffe000 1\n%%\n\
+    Run {
+        trace: b"spawn 1\nmmap 1 4096 rw-\nread 1 7fffffffe000 1\n%%\n\
 ok\nmap 7fffffffe000\n",
-    ),
-    illegal(
-        4,
-        b"spawn 1\nmmap 1 4096 rw-\nread 1 7fffffffe000 1\n%%\n\
+        status: Status::Illegal(3),
+        text: b"",
+        ..LEGAL
+    },
+    Run {
+        trace: b"spawn 1\nmmap 1 4096 rw-\nread 1 7fffffffe000 1\n%%\n\
 ok\nmap 7fffffffe000\ndata 00\n zero 1 7fffffffe000\nok\n",
-    ),
-    illegal(1, b"spawn 1\n"),
+        status: Status::Illegal(4),
+        text: b"",
+        ..LEGAL
+    },
+    Run {
+        trace: b"spawn 1\n",
+        status: Status::Illegal(1),
+        text: b"",
+        ..LEGAL
+    },
     // A bad line ends the audit before the transcript.
     Run {
         trace: b"spawn 1\nspawn\n%%\nok\nok\n",
