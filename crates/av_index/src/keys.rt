@@ -44,7 +44,7 @@ impl KeyIndex {
     /// The name has the key. Without memory all stays.
     pub fn add(&mut self, name: u64, key: (u16, u64)) -> Result<(), AllocError>
         ensures ok { OnOk result ((n : ℕ) (k : Key) → has_key self.new n k
-            ≡ ((n == name && same_key k key) || has_key self.old n k)) }
+            ≡ ((n == name && same_key key k) || has_key self.old n k)) }
         ensures err { OnErr result (self.new ≡ self.old) }
     {
         if let Some(keys) = self.names.get_mut(&name) {
@@ -60,7 +60,7 @@ impl KeyIndex {
     /// The name has the key no longer, if it had.
     pub fn take(&mut self, name: u64, key: (u16, u64))
         ensures { (n : ℕ) (k : Key) → has_key self.new n k
-            ≡ (not (n == name && same_key k key) && has_key self.old n k) }
+            ≡ (not (n == name && same_key key k) && has_key self.old n k) }
     {
         let Some(keys) = self.names.get_mut(&name) else {
             return;

@@ -1,9 +1,10 @@
 //! How often each number is used.
 
-ghost use Rattle.std.specs.Prelude.{◌≡◌, ℕ, ◌+◌, ◌-◌, ◌<◌, ◌^◌, OnErr, OnOk, length, slice_get};
+ghost use Rattle.std.specs.Prelude.{◌≡◌, ℕ, ◌+◌, ◌-◌, ◌<◌, ◌^◌, ◌&&◌, OnErr, OnOk, length};
+ghost use Rattle.std.specs.Prelude.{nat_le, nat_lt, slice_get};
 ghost use Rattle.std.specs.List.{list_all};
 ghost use Rattle.std.specs.Map.{keys_of};
-ghost use Rattle.av_base.specs.Words.{with_at, within};
+ghost use Rattle.av_base.specs.Words.{with_at};
 ghost use Rattle.av_index.specs.Uses.{used_within, uses_at};
 
 use std::alloc::{AllocError, Global};
@@ -80,7 +81,8 @@ impl Uses {
 
     /// Whether each number that is used lies from `from` on and below `end`.
     fn are_within(&self, from: u32, end: u32) -> bool
-        ensures { result ≡ list_all (within from (end - from)) (keys_of self.now) }
+        ensures { result
+            ≡ list_all (λ n. nat_le from n && nat_lt n end) (keys_of self.now) }
     {
         match (self.counts.first_key_value(), self.counts.last_key_value()) {
             (Some((first, _)), Some((last, _))) => from <= *first && *last < end,
@@ -89,7 +91,7 @@ impl Uses {
     }
 
     /// How many numbers from `from` on and below `end` are used. Where all that are used lie there,
-    /// no number is visited.
+    /// none is visited.
     pub fn len_within(&self, from: u32, end: u32) -> u32
         ensures { result ≡ length (used_within self.now from end) }
     {
@@ -99,11 +101,7 @@ impl Uses {
         if self.are_within(from, end) {
             return self.counts.len() as u32;
         }
-        let mut n = 0;
-        for _ in self.counts.range(from..end) {
-            n += 1;
-        }
-        n
+        self.counts.range(from..end).count() as u32
     }
 
     /// The least number from `from` on and below `end` that is used.
