@@ -152,3 +152,16 @@ take-out key k h = by (same_key key k)
 pub no-keys : (ks : List Key) → length ks ≡ 0 → ks ≡ []
 no-keys [] h = refl
 no-keys (k ∷ ks) h = absurd (omega (arith, h))
+
+-- a name without keys has none to lose
+pub absent : (now : List (ℕ × List Key)) (name : ℕ) (key : Key) → [] ≡ keys_at now name
+    → (n : ℕ) (k : Key) → has_key now n k ≡ (not (n == name && same_key key k) && has_key now n k)
+absent now name key none n k = by (n == name) (same_key key k) (has_key now n k) (λ e. ap (λ x. has_key now x k) (one n name e) ∙ ap (list_any (same_key k)) (sym none))
+  where
+    one : (n m : ℕ) → (n == m) ≡ true → n ≡ m
+    one n m e = grind (arith, nat_tests)
+
+    by : (b s h : Bool) → (b ≡ true → h ≡ false) → h ≡ (not (b && s) && h)
+    by true true h f = f refl
+    by true false h f = refl
+    by false s h f = refl
