@@ -1,8 +1,8 @@
 -- The numbers that are kept are those that are used.
 use Rattle.std.proofs.Common.{◌≡◌, ℕ, zero, suc, ◌+◌, ◌-◌, ◌<◌, ◌≤◌, Bool, true, false, cond, not, ◌&&◌, ◌||◌, List, [], ◌∷◌, filter, length, Option, Some, None, is_some, refl, sym, ap, ◌∙◌, arith, rules}
-use Rattle.std.specs.Prelude.{nat_lt, nat_le, slice_get}
+use Rattle.std.specs.Prelude.{nat_lt, nat_le}
 use Rattle.std.specs.BTreeMap.{is_at}
-use Rattle.std.specs.Cmp.{eq_by_cmp_equiv, nat_cmp_total}
+use Rattle.std.specs.Cmp.{nat_cmp_total}
 use Rattle.std.specs.List.{list_all, list_any, range_with_len}
 use Rattle.std.specs.List.Sorted.{IsStrictlySortedBy}
 use Rattle.std.specs.Map.{keys_of, lookup}
@@ -74,9 +74,9 @@ kept-used es are p from end same = rising-same nat_cmp_total exact_unsigned _ _
     (IsStrictlySortedBy-filter nat_cmp p (keys_of es) are.rising)
     (IsStrictlySortedBy-filter nat_cmp used (range_with_len from (end - from)) (range-rises from (end - from)))
     (λ k. any-filter_same (eq_by_cmp nat_cmp k) p (p k) (one-test p k) (keys_of es)
-      ∙ both (p k) _ _ _ (same k) (used-is es are k)
-      ∙ sym (ap (λ b. used k && b) (range-has k from (end - from)))
-      ∙ sym (any-filter_same (eq_by_cmp nat_cmp k) used (used k) (one-test used k) (range_with_len from (end - from))))
+    ∙ both (p k) _ _ _ (same k) (used-is es are k)
+    ∙ sym (ap (λ b. used k && b) (range-has k from (end - from)))
+    ∙ sym (any-filter_same (eq_by_cmp nat_cmp k) used (used k) (one-test used k) (range_with_len from (end - from))))
   where
     used : ℕ → Bool
     used n = nat_lt 0 (uses_at es n)
@@ -175,9 +175,9 @@ pub ends-lie : (es now : List (ℕ × ℕ)) → es ≡ now → (from end first l
     → (nat_le from first && nat_lt last end) ≡ list_all (lies from end) (keys_of now)
 ends-lie es now same from end first last least greatest above below =
     iff _ _ (λ h. all-from (lies from end) (keys_of es) (λ k there. between from end first last k h
-        (above k (some k there)) (below k (some k there))))
-      (λ h. both from end first last (all-at (lies from end) (keys_of es) first h (member first least))
-        (all-at (lies from end) (keys_of es) last h (member last greatest)))
+    (above k (some k there)) (below k (some k there))))
+    (λ h. both from end first last (all-at (lies from end) (keys_of es) first h (member first least))
+    (all-at (lies from end) (keys_of es) last h (member last greatest)))
     ∙ ap (λ us. list_all (lies from end) (keys_of us)) same
   where
     iff : (a b : Bool) → (a ≡ true → b ≡ true) → (b ≡ true → a ≡ true) → a ≡ b
@@ -208,8 +208,8 @@ pub all-lie : (es now : List (ℕ × ℕ)) → es ≡ now → AreUses es → (fr
 all-lie es now same are from end all =
     sym (length-keys_of es)
     ∙ ap length (sym (all-kept (lies from end) (keys_of es) (ap (λ us. list_all (lies from end) (keys_of us)) same ∙ all))
-      ∙ kept-used es are (lies from end) from end (lies-is from end)
-      ∙ ap (λ us. used_within us from end) same)
+    ∙ kept-used es are (lies from end) from end (lies-is from end)
+    ∙ ap (λ us. used_within us from end) same)
 
 -- as many as a range of the entries has
 pub range-count : (es now : List (ℕ × ℕ)) → es ≡ now → AreUses es → (from end : ℕ) → (r : List (ℕ × ℕ))

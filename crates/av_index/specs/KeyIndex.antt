@@ -1,5 +1,5 @@
 -- The keys of each name.
-use Rattle.std.specs.Prelude.{◌≡◌, ℕ, Bool, List, [], map, Some}
+use Rattle.std.specs.Prelude.{ℕ, Bool, List, [], map}
 use Rattle.std.specs.BTreeMap.{is_at}
 use Rattle.std.specs.BTreeSet.{BTreeSet}
 use Rattle.std.specs.List.{list_any}

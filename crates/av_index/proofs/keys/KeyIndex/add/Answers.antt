@@ -29,20 +29,20 @@ returns-in-Some-clause-ok c =
     let w = c.get_mut.follows.holds c.insert.new.self in
     added _ _ _ c.self.view_is c.args.name (Some c.insert.new.self) c.args.key (w.3 (some-is _ _ c.in-Some.ensures.value)).0
     (λ k. c.in_ok-insert.ensures.updates.0 k ∙ put-in c.args.key k _
-      ∙ ap (λ ks. same_key c.args.key k || list_any (same_key k) ks)
-          (now-in _ _ c.self.view_is c.args.name (Some c.in-Some.keys.now) c.in-Some.ensures.value))
+    ∙ ap (λ ks. same_key c.args.key k || list_any (same_key k) ks)
+    (now-in _ _ c.self.view_is c.args.name (Some c.in-Some.keys.now) c.in-Some.ensures.value))
 
 pub invariant_of-self-2 : goal.invariant_of-self-2
 invariant_of-self-2 c =
     let changes = subst (λ (m : BTreeMap ℕ (BTreeSet Key)). Changes m.entries c.insert-3.new.self.entries c.args.name (Some c.insert-2.new.self))
-        c.get_mut.follows.holds-at-none c.in_ok-insert-3.ensures.updates.0 in
+    c.get_mut.follows.holds-at-none c.in_ok-insert-3.ensures.updates.0 in
     changed-rise _ _ c.args.name (Some c.insert-2.new.self) changes c.self.invariant c.insert-3.ensures.ordered c.insert-2.ensures.ordered
 
 pub returns-clause-ok : goal.returns-clause-ok
 returns-clause-ok c =
     let changes = subst (λ (m : BTreeMap ℕ (BTreeSet Key)). Changes m.entries c.insert-3.new.self.entries c.args.name (Some c.insert-2.new.self))
-        c.get_mut.follows.holds-at-none c.in_ok-insert-3.ensures.updates.0 in
+    c.get_mut.follows.holds-at-none c.in_ok-insert-3.ensures.updates.0 in
     added _ _ _ c.self.view_is c.args.name (Some c.insert-2.new.self) c.args.key changes
     (λ k. c.in_ok-insert-2.ensures.updates.0 k ∙ put-in c.args.key k _
-      ∙ ap (λ ks. same_key c.args.key k || list_any (same_key k) ks)
-          (c.new-keys.ensures.empty ∙ now-in _ _ c.self.view_is c.args.name None c.in_default.ensures.value))
+    ∙ ap (λ ks. same_key c.args.key k || list_any (same_key k) ks)
+    (c.new-keys.ensures.empty ∙ now-in _ _ c.self.view_is c.args.name None c.in_default.ensures.value))

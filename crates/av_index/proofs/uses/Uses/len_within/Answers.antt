@@ -1,6 +1,5 @@
-use Rattle.std.proofs.Common.{◌≡◌, ℕ, ◌-◌, ◌<◌, ◌≤◌, ◌^◌, length, arith, sym, ◌∙◌}
+use Rattle.std.proofs.Common.{◌≡◌, ℕ, ◌-◌, ◌<◌, ◌≤◌, ◌^◌, arith, sym, ◌∙◌}
 use Rattle.std.proofs.lemmas.Iterator.Consumers.{YieldsList-from_rest, count_from_yields_List}
-use Rattle.av_index.specs.Uses.{used_within}
 use Rattle.av_index.proofs.UsesLaws.{all-lie, few-used, range-count}
 use Rattle.av_index.proofs.uses.Uses.len_within.Goals as goal
 
@@ -19,7 +18,7 @@ returns-then-are_within c =
 pub overflow_cast-result-2 : goal.overflow_cast-result-2
 overflow_cast-result-2 c =
     let n = count_from_yields_List c.range.result _ c.count.ensures.ran (YieldsList-from_rest c.range.result (λ i. c.range.result))
-        ∙ range-count _ _ c.self.view_is c.self.invariant c.args.from c.args.end _ (c.range.ensures.between tt) in
+    ∙ range-count _ _ c.self.view_is c.self.invariant c.args.from c.args.end _ (c.range.ensures.between tt) in
     record { fits = fits _ _ c.args.from c.args.end n (few-used c.args.self.now c.args.from c.args.end) c.ranges.end.fits }
 
 pub returns : goal.returns
