@@ -1,9 +1,8 @@
 use Rattle.std.proofs.Common.{◌∙◌, ap, subst, Some, None, ℕ, true}
 use Rattle.std.specs.BTreeMap.{BTreeMap}
 use Rattle.std.specs.BTreeSet.{BTreeSet}
-use Rattle.std.specs.List.{list_any}
 use Rattle.std.proofs.lemmas.Result.{MatchResult-from_err}
-use Rattle.av_base.specs.Keys.{Key, same_key}
+use Rattle.av_base.specs.Keys.{Key}
 use Rattle.av_index.specs.KeyIndex.{keys_by_name}
 use Rattle.av_index.proofs.KeysLaws.{Changes, ChangesKey, added, changed-rise, same-keys, some-is}
 use Rattle.av_index.proofs.keys.KeyIndex.add.Goals as goal
@@ -40,17 +39,17 @@ returns-in-Some-clause-ok c =
 pub invariant_of-self-2 : goal.invariant_of-self-2
 invariant_of-self-2 c =
     let changes = subst
-        (λ (m : BTreeMap ℕ (BTreeSet Key)). Changes m.entries c.insert-3.new.self.entries c.args.name (Some c.insert-2.new.self))
-        c.get_mut.follows.holds-at-none c.in_ok-insert-3.ensures.updates.0 in
+    (λ (m : BTreeMap ℕ (BTreeSet Key)). Changes m.entries c.insert-3.new.self.entries c.args.name (Some c.insert-2.new.self))
+    c.get_mut.follows.holds-at-none c.in_ok-insert-3.ensures.updates.0 in
     changed-rise _ _ c.args.name (Some c.insert-2.new.self) changes
     c.self.invariant c.insert-3.ensures.ordered c.insert-2.ensures.ordered
 
 pub returns-clause-ok : goal.returns-clause-ok
 returns-clause-ok c =
     let changes = subst
-        (λ (m : BTreeMap ℕ (BTreeSet Key)). Changes m.entries c.insert-3.new.self.entries c.args.name (Some c.insert-2.new.self))
-        c.get_mut.follows.holds-at-none c.in_ok-insert-3.ensures.updates.0 in
+    (λ (m : BTreeMap ℕ (BTreeSet Key)). Changes m.entries c.insert-3.new.self.entries c.args.name (Some c.insert-2.new.self))
+    c.get_mut.follows.holds-at-none c.in_ok-insert-3.ensures.updates.0 in
     let keys = subst (λ ks. ChangesKey ks c.insert-2.new.self.keys c.args.key true)
-        c.new-keys.ensures.empty c.in_ok-insert-2.ensures.updates.0 in
+    c.new-keys.ensures.empty c.in_ok-insert-2.ensures.updates.0 in
     added _ _ c.args.name (Some c.insert-2.new.self) changes
     _ c.self.view_is None c.in_default.ensures.value c.args.key keys

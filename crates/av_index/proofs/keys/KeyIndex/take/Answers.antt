@@ -20,7 +20,7 @@ pub invariant_of-self-then-is_empty : goal.invariant_of-self-then-is_empty
 invariant_of-self-then-is_empty c =
     let w = c.get_mut.follows.holds c.remove.new.self in
     let changes = changes-twice _ _ _ c.args.name (Some c.remove.new.self) None
-        (w.3 (some-is _ _ c.in-Some.ensures.value)).0 c.remove-then-is_empty.ensures.updates.0 in
+    (w.3 (some-is _ _ c.in-Some.ensures.value)).0 c.remove-then-is_empty.ensures.updates.0 in
     changed-rise _ _ c.args.name None changes
     c.self.invariant c.remove-then-is_empty.ensures.ordered (none-rise.keys_rise 0)
 
@@ -28,13 +28,13 @@ pub returns-then-is_empty : goal.returns-then-is_empty
 returns-then-is_empty c = λ n k.
     let w = c.get_mut.follows.holds c.remove.new.self in
     let changes = changes-twice _ _ _ c.args.name (Some c.remove.new.self) None
-        (w.3 (some-is _ _ c.in-Some.ensures.value)).0 c.remove-then-is_empty.ensures.updates.0 in
+    (w.3 (some-is _ _ c.in-Some.ensures.value)).0 c.remove-then-is_empty.ensures.updates.0 in
     let keys = subst (λ ks. ChangesKey c.in-Some.keys.now.keys ks c.args.key false)
-        (no-keys _ (c.if-is_empty.ensures.0 refl)) c.remove.ensures.updates.0 in
+    (no-keys _ (c.if-is_empty.ensures.0 refl)) c.remove.ensures.updates.0 in
     let is : c.match-remove.self ≡ keys_by_name c.remove-then-is_empty.new.self.entries = search rules in
     ap (λ v. has_key v n k) is
     ∙ taken _ _ c.args.name None changes
-        _ c.self.view_is (Some c.in-Some.keys.now) c.in-Some.ensures.value c.args.key keys n k
+    _ c.self.view_is (Some c.in-Some.keys.now) c.in-Some.ensures.value c.args.key keys n k
 
 -- ---- another
 
