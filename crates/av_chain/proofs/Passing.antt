@@ -73,7 +73,7 @@ pub found_in_row : (w : Way) (k : ℕ) (bs xs : List Block) (y : Block) (ys : Li
 found_in_row w k bs xs y ys d e =
     found_out w k y.0 bs y.1 d (ap (found y.0) e ∙ found_past xs y ys (subst IsApart e (apart_row w k bs d)))
 
-some_is : {X : Type 0} (x y : X) → Some x ≡ Some y → x ≡ y
+pub some_is : {X : Type 0} (x y : X) → Some x ≡ Some y → x ≡ y
 some_is x y e = cc
 
 empty_is : (ys : List Block) → length ys ≡ 0 → ys ≡ []
@@ -87,11 +87,11 @@ abbrev pub IsPast : Way → ℕ → List Block → Option Place → ℕ → Type
 IsPast w k bs at step = (xs : List Block) × (ys : List Block) × (row w k bs ≡ xs ++ ys) × (at ≡ first_or None ys) × (length xs ≡ step)
 
 -- what comes next, and the rest
-first_is : (ys : List Block) (p : Place) → Some p ≡ first_or None ys → (y : Block) × (rest : List Block) × (ys ≡ y ∷ rest) × (p ≡ at_block y)
+pub first_is : (ys : List Block) (p : Place) → Some p ≡ first_or None ys → (y : Block) × (rest : List Block) × (ys ≡ y ∷ rest) × (p ≡ at_block y)
 first_is [] p e = cc
 first_is (y ∷ ys) p e = (y, ys, refl, some_is p (at_block y) e)
 
-first_none : (ys : List Block) → first_or None ys ≡ None → ys ≡ []
+pub first_none : (ys : List Block) → first_or None ys ≡ None → ys ≡ []
 first_none [] e = refl
 first_none (y ∷ ys) e = cc
 

@@ -61,6 +61,11 @@ abbrev pub row : Way → ℕ → List Block → List Block
 row w k [] = []
 row w k (b ∷ bs) = cond (k == key_of w b.1) (b ∷ row w k bs) (row w k bs)
 
+-- the nodes of all other lists
+abbrev pub without_row : Way → ℕ → List Block → List Block
+without_row w k [] = []
+without_row w k (b ∷ bs) = cond (k == key_of w b.1) (without_row w k bs) (b ∷ without_row w k bs)
+
 -- the place of the first, where `after` comes after all
 abbrev pub first_or : Option Place → List Block → Option Place
 first_or after [] = after

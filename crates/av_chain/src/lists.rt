@@ -77,32 +77,19 @@ impl Lists {
         node.anon
     }
 
-    /// Frees every node.
+    /// Frees every node, one area's list after another. No node is taken out of its lists first.
     pub(crate) fn free_all(self, alloc: Global)
         requires { AreKept self }
     {
-        let mut lists = self;
-        while let Some(place) = lists.any() {
-            lists.take_out(alloc, place);
-        }
         let Lists {
-            nodes,
-            areas: _,
+            mut nodes,
+            areas,
             anons: _,
-        } = lists;
-        nodes.end();
-    }
-
-    // A node, if there is one.
-    fn any(&self) -> Option<Place>
-        requires { AreKept self.now }
-        ensures none { IfNone result (self.now.nodes.blocks ≡ []) }
-        ensures some { IfSome result (λ p. has_place p.ptr self.now.nodes.blocks ≡ true) }
-    {
-        match self.areas.values().next() {
-            Some(head) => Some(head.first),
-            None => None,
+        } = self;
+        for (area, head) in areas.iter() {
+            nodes.free_row(alloc, *area, head.first);
         }
+        nodes.end();
     }
 
     /// How many nodes an area's list has.
