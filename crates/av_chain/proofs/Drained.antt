@@ -8,7 +8,7 @@ use Rattle.av_chain.specs.declared.node.Node.{Node}
 use Rattle.av_chain.specs.declared.node.Place.{Place}
 use Rattle.av_chain.specs.declared.node.Way.TheVariants.{Area}
 use Rattle.av_chain.specs.Nodes.{Block, same_ptr, IsApart, has_place, found, without_node}
-use Rattle.av_chain.specs.Rows.{row, without_row, at_block, first_or, IsRun, head_of, IsThreaded, Reaches}
+use Rattle.av_chain.specs.Rows.{sides_of, row, without_row, at_block, first_or, IsRun, head_of, IsThreaded, Reaches}
 use Rattle.av_chain.specs.Links.{without_first}
 use Rattle.av_chain.specs.Lists.{links_of}
 use Rattle.av_chain.proofs.Pointers.{same_ptr_refl}
@@ -115,11 +115,11 @@ module _ (k : ℕ) where
         run_cut : IsRun Area left.before (cut.0 ∷ cut.1) None
         run_cut = subst (λ cs. IsRun Area left.before cs None) cut.2 left.run
 
-        pub left_next : IsLeft n.in_area.after (without_node p.ptr bs)
+        pub left_next : IsLeft (sides_of Area n).after (without_node p.ptr bs)
         left_next = record {
           before = Some (at_block cut.0);
           run = subst (λ cs. IsRun Area (Some (at_block cut.0)) cs None) (sym left_row) run_cut.2;
-          first = ap (λ (m : Node). m.in_area.after) (sym node_is) ∙ run_cut.1 ∙ ap (first_or None) (sym left_row);
+          first = ap (λ (m : Node). (sides_of Area m).after) (sym node_is) ∙ run_cut.1 ∙ ap (first_or None) (sym left_row);
         }
 
 -- ---- the lists are freed, one after another

@@ -19,8 +19,7 @@ impl Nodes {
     {
         if let Some(place) = at {
             let node = *self.get(place);
-            let before = node.sides(way).before;
-            self.set(place, node.with_sides(way, Sides { before, after: to }));
+            self.set(place, node.with_after(way, to));
         }
     }
 
@@ -31,8 +30,7 @@ impl Nodes {
     {
         if let Some(place) = at {
             let node = *self.get(place);
-            let after = node.sides(way).after;
-            self.set(place, node.with_sides(way, Sides { before: to, after }));
+            self.set(place, node.with_before(way, to));
         }
     }
 
@@ -95,7 +93,7 @@ impl Nodes {
     {
         let mut at = Some(first);
         while let Some(place) = at {
-            at = self.get(place).in_area.after;
+            at = self.get(place).sides(Way::Area).after;
             self.free(alloc, place);
         }
     }

@@ -20,7 +20,7 @@ pub loop-at-preserved : goal.loop-at-preserved
 loop-at-preserved c =
     let bs = c.loop-at.self.blocks in
     let left = c.loop-at.invariant.left in record {
-      left = rw (c.free.ensures) (left_next c.args.area c.loop-at.at bs left c.in-Some.place c.in-Some.is c.loop-at.self.apart
+      left = rw (c.free.ensures, c.sides-at.ensures) (left_next c.args.area c.loop-at.at bs left c.in-Some.place c.in-Some.is c.loop-at.self.apart
           c.get.result.now c.get.ensures);
       others = ap (without_row Area c.args.area) c.free.ensures
           ∙ left_others c.args.area c.loop-at.at bs left c.in-Some.place c.in-Some.is c.loop-at.self.apart ∙ c.loop-at.invariant.others;
