@@ -1,5 +1,6 @@
 -- What the rows of areas show.
-use Rattle.std.specs.Prelude.{◌≡◌, ℕ, ◌<◌, ◌≤◌, Bool, List, [], ◌∷◌, MatchBool}
+use Rattle.std.specs.Prelude.{◌≡◌, ℕ, ◌<◌, ◌≤◌, Bool, List, [], ◌∷◌, Option, MatchBool}
+use Rattle.std.specs.Prelude.{MatchOption}
 use Rattle.std.specs.List.{AllByRecursion}
 use Rattle.av_base.specs.Page.{address_of}
 use Rattle.av_trace.specs.declared.row.Row.{Row}
@@ -25,6 +26,11 @@ abbrev pub AreShown : ℕ → List Row → List Range → Type 0
 AreShown from [] [] = Unit {0}
 AreShown from (row ∷ rows) (r ∷ ranges) = IsShown from row r × AreShown r.end rows ranges
 AreShown from rows ranges = ⊥
+
+-- what rows show, if they show such ranges
+abbrev pub AreRead : List Row → Option (List Range) → Type 0
+AreRead rows found = MatchOption found ((ranges : List Range) → AreShown 0 rows ranges → ⊥)
+    (λ ranges. AreShown 0 rows ranges × AllByRecursion IsAreaRow rows)
 
 -- whether rows are those of a legal reply about these pages
 abbrev pub IsVerdictOn : Process → List Row → Bool → Type 0

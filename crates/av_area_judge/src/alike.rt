@@ -1,6 +1,6 @@
 //! Whether two spaces say the same of each page.
 
-ghost use Rattle.std.specs.Prelude.{◌≡◌, ◌<◌, ◌≤◌, ℕ, ⊥, false, true};
+ghost use Rattle.std.specs.Prelude.{◌≡◌, ◌<◌, ◌≤◌, ℕ, false, true};
 ghost use Rattle.av_world.specs.Space.{has, marks_in};
 ghost use Rattle.av_area_judge.specs.Alike.{AreAlike};
 
@@ -40,15 +40,25 @@ fn same_up_to(space: &Space, page: u64, end: u64) -> u64
     to
 }
 
+/// Whether two pages have one protection and the same flags.
+fn same_marks(one: Marks, other: Marks) -> bool
+    ensures yes { result ≡ true → (one.prot ≡ other.prot) × (one.flags ≡ other.flags) }
+    ensures no { result ≡ false → one.prot ≡ other.prot → one.flags ≡ other.flags → ⊥ }
+{
+    one.prot == other.prot && one.flags == other.flags
+}
+
 /// Whether the same is said of two pages.
 fn are_same(one: Option<Marks>, other: Option<Marks>) -> bool
     ensures yes { result ≡ true → one ≡ other }
     ensures no { result ≡ false → one ≡ other → ⊥ }
 {
-    match (one, other) {
-        (None, None) => true,
-        (Some(one), Some(other)) => one.prot == other.prot && one.flags == other.flags,
-        _ => false,
+    match one {
+        None => other.is_none(),
+        Some(one) => match other {
+            None => false,
+            Some(other) => same_marks(one, other),
+        },
     }
 }
 

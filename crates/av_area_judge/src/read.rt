@@ -8,16 +8,28 @@ ghost use Rattle.av_trace.specs.Print.{rows_text, text_of};
 ghost use Rattle.av_trace.specs.Reply.{IsReply};
 ghost use Rattle.av_trace.specs.Row.{IsAreaRow, row_line};
 ghost use Rattle.av_trace.specs.declared.row.Row.{Row as AnyRow};
-ghost use Rattle.av_area_judge.specs.Read.{shown_areas};
+ghost use Rattle.av_area_judge.specs.Read.{AreWords, shown_areas};
 
 use crate::words::{chain_numbers, flags_of, hex_number, own_number, piece, prot_of, unlabelled};
 use av_trace::{Answer, Chain, Reply, Row, Rows};
 use std::alloc::{AllocError, Global};
 
-/// The row that a line is.
-fn area_row(alloc: Global, line: &[u8]) -> Result<Row, AllocError>
-    ensures { IfOk result (λ found. (row : AnyRow) → IsAreaRow row
-        → line.now ≡ 32 ∷ row_line row → found ≡ row) }
+/// The words of a row's line, without their labels.
+#[derive(Clone, Copy, Drop)]
+struct Words<'a> {
+    start: &'a [u8],
+    end: &'a [u8],
+    prot: &'a [u8],
+    offset: &'a [u8],
+    own: &'a [u8],
+    chain: &'a [u8],
+    flags: &'a [u8],
+}
+
+/// The words of a line.
+fn words_of(line: &[u8]) -> Words<'_>
+    ensures { (row : AnyRow) → IsAreaRow row → line.now ≡ 32 ∷ row_line row
+        → AreWords row result }
 {
     let (_, rest) = piece(b' ', line);
     let (range, rest) = piece(b' ', rest);
@@ -26,15 +38,35 @@ fn area_row(alloc: Global, line: &[u8]) -> Result<Row, AllocError>
     let (offset, rest) = piece(b' ', rest);
     let (own, rest) = piece(b' ', rest);
     let (chain, flags) = piece(b' ', rest);
-    let numbers = chain_numbers(alloc, unlabelled(chain, b"chain="))?;
+    Words {
+        start,
+        end,
+        prot,
+        offset: unlabelled(offset, b"off="),
+        own: unlabelled(own, b"own="),
+        chain: unlabelled(chain, b"chain="),
+        flags,
+    }
+}
+
+/// The row that a line is.
+fn area_row(alloc: Global, line: &[u8]) -> Result<Row, AllocError>
+    ensures { IfOk result (λ found. (row : AnyRow) → IsAreaRow row
+        → line.now ≡ 32 ∷ row_line row → found ≡ row) }
+{
+    let words = words_of(line);
+    let start = hex_number(alloc, words.start)?;
+    let end = hex_number(alloc, words.end)?;
+    let offset = hex_number(alloc, words.offset)?;
+    let numbers = chain_numbers(alloc, words.chain)?;
     Ok(Row::Area {
-        start: hex_number(alloc, start)?,
-        end: hex_number(alloc, end)?,
-        prot: prot_of(prot),
-        offset: hex_number(alloc, unlabelled(offset, b"off="))?,
-        own: own_number(unlabelled(own, b"own=")),
+        start,
+        end,
+        prot: prot_of(words.prot),
+        offset,
+        own: own_number(words.own),
         chain: Chain::from_vec(numbers),
-        flags: flags_of(flags),
+        flags: flags_of(words.flags),
     })
 }
 

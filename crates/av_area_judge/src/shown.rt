@@ -1,15 +1,14 @@
 //! What the rows of areas show.
 
-ghost use Rattle.std.specs.Prelude.{◌≡◌, ◌<◌, ◌≤◌, ℕ, ⊥, IfNone, IfOk, IfSome, List, MatchBool};
-ghost use Rattle.std.specs.Prelude.{MatchOption, option_map};
+ghost use Rattle.std.specs.Prelude.{◌≡◌, ◌*◌, ◌<◌, ◌≤◌, ℕ, IfNone, IfOk, IfSome, MatchBool};
+ghost use Rattle.std.specs.Prelude.{option_map};
 ghost use Rattle.std.specs.List.{AllByRecursion};
 ghost use Rattle.av_trace.specs.Row.{AreRising, IsAreaRow};
-ghost use Rattle.av_plain.specs.Report.{AreAreas};
 ghost use Rattle.av_plain.specs.World.{Process};
 ghost use Rattle.av_text.specs.Number.{IsWide};
 ghost use Rattle.av_world.specs.Space.{IsSpace};
 ghost use Rattle.av_world.specs.declared.space.Range.{Range as AnyRange};
-ghost use Rattle.av_area_judge.specs.Shown.{AreShown, IsShown, IsVerdictOn, Shows};
+ghost use Rattle.av_area_judge.specs.Shown.{AreRead, IsShown, IsVerdictOn, Shows};
 
 use crate::alike::are_alike;
 use av_base::PAGE_SIZE;
@@ -38,6 +37,13 @@ fn rises(numbers: &[u64]) -> bool
         rest = later;
     }
     true
+}
+
+/// Numbers are of 64 bits.
+fn fit(offset: u64, own: Option<u64>)
+    ensures { IsWide offset × IfSome own IsWide }
+{
+    let _ = (offset, own);
 }
 
 /// Each number is of 64 bits.
@@ -75,7 +81,7 @@ fn range_of(row: &Row) -> Option<Range>
             chain,
             flags,
         } => {
-            let _ = (offset, own);
+            fit(*offset, *own);
             are_wide(chain.as_slice());
             if !rises(chain.as_slice()) {
                 return None;
@@ -107,9 +113,7 @@ fn range_from(row: &Row, from: u64) -> Option<Range>
 
 /// What rows show, if they are of areas that are apart and rise.
 fn ranges_of(alloc: Global, rows: &[Row]) -> Result<Option<Vec<Range>>, AllocError>
-    ensures { IfOk result (λ found. MatchOption found
-        ((all : List AnyRange) → AreShown 0 rows.now all → ⊥)
-        (λ made. AreShown 0 rows.now made.items × AllByRecursion IsAreaRow rows.now)) }
+    ensures { IfOk result (λ found. AreRead rows.now (option_map (λ made. made.items) found)) }
 {
     let mut made = Vec::new(alloc);
     let mut from = 0;

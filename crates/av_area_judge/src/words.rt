@@ -1,7 +1,7 @@
 //! Words of a row, read loosely: what is said to stand there where it is none is of no account.
 
 ghost use Rattle.std.specs.Prelude.{◌≡◌, ◌<◌, ◌++◌, ◌∷◌, [], ℕ, IfOk, IfSome, List, Option};
-ghost use Rattle.std.specs.Prelude.{codes, length, true};
+ghost use Rattle.std.specs.Prelude.{MatchBool, codes, length, true};
 ghost use Rattle.std.specs.List.{AllByRecursion, flat_map};
 ghost use Rattle.std.specs.Fmt.{decimal};
 ghost use Rattle.av_base.specs.declared.flags.Flags.{Flags as AnyFlags};
@@ -12,6 +12,7 @@ ghost use Rattle.av_text.specs.Prot.{prot_text};
 ghost use Rattle.av_trace.specs.Row.{chain_text, flag_words, own_text};
 ghost use Rattle.av_judge.specs.Notes.{lacks};
 ghost use Rattle.av_area_judge.specs.Read.{flag_in, joined};
+ghost use Rattle.av_area_judge.specs.Read.{unlabelled as unlabelled_of};
 
 use av_base::{Flags, Prot};
 use av_judge::cut;
@@ -37,7 +38,7 @@ pub fn piece(byte: u8, bytes: &[u8]) -> (&[u8], &[u8])
 
 /// What follows a label, or all.
 pub fn unlabelled<'a>(bytes: &'a [u8], label: &[u8]) -> &'a [u8]
-    ensures { (word : List ℕ) → bytes.now ≡ label.now ++ word → result.now ≡ word }
+    ensures { result.now ≡ unlabelled_of label.now bytes.now }
 {
     match after(bytes, label) {
         None => bytes,
@@ -65,13 +66,20 @@ pub fn own_number(word: &[u8]) -> Option<u64>
     number_in(word, 0, u64::MAX)
 }
 
+/// Whether a word is that of no number.
+fn is_dash(word: &[u8]) -> bool
+    ensures { MatchBool result (word.now ≡ codes "-") (word.now ≡ codes "-" → ⊥) }
+{
+    word == b"-".as_slice()
+}
+
 /// The numbers between the commas of a word.
 pub fn chain_numbers(alloc: Global, word: &[u8]) -> Result<Vec<u64>, AllocError>
     ensures { IfOk result (λ found. (chain : List ℕ) → AllByRecursion IsWide chain
         → word.now ≡ chain_text chain → found.items ≡ chain) }
 {
     let mut numbers = Vec::new(alloc);
-    if word == b"-" {
+    if is_dash(word) {
         return Ok(numbers);
     }
     let mut rest = word;
