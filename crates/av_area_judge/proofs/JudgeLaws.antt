@@ -1,23 +1,19 @@
 -- A unit for `areas`, and the reply that is read of it.
 use Rattle.std.proofs.Common.{◌≡◌, ℕ, Bool, true, false, List, [], length, None, refl, sym, ap, subst, ◌∙◌}
 use Rattle.std.specs.Prelude.{MatchOption}
-use Rattle.std.specs.List.{AllByRecursion}
 use Rattle.av_text.specs.Number.{IsWide}
 use Rattle.av_trace.specs.declared.command.Command.TheVariants.{Areas}
-use Rattle.av_trace.specs.declared.reply.Answer.{Answer}
 use Rattle.av_trace.specs.declared.reply.Answer.TheVariants.{AreaList}
 use Rattle.av_trace.specs.declared.reply.Reply.{Reply}
 use Rattle.av_trace.specs.declared.row.Row.{Row}
 use Rattle.av_trace.specs.Print.{text_of}
 use Rattle.av_trace.specs.Reply.{IsReply}
-use Rattle.av_trace.specs.Row.{IsAreaRow}
 use Rattle.av_plain.specs.Event.{Event, notes_of}
 use Rattle.av_plain.specs.Ledger.{Ledger, Setting}
 use Rattle.av_plain.specs.Refusal.{Refuses, refusal, tests}
 use Rattle.av_plain.specs.Report.{AreAreas, ReportsAreas}
 use Rattle.av_plain.specs.Step.{Follows, IsLegal}
 use Rattle.av_plain.specs.World.{World, pages}
-use Rattle.av_judge.specs.Says.{SaysReply}
 use Rattle.av_judge.specs.Verdict.{IsVerdict}
 use Rattle.av_area_judge.specs.Read.{shown_areas}
 use Rattle.av_area_judge.specs.Shown.{IsVerdictOn}

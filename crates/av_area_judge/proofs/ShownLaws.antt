@@ -1,17 +1,15 @@
 -- What rows of areas show.
-use Rattle.std.proofs.Common.{◌≡◌, ℕ, ◌*◌, ◌<◌, ◌≤◌, Bool, true, false, cond, ◌&&◌, List, [], ◌∷◌, ◌++◌, append_assoc, append-nil, length, map, Option, Some, None, nat_le, nat_lt, refl, sym, ap, subst, ◌∙◌, arith}
-use Rattle.std.specs.Prelude.{◌^◌, MatchBool, option_map}
+use Rattle.std.proofs.Common.{◌≡◌, ℕ, ◌<◌, ◌≤◌, Bool, true, false, cond, ◌&&◌, List, [], ◌∷◌, ◌++◌, append_assoc, append-nil, length, map, Option, Some, None, nat_le, nat_lt, refl, sym, ap, subst, ◌∙◌, arith}
+use Rattle.std.specs.Prelude.{◌^◌, option_map}
 use Rattle.std.specs.List.{AllByRecursion}
 use Rattle.std.proofs.lemmas.Bool.Decides.{nat_tests}
 use Rattle.std.specs.BTreeMap.{get}
 use Rattle.std.specs.Ordering.{nat_cmp}
 use Rattle.av_base.specs.Page.{address_of}
-use Rattle.av_base.specs.declared.flags.Flags.{Flags}
-use Rattle.av_base.specs.declared.prot.Prot.{Prot}
 use Rattle.av_text.specs.Number.{IsWide}
 use Rattle.av_trace.specs.declared.row.Row.{Row}
 use Rattle.av_trace.specs.declared.row.Row.TheVariants.{Run, Area, Entry}
-use Rattle.av_trace.specs.Row.{AreRising, IsAreaRow}
+use Rattle.av_trace.specs.Row.{IsAreaRow}
 use Rattle.av_plain.specs.Report.{AreApart, AreAreas, HasRisingChain, Range as PlainRange, flags_in, prot_in, row_of, run_of}
 use Rattle.av_plain.specs.World.{Page, Process}
 use Rattle.av_world.specs.Space.{IsPage, IsSpace, byte_in, has, marks_in}

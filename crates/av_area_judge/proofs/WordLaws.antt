@@ -1,13 +1,11 @@
 -- Words of a printed row, as they are cut off and read.
-use Rattle.std.proofs.Common.{◌≡◌, ℕ, ◌<◌, ◌≤◌, ◌-◌, Bool, true, false, List, [], ◌∷◌, ◌++◌, append_assoc, append-nil, get_or, length, map, Option, Some, None, refl, sym, ap, subst, ◌∙◌, arith}
+use Rattle.std.proofs.Common.{◌≡◌, ℕ, ◌<◌, ◌-◌, Bool, true, false, List, [], ◌∷◌, ◌++◌, append_assoc, append-nil, map, Option, Some, None, refl, sym, ap, subst, ◌∙◌, arith}
 use Rattle.std.specs.Prelude.{◌^◌, IfNone, IfSome, codes, unwrap_or}
 use Rattle.std.specs.List.{AllByRecursion, flat_map}
 use Rattle.std.specs.Fmt.{decimal, digit_glyph}
 use Rattle.av_base.specs.declared.flags.Flags.{Flags}
-use Rattle.av_base.specs.declared.prot.Prot.{Prot}
 use Rattle.av_text.specs.Hex.{hex}
 use Rattle.av_text.specs.Number.{IsNumberIn, IsWide, address_at}
-use Rattle.av_text.specs.Prot.{letter, prot_text}
 use Rattle.av_text.specs.Word.{after, field}
 use Rattle.av_text.proofs.NumberLaws.{addresses, glyph_printed, read_of, ten}
 use Rattle.av_text.proofs.WordLaws.{after-again}
@@ -26,13 +24,6 @@ module _ (c : ℕ) (bytes : List ℕ) where
 
   pub cut-not : (f o : List ℕ) → lacks c bytes ≡ true → bytes ≡ f ++ c ∷ o → ⊥
   cut-not f o none is = lacks-not c f o (subst (λ b. lacks c b ≡ true) is none)
-
-  pub cut-shorter : (first others : List ℕ) → IsCut c bytes first others → length others < length bytes
-  cut-shorter first others cut = subst (λ b. length others < length b) (sym cut.whole) (by first)
-    where
-      by : (first : List ℕ) → length others < length (first ++ c ∷ others)
-      by [] = omega arith
-      by (b ∷ first) = let h = by first in omega (arith, h)
 
 -- what a piece is
 pub record IsPiece (c : ℕ) (bytes first others : List ℕ) : Type 0 where
