@@ -57,6 +57,17 @@ impl Space {
         false
     }
 
+    /// How far the same is said of each page from one on, `end` at the most.
+    pub fn same_up_to(&self, page: u64, end: u64) -> u64
+        requires { page < end }
+        ensures above { page < result }
+        ensures most { result ≤ end }
+        ensures same { (q : ℕ) → page ≤ q → q < result
+            → marks_in self.now.ranges.items q ≡ marks_in self.now.ranges.items page }
+    {
+        same_up_to(self.ranges.as_slice(), page, end)
+    }
+
     /// Whether a page is locked.
     fn locks(&self, page: u64) -> bool
         ensures { (q : Process) → IsSpace self.now q → result ≡ is_locked_page (q page) }
