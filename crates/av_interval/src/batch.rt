@@ -14,7 +14,7 @@ use av_base::Steps;
 use std::sync::ledger::Ledger;
 
 /// How many overlaps are found in one way through the tree, at most.
-pub const BATCH: usize = 16;
+pub const BATCH: usize = 64;
 
 /// First index and area of some spans.
 pub type Batch = ArrayVec<(u64, u64), BATCH>;
@@ -103,22 +103,22 @@ fn gather_below<N: Nodes<L>, L: Ledger>(
     gather(nodes, right, index, after, found, steps);
 }
 
-/// First index and area of the next spans past `after` that overlap `index`, as many as a batch has
-/// room for.
+/// Fills a batch anew: first index and area of the next spans past `after` that overlap `index`, as
+/// many as it has room for.
 pub fn search_batch<N: Nodes<L>, L: Ledger>(
     nodes: &N,
     anon: u64,
     index: u64,
     after: Option<(u64, u64)>,
+    found: &mut Batch,
     steps: &mut Steps<L>,
-) -> Batch
-    ensures found { result.items ≡ take BATCH
+)
+    ensures found { found.new.items ≡ take BATCH
         (overlaps_past after index (entries (N.tree nodes.now anon))) }
     ensures cost { steps.new ≤ steps.old
-        + (array_vec_len result + 2) * height (N.tree nodes.now anon) }
+        + (array_vec_len found.new + 2) * height (N.tree nodes.now anon) }
 {
-    let mut found = Batch::new();
+    found.clear();
     let root = nodes.root(anon);
-    gather(nodes, root, index, &after, &mut found, steps);
-    found
+    gather(nodes, root, index, &after, found, steps);
 }

@@ -5,7 +5,7 @@ ghost use Rattle.std.specs.Prelude.{IsSome, OnErr, if◌then◌else◌};
 ghost use Rattle.av_arena.specs.Order.{entry_at, with_entry, without_key};
 ghost use Rattle.av_interval.specs.Spans.{IsNew, height_at, tree_of, triples};
 ghost use Rattle.av_interval.specs.Span.{triple};
-ghost use Rattle.av_interval.specs.Search.{overlap_of};
+ghost use Rattle.av_interval.specs.Search.{IsOrdered, overlap_of};
 ghost use Rattle.av_interval.specs.Batch.{overlaps_past};
 ghost use Rattle.arrayvec.specs.ArrayVec.{array_vec_len};
 ghost use Rattle.av_interval.specs.Roots.{len_of, top_of};
@@ -161,24 +161,26 @@ impl Spans {
         search(self, anon, index, after, steps)
     }
 
-    /// First index and area of the next spans past `after` that overlap `index`, as many as a batch
-    /// has room for. It takes no memory.
+    /// Fills a batch anew: first index and area of the next spans past `after` that overlap `index`,
+    /// as many as it has room for. It takes no memory.
     pub fn overlaps<L: Ledger>(
         &self,
         anon: u64,
         index: u64,
         after: Option<(u64, u64)>,
+        found: &mut Batch,
         steps: &mut Steps<L>,
-    ) -> Batch
-        ensures found { result.items ≡ take BATCH
+    )
+        ensures found { found.new.items ≡ take BATCH
             (overlaps_past after index (triples self.now anon)) }
+        ensures ordered { IsOrdered (triples self.now anon) }
         ensures cost { steps.new ≤ steps.old
-            + (array_vec_len result + 2) * height_at self.now anon }
+            + (array_vec_len found.new + 2) * height_at self.now anon }
         ensures shallow { 2 ^ height_at self.now anon ≤ (length (triples self.now anon) + 1) *
             (length (triples self.now anon) + 1) }
     {
         let _ = &self.roots;
-        search_batch(self, anon, index, after, steps)
+        search_batch(self, anon, index, after, found, steps);
     }
 
     /// How many spans an anon_vma has.

@@ -1,5 +1,5 @@
 -- The areas that a walk looks in, one batch after the other.
-use Rattle.std.proofs.Common.{◌≡◌, ℕ, zero, suc, ◌+◌, ◌-◌, ◌<◌, ◌≤◌, nat_lt, Bool, true, false, cond, ◌||◌, ◌==◌, ◌++◌, Option, Some, None, List, [], ◌∷◌, length, take, drop, refl, sym, ap, subst, ◌∙◌, arith, IsSomeAnd, IfNone, IfSome}
+use Rattle.std.proofs.Common.{◌≡◌, ℕ, zero, suc, ◌+◌, ◌-◌, ◌<◌, ◌≤◌, nat_lt, Bool, true, false, cond, ◌||◌, ◌==◌, ◌++◌, Option, Some, None, List, [], ◌∷◌, length, take, drop, length-take, refl, sym, ap, subst, ◌∙◌, arith, IsSomeAnd, IfNone, IfSome}
 use Rattle.std.proofs.lemmas.Bool.{false≢true}
 use Rattle.std.proofs.lemmas.Bool.Decides.{nat_tests}
 use Rattle.std.proofs.lemmas.List.{take-append-drop}
@@ -38,50 +38,53 @@ past-last after i xs (p ∷ q ∷ ps) qs o e h =
     one_less = omega arith
 
 -- a batch and what is behind it are all overlaps
-pub with-behind : (after : Option (ℕ × ℕ)) (i : ℕ) (xs : List Span) (places : List (ℕ × ℕ)) → IsOrdered xs
-    → places ≡ take 16 (overlaps_past after i xs) → places ++ behind places i xs ≡ overlaps_past after i xs
-with-behind after i xs places o e = by (nat_lt (length places) 16) refl
+pub with-behind : (after : Option (ℕ × ℕ)) (i : ℕ) (xs : List Span) (places : List (ℕ × ℕ)) (more : Bool) → IsOrdered xs
+    → more ≡ (length places == 64) → places ≡ take 64 (overlaps_past after i xs)
+    → places ++ behind more (slice_get places (length places - 1)) i xs ≡ overlaps_past after i xs
+with-behind after i xs places more o m e = by more m
   where
-    parts : overlaps_past after i xs ≡ places ++ drop 16 (overlaps_past after i xs)
-    parts = sym (take-append-drop 16 (overlaps_past after i xs)) ∙ ap (λ ps. ps ++ drop 16 (overlaps_past after i xs)) (sym e)
+    all : List (ℕ × ℕ)
+    all = overlaps_past after i xs
 
-    few : nat_lt (length places) 16 ≡ true → length (take 16 (overlaps_past after i xs)) < 16
-    few h = let same = ap length e in let l : length places < 16 = grind (arith, nat_tests, h) in omega (arith, l, same)
+    parts : all ≡ places ++ drop 64 all
+    parts = sym (take-append-drop 64 all) ∙ ap (λ ps. ps ++ drop 64 all) (sym e)
 
-    some : nat_lt (length places) 16 ≡ false → 0 < length places
-    some h = grind (arith, nat_tests, h)
+    few : false ≡ (length places == 64) → length (take 64 all) < 64
+    few h =
+        let same = ap length e in let most = length-take 64 all in
+        let not : length places ≡ 64 → ⊥ = grind (arith, nat_tests, h) in
+        grind (arith, same, most, not)
 
-    by : (b : Bool) → nat_lt (length places) 16 ≡ b
-        → places ++ cond b [] (overlaps_past (slice_get places (length places - 1)) i xs) ≡ overlaps_past after i xs
-    by true h = ap (λ ps. places ++ ps) (sym (cut_all 16 (overlaps_past after i xs) (few h))) ∙ sym parts
-    by false h = ap (λ ps. places ++ ps) (past-last after i xs places (drop 16 (overlaps_past after i xs)) o parts (some h)) ∙ sym parts
+    some : true ≡ (length places == 64) → 0 < length places
+    some h = let whole : length places ≡ 64 = grind (arith, nat_tests, h) in omega (arith, whole)
+
+    by : (b : Bool) → b ≡ (length places == 64) → places ++ behind b (slice_get places (length places - 1)) i xs ≡ all
+    by true h = ap (λ ps. places ++ ps) (past-last after i xs places (drop 64 all) o parts (some h)) ∙ sym parts
+    by false h = ap (λ ps. places ++ ps) (sym (cut_all 64 all (few h))) ∙ sym parts
 
 pub areas-append : (ps qs : List (ℕ × ℕ)) → areas_of (ps ++ qs) ≡ areas_of ps ++ areas_of qs
 areas-append [] qs = refl
 areas-append (p ∷ ps) qs = ap (λ ns. p.1 ∷ ns) (areas-append ps qs)
 
 -- a batch of which nothing was given yet
-pub ahead-of : (looks : Looks) (view : View) (after : Option (ℕ × ℕ)) → looks.given ≡ 0 → IsOrdered (view.spans looks.home.0)
-    → looks.places.items ≡ take 16 (overlaps_past after looks.home.1 (view.spans looks.home.0))
+pub ahead-of : (looks : Looks) (view : View) (after : Option (ℕ × ℕ)) → looks.given ≡ 0
+    → looks.last ≡ slice_get looks.places.items (length looks.places.items - 1) → looks.more ≡ (length looks.places.items == 64)
+    → IsOrdered (view.spans looks.home.0) → looks.places.items ≡ take 64 (overlaps_past after looks.home.1 (view.spans looks.home.0))
     → ahead looks view ≡ areas_of (overlaps_past after looks.home.1 (view.spans looks.home.0))
-ahead-of looks view after z o e =
+ahead-of looks view after z l m o e =
     let xs = view.spans looks.home.0 in
     let i = looks.home.1 in
-    ap (λ n. areas_of (drop n looks.places.items) ++ areas_of (behind looks.places.items i xs)) z
-    ∙ sym (areas-append looks.places.items (behind looks.places.items i xs))
-    ∙ ap areas_of (with-behind after i xs looks.places.items o e)
+    ap (λ n. areas_of (drop n looks.places.items) ++ areas_of (behind looks.more looks.last i xs)) z
+    ∙ ap (λ p. areas_of looks.places.items ++ areas_of (behind looks.more p i xs)) l
+    ∙ sym (areas-append looks.places.items (behind looks.more (slice_get looks.places.items (length looks.places.items - 1)) i xs))
+    ∙ ap areas_of (with-behind after i xs looks.places.items looks.more o m e)
 
--- behind a whole batch that was given
-pub behind-full : (looks : Looks) (view : View) (last : Option (ℕ × ℕ)) → drop looks.given looks.places.items ≡ [] → 16 ≤ length looks.places.items
-    → last ≡ slice_get looks.places.items (length looks.places.items - 1)
-    → ahead looks view ≡ areas_of (overlaps_past last looks.home.1 (view.spans looks.home.0))
-behind-full looks view last none full is =
-    let xs = view.spans looks.home.0 in
-    let i = looks.home.1 in
-    let whole : nat_lt (length looks.places.items) 16 ≡ false = grind (arith, nat_tests, full) in
-    ap (λ ps. areas_of ps ++ areas_of (behind looks.places.items i xs)) none
-    ∙ ap (λ b. areas_of (cond b [] (overlaps_past (slice_get looks.places.items (length looks.places.items - 1)) i xs))) whole
-    ∙ ap (λ o. areas_of (overlaps_past o i xs)) (sym is)
+-- behind a batch that was given, where there may be more
+pub behind-all : (looks : Looks) (view : View) → drop looks.given looks.places.items ≡ [] → looks.more ≡ true
+    → ahead looks view ≡ areas_of (overlaps_past looks.last looks.home.1 (view.spans looks.home.0))
+behind-all looks view none more =
+    let later = λ (b : Bool). areas_of (behind b looks.last looks.home.1 (view.spans looks.home.0)) in
+    ap (λ ps. areas_of ps ++ later looks.more) none ∙ ap later more
 
 -- one is given
 pub gives-some : (was old new : Looks) (view : View) (r : Option ℕ) → ahead was view ≡ ahead old view → new ≡ record old { given = new.given }
@@ -89,19 +92,17 @@ pub gives-some : (was old new : Looks) (view : View) (r : Option ℕ) → ahead 
     → IfSome r (λ area. ahead was view ≡ area ∷ ahead new view)
 gives-some was old new view None same kept one = tt
 gives-some was old new view (Some area) same kept one =
-    same
-    ∙ ap (λ ns. ns ++ areas_of (behind old.places.items old.home.1 (view.spans old.home.0))) one
-    ∙ sym (ap (λ (l : Looks). area ∷ (areas_of (drop new.given new.places.items) ++ areas_of (behind l.places.items l.home.1 (view.spans l.home.0)))) kept)
+    let later = λ (l : Looks). areas_of (behind l.more l.last l.home.1 (view.spans l.home.0)) in
+    same ∙ ap (λ ns. ns ++ later old) one ∙ sym (ap (λ (l : Looks). area ∷ (areas_of (drop new.given new.places.items) ++ later l)) kept)
 
 -- none is left
 pub gives-none : (was old : Looks) (view : View) (r : Option ℕ) → ahead was view ≡ ahead old view → old.given ≡ 0
-    → IfNone r (drop old.given old.places.items ≡ []) → IfNone r (ahead was view ≡ [])
-gives-none was old view None same z none =
+    → old.more ≡ (length old.places.items == 64) → IfNone r (drop old.given old.places.items ≡ []) → IfNone r (ahead was view ≡ [])
+gives-none was old view None same z m none =
     let empty : old.places.items ≡ [] = sym (ap (λ n. drop n old.places.items) z) ∙ none in
-    same
-    ∙ ap (λ ps. areas_of ps ++ areas_of (behind old.places.items old.home.1 (view.spans old.home.0))) none
-    ∙ ap (λ ps. areas_of (behind ps old.home.1 (view.spans old.home.0))) empty
-gives-none was old view (Some area) same z none = tt
+    let later = λ (b : Bool). areas_of (behind b old.last old.home.1 (view.spans old.home.0)) in
+    same ∙ ap (λ ps. areas_of ps ++ later old.more) none ∙ ap later (m ∙ ap (λ ps. length ps == 64) empty)
+gives-none was old view (Some area) same z m none = tt
 
 -- ---- the areas
 

@@ -57,7 +57,7 @@ fn is_locked_from<K: Look<L>, L: Ledger>(
         (areas_from (K.view look.now) home) }
     ensures counted { steps.new ≤ steps.old + locked_looks (K.view look.now) home }
 {
-    let mut looks = Looks::new(look, home);
+    let mut looks = Looks::new(home);
     while let Some(area) = looks.next(look) {
         if is_locked_in(look, frame, home.1, area, steps) {
             return true;

@@ -1,8 +1,10 @@
 //! The areas that a walk looks in, one at a time, found a batch at a time.
 
-ghost use Rattle.std.specs.Prelude.{◌≡◌, ◌≤◌, [], ◌∷◌, IfSome, IfNone, drop, length};
+ghost use Rattle.std.specs.Prelude.{◌≡◌, ◌==◌, true, [], ◌∷◌, IfSome, IfNone, drop};
+ghost use Rattle.std.specs.Prelude.{length};
 ghost use Rattle.av_interval.specs.declared.batch.TheConstants.{BATCH};
 ghost use Rattle.av_rmap.specs.Looks.{ahead};
+ghost use Rattle.av_rmap.specs.View.{View};
 ghost use Rattle.av_rmap.specs.Walk.{areas_from, areas_of};
 
 use crate::look::Look;
@@ -13,19 +15,25 @@ use std::sync::ledger::Ledger;
 #[derive(Drop)]
 pub(crate) struct Looks {
     home: (u64, u64),
-    places: Batch,
     given: usize,
+    /// Past which place the next batch begins.
+    last: Option<(u64, u64)>,
+    /// Whether there may be an overlap past it.
+    more: bool,
+    places: Batch,
 }
 
 impl Looks {
-    /// Those from a home.
-    pub(crate) fn new<K: Look<L>, L: Ledger>(look: &K, home: (u64, u64)) -> Looks
-        ensures { ahead result (K.view look.now) ≡ areas_from (K.view look.now) home }
+    /// Those from a home. None of them is looked for yet.
+    pub(crate) fn new(home: (u64, u64)) -> Looks
+        ensures { (view : View) → ahead result view ≡ areas_from view home }
     {
         Looks {
             home,
-            places: look.next(home.0, home.1, None),
             given: 0,
+            last: None,
+            more: true,
+            places: Batch::new(),
         }
     }
 
@@ -38,25 +46,26 @@ impl Looks {
         if let Some(area) = self.give() {
             return Some(area);
         }
-        if !self.places.is_full() {
+        if !self.more {
             return None;
         }
         self.refill(look);
         self.give()
     }
 
-    /// The batch behind this one, which is full. Apart from `next`, which would clear the room of a
-    /// batch each time that it is called.
+    /// The batch behind this one. A batch that isn't full is the last.
     #[inline(never)]
     fn refill<K: Look<L>, L: Ledger>(&mut self, look: &K)
         requires given { drop self.old.given self.old.places.items ≡ [] }
-        requires full { BATCH ≤ length self.old.places.items }
+        requires more { self.old.more ≡ true }
         ensures same { ahead self.new (K.view look.now) ≡ ahead self.old (K.view look.now) }
         ensures none_given { self.new.given ≡ 0 }
+        ensures more { self.new.more ≡ (length self.new.places.items == BATCH) }
     {
-        let last = self.places.as_slice().last().copied();
-        self.places = look.next(self.home.0, self.home.1, last);
+        look.next(self.home.0, self.home.1, self.last, &mut self.places);
         self.given = 0;
+        self.last = self.places.as_slice().last().copied();
+        self.more = self.places.is_full();
     }
 
     /// The next area of the batch.

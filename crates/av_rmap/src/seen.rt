@@ -44,7 +44,7 @@ pub fn clear_seen<K: LookMut<L>, L: Ledger>(
     if maps == 0 {
         return false;
     }
-    let mut looks = Looks::new(look, home);
+    let mut looks = Looks::new(home);
     let mut left = maps;
     let mut any_seen = false;
     'areas: while left > 0 {
@@ -100,7 +100,7 @@ fn clear_seen_from<K: LookMut<L>, L: Ledger>(
     ensures kept { K.kept look.new ≡ K.kept look.old }
     ensures counted { steps.new ≡ steps.old + looks_from (K.view look.old) (Some home) }
 {
-    let mut looks = Looks::new(look, home);
+    let mut looks = Looks::new(home);
     let mut any_seen = false;
     while let Some(area) = looks.next(look) {
         any_seen |= clear_in(look, frame, home.1, area, steps).unwrap_or(false);

@@ -4,13 +4,13 @@ ghost use Rattle.std.specs.Prelude.{◌≡◌, ℕ, Bool, ◌<◌, take};
 ghost use Rattle.std.specs.Borrow.{GName};
 ghost use Rattle.av_pagetable.specs.Entries.{has};
 ghost use Rattle.av_interval.specs.Batch.{overlaps_past};
+ghost use Rattle.av_interval.specs.Search.{IsOrdered};
 ghost use Rattle.av_interval.specs.Spans.{triples};
 ghost use Rattle.av_rmap.specs.Stores.{view_of, view_of_mut};
 
 use crate::look::{Look, LookMut};
 use av_anon::Anons;
 use av_base::{PAGE_SIZE, Steps};
-use av_interval::nodes::Nodes;
 use av_interval::{BATCH, Batch, Spans};
 use av_pagetable::{PageTable, Pte, Tables};
 use av_vma::Areas;
@@ -28,10 +28,8 @@ pub struct Stores<'a> {
 impl<'a, L: Ledger> Look<L> for Stores<'a> {
     ghost view = { view_of };
 
-    fn next(&self, anon: u64, index: u64, after: Option<(u64, u64)>) -> Batch {
-        let spans = self.anons.spans();
-        let _ = Nodes::<L>::root(spans, anon);
-        overlaps::<Brand>(spans, anon, index, after, Blank::new(1))
+    fn next(&self, anon: u64, index: u64, after: Option<(u64, u64)>, found: &mut Batch) {
+        overlaps::<Brand>(self.anons.spans(), anon, index, after, found, Blank::new(1));
     }
 
     fn place(&self, area: u64, index: u64) -> (u16, u64) {
@@ -74,8 +72,8 @@ impl<'a> StoresMut<'a> {
 impl<'a, L: Ledger> Look<L> for StoresMut<'a> {
     ghost view = { view_of_mut };
 
-    fn next(&self, anon: u64, index: u64, after: Option<(u64, u64)>) -> Batch {
-        Look::<L>::next(&self.stores(), anon, index, after)
+    fn next(&self, anon: u64, index: u64, after: Option<(u64, u64)>, found: &mut Batch) {
+        Look::<L>::next(&self.stores(), anon, index, after, found);
     }
 
     fn place(&self, area: u64, index: u64) -> (u16, u64) {
@@ -109,13 +107,16 @@ fn overlaps<L: Ledger>(
     anon: u64,
     index: u64,
     after: Option<(u64, u64)>,
+    found: &mut Batch,
     blank: Blank,
-) -> Batch
+)
     requires name { blank.name ≡ L.name }
     requires parts { blank.parts ≡ L.parts }
     requires some { 0 < blank.parts }
-    ensures { result.items ≡ take BATCH (overlaps_past after index (triples spans.now anon)) }
+    ensures found { found.new.items
+        ≡ take BATCH (overlaps_past after index (triples spans.now anon)) }
+    ensures ordered { IsOrdered (triples spans.now anon) }
 {
     let mut visits = Steps::<L>::open(blank);
-    spans.overlaps(anon, index, after, &mut visits)
+    spans.overlaps(anon, index, after, found, &mut visits);
 }

@@ -37,7 +37,7 @@ pub fn unmap<K: LookMut<L>, L: Ledger>(
     if maps == 0 {
         return;
     }
-    let mut looks = Looks::new(look, home);
+    let mut looks = Looks::new(home);
     let mut left = maps;
     'areas: while left > 0 {
         let Some(area) = looks.next(look) else {

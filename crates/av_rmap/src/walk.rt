@@ -58,7 +58,7 @@ pub(crate) fn find_from<K: Look<L>, L: Ledger>(
     ensures capacity { vec_capacity into.new ≡ vec_capacity into.old }
     ensures counted { steps.new ≡ steps.old + looks_from (K.view look.now) (Some home) }
 {
-    let mut looks = Looks::new(look, home);
+    let mut looks = Looks::new(home);
     while let Some(area) = looks.next(look) {
         if let Some(key) = look_at(look, target, home.1, area, steps) {
             into.push_reserved(key);

@@ -1,5 +1,5 @@
-use Rattle.std.proofs.Common.{rules, ◌≡◌, ℕ, zero, suc, refl, ◌+◌, ◌*◌, ◌-◌, ◌<◌, ◌≤◌, true, false, [], ◌∷◌, ◌++◌, length, take, List, Option, None, sym, ap, ◌∙◌, subst, arith, append_assoc}
-use Rattle.std.proofs.lemmas.List.{take_at}
+use Rattle.std.proofs.Common.{rules, ◌≡◌, ℕ, zero, suc, refl, ◌+◌, ◌*◌, ◌-◌, ◌<◌, ◌≤◌, true, false, [], ◌∷◌, ◌++◌, length, take, List, Option, None, sym, ap, ◌∙◌, subst, arith, append-nil, append_assoc}
+use Rattle.std.proofs.lemmas.List.{take_all, take_at}
 use Rattle.arrayvec.specs.ArrayVec.{array_vec_len}
 use Rattle.av_interval.specs.Nodes.{Tree}
 use Rattle.av_arena.specs.Tree.{entries, height}
@@ -12,8 +12,16 @@ use Rattle.av_interval.proofs.batch.+gather.Goals as goal
 
 pub gather-returns-then-is_full-clause-found : goal.gather-returns-then-is_full-clause-found
 gather-returns-then-is_full-clause-found g t c =
-    let e : length c.args.found.now.items ≡ 16 = search rules in
-    sym (take_at c.args.found.now.items _ 16 e)
+    let e : length c.args.found.now.items ≡ 64 = search rules in
+    sym (take_at c.args.found.now.items _ 64 e)
+
+pub gather-returns-in_default-clause-found : goal.gather-returns-in_default-clause-found
+gather-returns-in_default-clause-found g t c =
+    let N = g.N.Nodes in
+    let below = λ (n : Option ℕ). overlaps_past c.args.after.now c.args.index (entries (tree_at (N.below c.args.nodes.now) n)) in
+    let old = c.args.found.now.items in
+    let fits : length old ≤ 64 = c.is_full.ensures.fits in
+    sym (ap (λ n. take 64 (old ++ below n)) c.in_default.is ∙ ap (take 64) (append-nil old) ∙ take_all 64 old fits)
 
 child_falls : (m k t : ℕ) → m + 1 ≤ k → 2 * k ≡ t → 2 * m + 1 < t
 child_falls m k t h d = omega (arith, h, d)
@@ -26,7 +34,7 @@ gather-gather_below-requires g t c κs within =
     let N = g.N.Nodes in
     let s = c.args.nodes.now in
     let d : 2 * height (tree_at (N.below s) c.args.number) + 1 ≡ t = c.decreases in
-    let room : array_vec_len c.args.found.now < 16 = search rules in (
+    let room : array_vec_len c.args.found.now < 64 = search rules in (
       node_falls _ _ t (ap (λ n. height (tree_at (N.below s) n)) c.in-Some.is) d,
       (
         within.0,
@@ -90,8 +98,8 @@ gather_below-returns-then-not-comes_after-clause-found g t c =
     let p : is_past a (span_of v) ≡ false = search rules in
     let q = over_right (N.is_node s) (N.below s) _ v c.visit-node.ensures.seen a i ord p in
     c.gather.ensures.found
-    ∙ ap (λ n. take 16 (c.args.found.now.items ++ overlaps_past a i (entries (tree_at (N.below s) n)))) c.child_that_reaches-right.ensures
-    ∙ ap (λ xs. take 16 (c.args.found.now.items ++ xs)) (sym q)
+    ∙ ap (λ n. take 64 (c.args.found.now.items ++ overlaps_past a i (entries (tree_at (N.below s) n)))) c.child_that_reaches-right.ensures
+    ∙ ap (λ xs. take 64 (c.args.found.now.items ++ xs)) (sym q)
 
 pub gather_below-returns-then-index-node-clause-found : goal.gather_below-returns-then-index-node-clause-found
 gather_below-returns-then-index-node-clause-found g t c =
@@ -103,8 +111,8 @@ gather_below-returns-then-index-node-clause-found g t c =
     let ord = c.requires.ordered in
     let q = over_left (N.is_node s) (N.below s) _ v c.visit-node.ensures.seen a i ord c.if-index-node.true in
     c.gather-2.ensures.found
-    ∙ ap (λ n. take 16 (c.args.found.now.items ++ overlaps_past a i (entries (tree_at (N.below s) n)))) c.child_that_reaches-left.ensures
-    ∙ ap (λ xs. take 16 (c.args.found.now.items ++ xs)) (sym q)
+    ∙ ap (λ n. take 64 (c.args.found.now.items ++ overlaps_past a i (entries (tree_at (N.below s) n)))) c.child_that_reaches-left.ensures
+    ∙ ap (λ xs. take 64 (c.args.found.now.items ++ xs)) (sym q)
 
 pub gather_below-returns-clause-found : goal.gather_below-returns-clause-found
 gather_below-returns-clause-found g t c =
@@ -120,12 +128,12 @@ gather_below-returns-clause-found g t c =
     let R = below (reaching_child i v.right) in
     let X = overlaps_past None i (span_of v ∷ []) in
     let q = over_both (N.is_node s) (N.below s) _ v c.visit-node.ensures.seen a i p in
-    let left : c.gather-2.new.found.items ≡ take 16 (old ++ L) = c.gather-2.ensures.found
-    ∙ ap (λ n. take 16 (old ++ below n)) c.child_that_reaches-left.ensures in
-    let own : c.add.new.found.items ≡ take 16 ((old ++ L) ++ X) = c.add.ensures ∙ ap (λ xs. take 16 (xs ++ X)) left ∙ take_again 16 (old ++ L) X in
-    c.gather-3.ensures.found ∙ ap (λ n. take 16 (c.add.new.found.items ++ below n)) c.child_that_reaches-right.ensures
-    ∙ ap (λ xs. take 16 (xs ++ R)) own ∙ take_again 16 ((old ++ L) ++ X) R
-    ∙ ap (take 16) (append_assoc (old ++ L) X R ∙ append_assoc old L (X ++ R) ∙ ap (λ xs. old ++ xs) (sym q))
+    let left : c.gather-2.new.found.items ≡ take 64 (old ++ L) = c.gather-2.ensures.found
+    ∙ ap (λ n. take 64 (old ++ below n)) c.child_that_reaches-left.ensures in
+    let own : c.add.new.found.items ≡ take 64 ((old ++ L) ++ X) = c.add.ensures ∙ ap (λ xs. take 64 (xs ++ X)) left ∙ take_again 64 (old ++ L) X in
+    c.gather-3.ensures.found ∙ ap (λ n. take 64 (c.add.new.found.items ++ below n)) c.child_that_reaches-right.ensures
+    ∙ ap (λ xs. take 64 (xs ++ R)) own ∙ take_again 64 ((old ++ L) ++ X) R
+    ∙ ap (take 64) (append_assoc (old ++ L) X R ∙ append_assoc old L (X ++ R) ∙ ap (λ xs. old ++ xs) (sym q))
 
 -- what a way below a number costs, where k are found
 abbrev Cost : (ℕ → Tree) → Option (ℕ × ℕ) → ℕ → ℕ → ℕ → ℕ → Option ℕ → Type 0
@@ -188,11 +196,11 @@ gather_below-returns-clause-cost g t c =
     let n1 = array_vec_len c.gather-2.new.found in
     let n2 = array_vec_len c.add.new.found in
     let n3 = array_vec_len c.gather-3.new.found in
-    let room : n0 < 16 = c.requires.room in
-    let f0 : n0 ≤ 16 = omega (arith, room) in
-    let g1 = grown 16 c.args.found.now.items _ c.gather-2.new.found.items f0 c.gather-2.ensures.found in
-    let g2 = grown 16 c.gather-2.new.found.items _ c.add.new.found.items g1.1 c.add.ensures in
-    let g3 = grown 16 c.add.new.found.items _ c.gather-3.new.found.items g2.1 c.gather-3.ensures.found in
+    let room : n0 < 64 = c.requires.room in
+    let f0 : n0 ≤ 64 = omega (arith, room) in
+    let g1 = grown 64 c.args.found.now.items _ c.gather-2.new.found.items f0 c.gather-2.ensures.found in
+    let g2 = grown 64 c.gather-2.new.found.items _ c.add.new.found.items g1.1 c.add.ensures in
+    let g3 = grown 64 c.add.new.found.items _ c.gather-3.new.found.items g2.1 c.gather-3.ensures.found in
     let k = parts n0 n1 n2 n3 g1.0 g2.0 g3.0 in
     let left = left_side (N.is_node s) (N.below s) _ v seen i in
     let right = right_side (N.is_node s) (N.below s) _ v seen i in
@@ -220,11 +228,11 @@ gather_below-returns-clause-cost_inside g t c =
     let n1 = array_vec_len c.gather-2.new.found in
     let n2 = array_vec_len c.add.new.found in
     let n3 = array_vec_len c.gather-3.new.found in
-    let room : n0 < 16 = c.requires.room in
-    let f0 : n0 ≤ 16 = omega (arith, room) in
-    let g1 = grown 16 c.args.found.now.items _ c.gather-2.new.found.items f0 c.gather-2.ensures.found in
-    let g2 = grown 16 c.gather-2.new.found.items _ c.add.new.found.items g1.1 c.add.ensures in
-    let g3 = grown 16 c.add.new.found.items _ c.gather-3.new.found.items g2.1 c.gather-3.ensures.found in
+    let room : n0 < 64 = c.requires.room in
+    let f0 : n0 ≤ 64 = omega (arith, room) in
+    let g1 = grown 64 c.args.found.now.items _ c.gather-2.new.found.items f0 c.gather-2.ensures.found in
+    let g2 = grown 64 c.gather-2.new.found.items _ c.add.new.found.items g1.1 c.add.ensures in
+    let g3 = grown 64 c.add.new.found.items _ c.gather-3.new.found.items g2.1 c.gather-3.ensures.found in
     let k = parts n0 n1 n2 n3 g1.0 g2.0 g3.0 in
     let left = left_side (N.is_node s) (N.below s) _ v seen i in
     let right = right_side (N.is_node s) (N.below s) _ v seen i in
@@ -233,13 +241,13 @@ gather_below-returns-clause-cost_inside g t c =
     let r = subst (Cost (N.below s) a i c.gather-2.new.steps c.gather-3.new.steps (n3 - n2)) c.child_that_reaches-right.ensures
     c.gather-3.ensures.cost_inside in
     let both = edges_both (N.is_node s) (N.below s) _ v seen a i ord p c.if-index-node.false in
-    let whole : c.gather-3.new.found.items ≡ take 16 (c.args.found.now.items ++ overlaps_past a i (entries (N.below s c.args.number))) =
+    let whole : c.gather-3.new.found.items ≡ take 64 (c.args.found.now.items ++ overlaps_past a i (entries (N.below s c.args.number))) =
     gather_below-returns-clause-found g t c in
     (λ h.
     paid_two c.args.steps.now c.visit-node.new.steps c.gather-2.new.steps c.gather-3.new.steps _ _ _ _ _ _ c.visit-node.ensures.counted
     (l (left_reached (N.is_node s) (N.below s) _ v seen a i)) (r (right_reached (N.is_node s) (N.below s) _ v seen a i)) left.height right.height
     (sums (n1 - n0) (n3 - n2) (n3 - n0) _ _ _ k both)
-    (some n0 n3 (edges a i (entries (N.below s c.args.number))) (λ e. grown_more 16 c.args.found.now.items _ c.gather-3.new.found.items room
+    (some n0 n3 (edges a i (entries (N.below s c.args.number))) (λ e. grown_more 64 c.args.found.now.items _ c.gather-3.new.found.items room
     (found_inside (N.is_node s) (N.below s) _ v seen a i h e) whole)))
   where
     some : (n m e : ℕ) → (e ≡ 0 → n + 1 ≤ m) → 1 ≤ m - n + e

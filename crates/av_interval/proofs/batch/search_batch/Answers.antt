@@ -20,8 +20,8 @@ returns-clause-found g c =
     let s = c.args.nodes.now in
     let r = root_is (N.is_node s) (N.below s) (N.tree s c.args.anon) c.root-root.result c.root-root.ensures.root in
     c.gather.ensures.found
-    ∙ ap (λ xs. take 16 (xs ++ overlaps_past c.args.after c.args.index (entries (tree_at (N.below s) c.root-root.result)))) c.new-found.ensures
-    ∙ ap (λ t. take 16 (overlaps_past c.args.after c.args.index (entries t))) r.1
+    ∙ ap (λ xs. take 64 (xs ++ overlaps_past c.args.after c.args.index (entries (tree_at (N.below s) c.root-root.result)))) c.clear.ensures
+    ∙ ap (λ t. take 64 (overlaps_past c.args.after c.args.index (entries t))) r.1
 
 pub returns-clause-cost : goal.returns-clause-cost
 returns-clause-cost g c =
@@ -29,10 +29,10 @@ returns-clause-cost g c =
     let s = c.args.nodes.now in
     let r = root_is (N.is_node s) (N.below s) (N.tree s c.args.anon) c.root-root.result c.root-root.ensures.root in
     let n = array_vec_len c.gather.new.found in
-    let e : array_vec_len c.new-found.result ≡ 0 = ap length c.new-found.ensures in
-    let w = subst (λ (t : Tree). c.gather.new.steps ≤ c.args.steps.now + (n - array_vec_len c.new-found.result + 2) * height t) r.1
+    let e : array_vec_len c.clear.new.self ≡ 0 = ap length c.clear.ensures in
+    let w = subst (λ (t : Tree). c.gather.new.steps ≤ c.args.steps.now + (n - array_vec_len c.clear.new.self + 2) * height t) r.1
     c.gather.ensures.cost in
-    subst (λ (m : ℕ). c.gather.new.steps ≤ c.args.steps.now + m * height (N.tree s c.args.anon)) (all n (array_vec_len c.new-found.result) e) w
+    subst (λ (m : ℕ). c.gather.new.steps ≤ c.args.steps.now + m * height (N.tree s c.args.anon)) (all n (array_vec_len c.clear.new.self) e) w
   where
     all : (n m : ℕ) → m ≡ 0 → n - m + 2 ≡ n + 2
     all n m e = omega (arith, e)

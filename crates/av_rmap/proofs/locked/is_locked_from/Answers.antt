@@ -13,7 +13,7 @@ loop-area-init g c =
     let view = g.K.Look.view c.args.look.now in
     let f = names_frame c.args.frame in
     let i = c.args.home.1 in
-    let all = c.new-looks.ensures in
+    let all = c.new-looks.ensures view in
     let same = ap (how_many (λ a. is_locked (view.areas a))) all in
     record {
       held = subst (AllByRecursion (IsHeld view i)) (sym all) (all-held view c.args.home c.requires.spanned);

@@ -17,7 +17,7 @@ areas-init g c =
     let view = g.K.Look.view c.args.look.now in
     let f = names_frame c.args.frame in
     let home = c.args.home in
-    let all = c.new-looks.ensures in
+    let all = c.new-looks.ensures view in
     record {
       cleared = subst (λ areas. IsUnderWay (unseen c.args.frame) home.1 view view areas (areas_from view home)) (sym all)
           (begin (unseen c.args.frame) view home c.requires.spanned);

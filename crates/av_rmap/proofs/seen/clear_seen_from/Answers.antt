@@ -16,12 +16,12 @@ loop-area-init g c =
     let view = g.K.Look.view c.args.look.now in
     let i = c.args.home.1 in
     record {
-      held = subst (AllByRecursion (IsHeld view i)) (sym c.new-looks.ensures) (all-held view c.args.home c.requires.spanned);
+      held = subst (AllByRecursion (IsHeld view i)) (sym (c.new-looks.ensures view)) (all-held view c.args.home c.requires.spanned);
       rest = refl;
-      cleared = ap (λ areas. changed_over (unseen c.args.frame) i areas view) c.new-looks.ensures;
+      cleared = ap (λ areas. changed_over (unseen c.args.frame) i areas view) (c.new-looks.ensures view);
       seen = refl;
       kept = refl;
-      counted = ap (λ areas. c.args.steps.now + length areas) c.new-looks.ensures;
+      counted = ap (λ areas. c.args.steps.now + length areas) (c.new-looks.ensures view);
     }
 
 pub loop-area-preserved : goal.loop-area-preserved

@@ -16,7 +16,7 @@ areas-init g c =
     let view = g.K.Look.view c.args.look.now in
     let f = names_frame c.args.frame in
     let home = c.args.home in
-    let all = c.new-looks.ensures in
+    let all = c.new-looks.ensures view in
     record {
       unmapped = subst (λ areas. IsUnderWay (away c.args.frame c.args.slot) home.1 view view areas (areas_from view home)) (sym all)
           (begin (away c.args.frame c.args.slot) view home c.requires.spanned);

@@ -12,7 +12,7 @@ loop-area-init g c =
     let view = g.K.Look.view c.args.look.now in
     let f = names c.args.target in
     let i = c.args.home.1 in
-    let all = c.new-looks.ensures in
+    let all = c.new-looks.ensures view in
     record {
       held = subst (AllByRecursion (IsHeld view i)) (sym all) (all-held view c.args.home c.requires.spanned);
       found = ap (λ areas. c.args.into.now.items ++ walk_of view f i areas) all;

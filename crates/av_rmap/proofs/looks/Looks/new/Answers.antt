@@ -1,6 +1,6 @@
-use Rattle.std.proofs.Common.{None, refl}
-use Rattle.av_rmap.proofs.NextAreas.{ahead-of}
+use Rattle.std.proofs.Common.{◌++◌, drop, ap}
+use Rattle.av_rmap.specs.Walk.{areas_from, areas_of}
 use Rattle.av_rmap.proofs.looks.Looks.new.Goals as goal
 
 pub returns : goal.returns
-returns g c = ahead-of _ (g.K.Look.view c.args.look.now) None refl c.next.ensures.ordered c.next.ensures.found
+returns c = λ view. ap (λ places. areas_of (drop 0 places) ++ areas_from view c.args.home) c.new.ensures

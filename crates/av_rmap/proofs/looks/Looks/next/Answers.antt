@@ -19,4 +19,4 @@ returns-clause-none g c =
     let view = g.K.Look.view c.args.look.now in
     let stays = rw c.in_default.is at c.give.ensures.stays in
     gives-none c.args.self.now c.refill.new.self view c.give-2.result
-    (ap (λ l. ahead l view) (sym stays) ∙ sym c.refill.ensures.same) c.refill.ensures.none_given c.give-2.ensures.none
+    (ap (λ l. ahead l view) (sym stays) ∙ sym c.refill.ensures.same) c.refill.ensures.none_given c.refill.ensures.more c.give-2.ensures.none
