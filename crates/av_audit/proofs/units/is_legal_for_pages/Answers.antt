@@ -5,7 +5,6 @@ use Rattle.av_book.specs.Book.{ledger_of}
 use Rattle.av_book.specs.Machine.{setting_of}
 use Rattle.av_audit.specs.Judge.{IsLeft}
 use Rattle.av_audit.proofs.JudgeLaws.{left-is, seen-left}
-use Rattle.av_audit.proofs.SwapLaws.{book-left}
 use Rattle.av_audit.proofs.units.is_legal_for_pages.Goals as goal
 
 pub returns-in-Mmap : goal.returns-in-Mmap
