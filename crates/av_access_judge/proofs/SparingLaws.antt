@@ -1,5 +1,5 @@
 -- The frames of locked pages are those of the definitions.
-use Rattle.std.proofs.Common.{◌≡◌, ℕ, Bool, true, false, cond, ◌||◌, ◌==◌, List, [], ◌∷◌, map, filter, refl, ap, ◌∙◌}
+use Rattle.std.proofs.Common.{◌≡◌, ℕ, Bool, true, false, cond, ◌||◌, ◌==◌, List, [], ◌∷◌, map, filter, refl, sym, ap, ◌∙◌}
 use Rattle.std.specs.List.{list_any}
 use Rattle.av_base.specs.Keys.{Key}
 use Rattle.av_base.specs.Words.{is_in}
@@ -50,3 +50,14 @@ locked-in w (e ∷ es) f = by e.1 (locked-in w es f)
 pub sparing-is : (w : World) (book : Book) (locked : List ℕ) → locked ≡ locked_of w book.entries.entries
     → (λ f. is_in f locked) ≡ is_locked w (ledger_of book)
 sparing-is w book locked is = λ i f. (ap (is_in f) is ∙ locked-in w book.entries.entries f) i
+
+-- where no page is locked, no frame is of one
+pub none-locked : (w : World) (es : List (Key × Entry)) → ((p page : ℕ) → is_locked_page (pages w p page) ≡ false)
+    → [] ≡ locked_of w es
+none-locked w [] none = refl
+none-locked w (e ∷ es) none = by e.1 (none-locked w es none)
+  where
+    by : (x : Entry) → [] ≡ locked_of w es → [] ≡ with_locked (is_locked_page (pages w e.0.0 e.0.1)) x (locked_of w es)
+    by Zero later = later
+    by (InFrame f seen) later = later ∙ sym (ap (λ b. cond b (f ∷ locked_of w es) (locked_of w es)) (none e.0.0 e.0.1))
+    by (InSlot s) later = later

@@ -18,6 +18,9 @@ fn locked_frames(alloc: Global, book: &Book, memories: &Memories) -> Result<Vec<
         → made.items ≡ locked_of w book.now.entries.entries) }
 {
     let mut made = Vec::new(alloc);
+    if !memories.has_lock() {
+        return Ok(made);
+    }
     for (key, entry) in book.entries.iter() {
         if let Entry::InFrame { frame, .. } = *entry {
             if memories.locks(key.0, key.1) {

@@ -1,44 +1,9 @@
 //! Whether two spaces say the same of each page.
 
-ghost use Rattle.std.specs.Prelude.{◌≡◌, ◌<◌, ◌≤◌, ℕ, false, true};
-ghost use Rattle.av_world.specs.Space.{has, marks_in};
+ghost use Rattle.std.specs.Prelude.{◌≡◌, false, true};
 ghost use Rattle.av_area_judge.specs.Alike.{AreAlike};
 
-use av_world::{Marks, Range, Space};
-
-/// The bound of a range that is the first one above a page, but no more than `end`: on its way
-/// there the range has each page or none.
-fn bound(range: Range, page: u64, end: u64) -> u64
-    requires { page < end }
-    ensures above { page < result }
-    ensures most { result ≤ end }
-    ensures same { (q : ℕ) → page ≤ q → q < result → has range q ≡ has range page }
-{
-    if page < range.start {
-        range.start.min(end)
-    } else if page < range.end {
-        range.end.min(end)
-    } else {
-        end
-    }
-}
-
-/// How far the same is said of each page from one on, `end` at the most.
-fn same_up_to(space: &Space, page: u64, end: u64) -> u64
-    requires { page < end }
-    ensures above { page < result }
-    ensures most { result ≤ end }
-    ensures same { (q : ℕ) → page ≤ q → q < result
-        → marks_in space.now.ranges.items q ≡ marks_in space.now.ranges.items page }
-{
-    let mut rest = space.ranges.as_slice();
-    let mut to = end;
-    while let [first, others @ ..] = rest {
-        to = bound(*first, page, to);
-        rest = others;
-    }
-    to
-}
+use av_world::{Marks, Space};
 
 /// Whether two pages have one protection and the same flags.
 fn same_marks(one: Marks, other: Marks) -> bool
@@ -71,8 +36,8 @@ pub fn are_alike(one: &Space, other: &Space, end: u64) -> bool
         if !are_same(one.marks(page), other.marks(page)) {
             return false;
         }
-        let to = same_up_to(one, page, end);
-        page = same_up_to(other, page, to);
+        let to = one.same_up_to(page, end);
+        page = other.same_up_to(page, to);
     }
     true
 }

@@ -7,7 +7,8 @@ ghost use Rattle.av_book.specs.Book.{ledger_of};
 ghost use Rattle.av_book.specs.Machine.{setting_of};
 ghost use Rattle.av_world.specs.Memories.{IsWorld};
 ghost use Rattle.av_audit.specs.Judge.{IsLeft};
-ghost use Rattle.av_audit.specs.Kind.{OfFrames, OfPages, OfProcesses, Reports, kind_of};
+ghost use Rattle.av_audit.specs.Kind.{OfAreas, OfFrames, OfMarks, OfPages, OfProcesses, Reports};
+ghost use Rattle.av_audit.specs.Kind.{kind_of};
 ghost use Rattle.av_audit.specs.Swap.{FitsWords};
 
 use crate::accessing::{audits_read, audits_write};
@@ -48,15 +49,13 @@ pub fn is_legal(
         Command::Spawn { .. } | Command::Fork { .. } | Command::Exit { .. } => {
             is_legal_for_process(alloc, memories, book, command, unit)
         }
-        Command::Mmap { .. }
-        | Command::Munmap { .. }
-        | Command::Mprotect { .. }
-        | Command::Madvise { .. }
-        | Command::Mlock { .. }
-        | Command::Munlock { .. }
-        | Command::Mremap { .. }
-        | Command::Read { .. }
-        | Command::Write { .. } => {
+        Command::Mmap { .. } | Command::Munmap { .. } | Command::Mremap { .. } => {
+            is_legal_for_areas(alloc, memories, book, command, unit)
+        }
+        Command::Mprotect { .. } | Command::Madvise { .. } | Command::Munlock { .. } => {
+            is_legal_for_marks(alloc, memories, book, command, unit)
+        }
+        Command::Mlock { .. } | Command::Read { .. } | Command::Write { .. } => {
             is_legal_for_pages(alloc, machine, memories, book, command, unit)
         }
         Command::Reclaim { .. }
@@ -98,7 +97,82 @@ fn is_legal_for_process(
     }
 }
 
-/// Pages are mapped, changed or accessed.
+/// Areas come, go, grow and go to another place.
+fn is_legal_for_areas(
+    alloc: Global,
+    memories: &mut Memories,
+    book: &mut Book,
+    command: &Command,
+    unit: &[u8],
+) -> Result<bool, AllocError>
+    requires kind { kind_of command.now ≡ OfAreas }
+    ensures { IfOk result (λ legal. (machine : Machine) (w : World) → IsWorld memories.old w
+        → IsLeft (setting_of machine) w (ledger_of book.old) command.now unit.now legal
+        memories.new book.new) }
+{
+    match command {
+        Command::Mmap {
+            process,
+            len,
+            prot,
+            place,
+        } => audits_mmap(alloc, memories, book, *process, *len, *prot, *place, unit),
+        Command::Munmap {
+            process,
+            address,
+            len,
+        } => audits_munmap(alloc, memories, book, *process, *address, *len, unit),
+        Command::Mremap {
+            process,
+            address,
+            old_len,
+            new_len,
+            mode,
+        } => audits_mremap(
+            alloc, memories, book, *process, *address, *old_len, *new_len, *mode, unit,
+        ),
+        _ => unreachable!(),
+    }
+}
+
+/// What is said of pages changes.
+fn is_legal_for_marks(
+    alloc: Global,
+    memories: &mut Memories,
+    book: &mut Book,
+    command: &Command,
+    unit: &[u8],
+) -> Result<bool, AllocError>
+    requires kind { kind_of command.now ≡ OfMarks }
+    ensures { IfOk result (λ legal. (machine : Machine) (w : World) → IsWorld memories.old w
+        → IsLeft (setting_of machine) w (ledger_of book.old) command.now unit.now legal
+        memories.new book.new) }
+{
+    match command {
+        Command::Mprotect {
+            process,
+            address,
+            len,
+            prot,
+        } => audits_mprotect(alloc, memories, *process, *address, *len, *prot, unit),
+        Command::Madvise {
+            process,
+            address,
+            len,
+            advice,
+        } => audits_madvise(
+            alloc, memories, book, *process, *address, *len, *advice, unit,
+        ),
+        Command::Munlock {
+            process,
+            address,
+            len,
+        } => audits_munlock(alloc, memories, *process, *address, *len, unit),
+        _ => unreachable!(),
+    }
+}
+
+/// Pages are accessed, or brought in.
 fn is_legal_for_pages(
     alloc: Global,
     machine: &Machine,
@@ -114,40 +188,6 @@ fn is_legal_for_pages(
         memories.new book.new) }
 {
     match command {
-        Command::Mmap {
-            process,
-            len,
-            prot,
-            place,
-        } => audits_mmap(alloc, memories, book, *process, *len, *prot, *place, unit),
-        Command::Munmap {
-            process,
-            address,
-            len,
-        } => audits_munmap(alloc, memories, book, *process, *address, *len, unit),
-        Command::Mprotect {
-            process,
-            address,
-            len,
-            prot,
-        } => audits_mprotect(alloc, memories, *process, *address, *len, *prot, unit),
-        Command::Mremap {
-            process,
-            address,
-            old_len,
-            new_len,
-            mode,
-        } => audits_mremap(
-            alloc, memories, book, *process, *address, *old_len, *new_len, *mode, unit,
-        ),
-        Command::Madvise {
-            process,
-            address,
-            len,
-            advice,
-        } => audits_madvise(
-            alloc, memories, book, *process, *address, *len, *advice, unit,
-        ),
         Command::Mlock {
             process,
             address,
@@ -155,11 +195,6 @@ fn is_legal_for_pages(
         } => audits_mlock(
             alloc, machine, memories, book, *process, *address, *len, unit,
         ),
-        Command::Munlock {
-            process,
-            address,
-            len,
-        } => audits_munlock(alloc, memories, *process, *address, *len, unit),
         Command::Read {
             process,
             address,

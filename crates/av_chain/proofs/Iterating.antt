@@ -4,7 +4,7 @@ use Rattle.av_chain.specs.declared.node.Node.{Node}
 use Rattle.av_chain.specs.declared.node.Place.{Place}
 use Rattle.av_chain.specs.declared.node.Way.TheVariants.{Anon}
 use Rattle.av_chain.specs.Nodes.{Block, IsApart, has_place, found}
-use Rattle.av_chain.specs.Rows.{row, at_block, first_or, IsRun, Reaches}
+use Rattle.av_chain.specs.Rows.{sides_of, row, at_block, first_or, IsRun, Reaches}
 use Rattle.av_chain.specs.Users.{from_place, users_left}
 use Rattle.av_chain.specs.Lists.{areas_of}
 use Rattle.av_chain.proofs.Pointers.{same_ptr_refl}
@@ -36,24 +36,24 @@ module _ (anon : ℕ) (p : Place) (bs : List Block) (d : IsApart bs) (there : ha
     cut : (xs : List Block) × (ys : List Block) × (row Anon anon bs ≡ xs ++ (p.ptr, n) ∷ ys)
     cut = split_at Anon p.ptr (row Anon anon bs) n (found_row_at Anon anon p.ptr bs n d there e)
 
-    after_is : n.in_anon.after ≡ first_or None cut.1
+    after_is : (sides_of Anon n).after ≡ first_or None cut.1
     after_is = (run_split Anon None None cut.0 ((p.ptr, n) ∷ cut.1) (subst (λ cs. IsRun Anon None cs None) cut.2 t)).1.1
 
     apart_cut : IsApart (cut.0 ++ (p.ptr, n) ∷ cut.1)
     apart_cut = subst IsApart cut.2 (apart_row Anon anon bs d)
 
-    pub users_there : Reaches n.in_anon.after (row Anon anon bs)
-    users_there = subst (λ cs. Reaches n.in_anon.after cs) (sym cut.2)
+    pub users_there : Reaches (sides_of Anon n).after (row Anon anon bs)
+    users_there = subst (λ cs. Reaches (sides_of Anon n).after cs) (sym cut.2)
         (subst (λ o. Reaches o (cut.0 ++ (p.ptr, n) ∷ cut.1)) (sym after_is)
         (reaches_past (first_or None cut.1) cut.0 (p.ptr, n) cut.1 (first_reaches cut.1)))
 
-    pub users_step : users_left anon (Some p) bs ≡ n.area ∷ users_left anon n.in_anon.after bs
+    pub users_step : users_left anon (Some p) bs ≡ n.area ∷ users_left anon (sides_of Anon n).after bs
     users_step =
         let r = row Anon anon bs in
         let now : from_place (Some p) r ≡ (p.ptr, n) ∷ cut.1 = ap (from_place (Some p)) cut.2 ∙ from_mid cut.0 (p.ptr, n) cut.1 apart_cut in
         let split : r ≡ (cut.0 ++ (p.ptr, n) ∷ []) ++ cut.1 = cut.2 ∙ sym (append_assoc cut.0 ((p.ptr, n) ∷ []) cut.1) in
         let apart = subst IsApart split (apart_row Anon anon bs d) in
-        let next : from_place n.in_anon.after r ≡ cut.1 = (λ i. from_place (after_is i) (split i))
+        let next : from_place (sides_of Anon n).after r ≡ cut.1 = (λ i. from_place (after_is i) (split i))
         ∙ from_first (cut.0 ++ (p.ptr, n) ∷ []) cut.1 apart in
         ap areas_of now ∙ sym (ap (λ cs. n.area ∷ areas_of cs) next)
 

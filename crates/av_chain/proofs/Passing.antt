@@ -8,6 +8,7 @@ use Rattle.av_chain.specs.declared.node.Head.{Head}
 use Rattle.av_chain.specs.declared.node.Way.{Way}
 use Rattle.av_chain.specs.declared.node.Way.TheVariants.{Area, Anon}
 use Rattle.av_chain.specs.declared.node.Place.{Place}
+use Rattle.av_chain.specs.declared.node.Sides.{Sides}
 use Rattle.av_chain.specs.Nodes.{Block, same_ptr, IsApart, has_place, found}
 use Rattle.av_chain.specs.Rows.{key_of, sides_of, row, at_block, first_or, IsRun, head_of, IsThreaded, Reaches}
 use Rattle.av_chain.specs.Links.{chain_of, users_of, first_in, after_in}
@@ -73,7 +74,7 @@ pub found_in_row : (w : Way) (k : ℕ) (bs xs : List Block) (y : Block) (ys : Li
 found_in_row w k bs xs y ys d e =
     found_out w k y.0 bs y.1 d (ap (found y.0) e ∙ found_past xs y ys (subst IsApart e (apart_row w k bs d)))
 
-some_is : {X : Type 0} (x y : X) → Some x ≡ Some y → x ≡ y
+pub some_is : {X : Type 0} (x y : X) → Some x ≡ Some y → x ≡ y
 some_is x y e = cc
 
 empty_is : (ys : List Block) → length ys ≡ 0 → ys ≡ []
@@ -87,11 +88,11 @@ abbrev pub IsPast : Way → ℕ → List Block → Option Place → ℕ → Type
 IsPast w k bs at step = (xs : List Block) × (ys : List Block) × (row w k bs ≡ xs ++ ys) × (at ≡ first_or None ys) × (length xs ≡ step)
 
 -- what comes next, and the rest
-first_is : (ys : List Block) (p : Place) → Some p ≡ first_or None ys → (y : Block) × (rest : List Block) × (ys ≡ y ∷ rest) × (p ≡ at_block y)
+pub first_is : (ys : List Block) (p : Place) → Some p ≡ first_or None ys → (y : Block) × (rest : List Block) × (ys ≡ y ∷ rest) × (p ≡ at_block y)
 first_is [] p e = cc
 first_is (y ∷ ys) p e = (y, ys, refl, some_is p (at_block y) e)
 
-first_none : (ys : List Block) → first_or None ys ≡ None → ys ≡ []
+pub first_none : (ys : List Block) → first_or None ys ≡ None → ys ≡ []
 first_none [] e = refl
 first_none (y ∷ ys) e = cc
 
@@ -116,15 +117,15 @@ module _ (w : Way) (k : ℕ) (bs : List Block) (at : Option Place) (step : ℕ) 
       pub past_split : row w k bs ≡ a.0 ++ (p.ptr, n) ∷ cut.1
       past_split = split ∙ ap (λ (y : Block). a.0 ++ y ∷ cut.1) node_is
 
-      abbrev pub past_next : (t : IsRun w None (row w k bs) None) → IsPast w k bs (sides_of w n).after (step + 1)
-      past_next t =
+      abbrev pub past_next : (t : IsRun w None (row w k bs) None) (s : Sides) → s ≡ sides_of w n → IsPast w k bs s.after (step + 1)
+      past_next t s is_s =
           let whole : IsRun w None (a.0 ++ (p.ptr, n) ∷ cut.1) None = subst (λ cs. IsRun w None cs None) past_split t in
           let long = length-append a.0 ((p.ptr, n) ∷ []) in
           let so_far = a.4 in (
             a.0 ++ (p.ptr, n) ∷ [],
             cut.1,
             past_split ∙ sym (append_assoc a.0 ((p.ptr, n) ∷ []) cut.1),
-            (run_split w None None a.0 ((p.ptr, n) ∷ cut.1) whole).1.1,
+            ap (λ (q : Sides). q.after) is_s ∙ (run_split w None None a.0 ((p.ptr, n) ∷ cut.1) whole).1.1,
             omega arith,
           )
 
@@ -182,17 +183,17 @@ module _ (area anon : ℕ) (p : Ptr) (bs : List Block) where
     node_is_n : a.1 ≡ n
     node_is_n = some_is a.1 n (sym (found_in_row Area area bs a.0 (p, a.1) a.2 d a.3) ∙ e)
 
-    after_is : n.in_area.after ≡ first_or None a.2
-    after_is = ap (λ (m : Node). m.in_area.after) (sym node_is_n) ∙ (run_split Area None None a.0 ((p, a.1) ∷ a.2)
+    after_is : (sides_of Area n).after ≡ first_or None a.2
+    after_is = ap (λ (m : Node). (sides_of Area m).after) (sym node_is_n) ∙ (run_split Area None None a.0 ((p, a.1) ∷ a.2)
         (subst (λ cs. IsRun Area None cs None) a.3 t)).1.1
 
     split_after : row Area area bs ≡ (a.0 ++ (p, a.1) ∷ []) ++ a.2
     split_after = a.3 ∙ sym (append_assoc a.0 ((p, a.1) ∷ []) a.2)
 
-    pub link_next_reaches : Reaches n.in_area.after bs
+    pub link_next_reaches : Reaches (sides_of Area n).after bs
     link_next_reaches = subst (λ o. Reaches o bs) (sym after_is) (first_there area bs (a.0 ++ (p, a.1) ∷ []) a.2 d split_after)
 
-    pub link_after : anon_there n.in_area.after bs ≡ after_in anon (anons_of (row Area area bs))
+    pub link_after : anon_there (sides_of Area n).after bs ≡ after_in anon (anons_of (row Area area bs))
     link_after = ap (λ o. anon_there o bs) after_is ∙ first_anon area bs (a.0 ++ (p, a.1) ∷ []) a.2 d split_after
         ∙ sym (ap (λ cs. after_in anon (anons_of cs)) a.3 ∙ after_past anon a.0 (p, a.1) a.2 a.4 a.5)
 

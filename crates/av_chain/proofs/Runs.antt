@@ -1,5 +1,5 @@
 -- What joins a run of nodes, and what leaves it.
-use Rattle.std.proofs.Common.{◌≡◌, suc, ◌+◌, ◌-◌, true, false, cond, ◌||◌, List, [], ◌∷◌, ◌++◌, length, map, refl, sym, ap, ◌∙◌, subst, Option, Some, None, arith, append-nil}
+use Rattle.std.proofs.Common.{◌≡◌, suc, ◌+◌, ◌-◌, true, false, cond, ◌||◌, List, [], ◌∷◌, ◌++◌, length, map, refl, sym, ap, ◌∙◌, subst, Option, Some, None, arith, append-nil, is_some}
 use Rattle.std.specs.List.{IsDistinct}
 use Rattle.std.proofs.lemmas.List.{map-append}
 use mathlib.Core.Bool.{Bool}
@@ -11,14 +11,28 @@ use Rattle.av_chain.specs.declared.node.Way.TheVariants.{Area, Anon}
 use Rattle.av_chain.specs.declared.node.Sides.{Sides}
 use Rattle.av_chain.specs.declared.node.Place.{Place}
 use Rattle.av_chain.specs.Nodes.{Block, same_ptr, place_of, IsApart, has_place, without_node}
-use Rattle.av_chain.specs.Rows.{sides_of, with_sides, with_before, with_after, node_changed, place_changed, leads_on, leads_back, Reaches, at_block, first_or, last_from, IsRun, end_of, head_of, last_of, head_with, head_beside, head_without}
+use Rattle.av_chain.specs.Rows.{stored, place_if, sides_of, with_before, with_after, node_changed, place_changed, leads_on, leads_back, Reaches, at_block, first_or, last_from, IsRun, end_of, head_of, last_of, head_with, head_beside, head_without}
 use Rattle.av_chain.proofs.Pointers.{same_ptr_refl}
 use Rattle.av_chain.proofs.Apart.{IsFresh, apart_tail, apart_head, removed_fresh}
 use Rattle.av_chain.proofs.Altered.{either, or_right, or_rest, fresh_left, apart_right, has_here, place_cond, changed_avoids, changed_append, places_changed, apart_changed, fresh_changed, reaches_avoids, avoids_reaches}
 
-pub sides_with : (w : Way) (s : Sides) (n : Node) → sides_of w (with_sides w s n) ≡ s
-sides_with Area s n = refl
-sides_with Anon s n = refl
+stored_back : (o : Option Place) → place_if (is_some o) (stored o) ≡ o
+stored_back None = refl
+stored_back (Some p) = refl
+
+pub stored_sides : (s : Sides) → record {
+  before = place_if (is_some s.before) (stored s.before);
+  after = place_if (is_some s.after) (stored s.after);
+} ≡ s
+stored_sides s = λ i. record { before = stored_back s.before i; after = stored_back s.after i }
+
+sides_on : (w : Way) (o : Option Place) (n : Node) → sides_of w (with_after w o n) ≡ record { before = (sides_of w n).before; after = o }
+sides_on Area o n = λ i. record { before = (sides_of Area n).before; after = stored_back o i }
+sides_on Anon o n = λ i. record { before = (sides_of Anon n).before; after = stored_back o i }
+
+sides_back : (w : Way) (o : Option Place) (n : Node) → sides_of w (with_before w o n) ≡ record { before = o; after = (sides_of w n).after }
+sides_back Area o n = λ i. record { before = stored_back o i; after = (sides_of Area n).after }
+sides_back Anon o n = λ i. record { before = stored_back o i; after = (sides_of Anon n).after }
 
 at_cond : (y : Bool) (f : Node → Node) (b : Block) → at_block (cond y (b.0, f b.1) b) ≡ at_block b
 at_cond y f b = ap (λ (p : Ptr). record { ptr = p }) (place_cond y f b)
@@ -104,7 +118,7 @@ module _ (w : Way) where
   run_on before after to [] d r = tt
   run_on before after to (x ∷ []) d r =
       let f = with_after w to in
-      let new = sides_with w (record { before = (sides_of w x.1).before; after = to }) x.1 in
+      let new = sides_on w to x.1 in
       subst (λ (bs : List Block). IsRun w before bs to) (sym (changed_here f x [] d))
       (ap (λ (s : Sides). s.before) new ∙ r.0, ap (λ (s : Sides). s.after) new, tt)
   run_on before after to (x ∷ y ∷ ys) d r =
@@ -121,7 +135,7 @@ module _ (w : Way) where
       IsRun w to (leads_back w (first_or None ys) to ys) after
   run_back before after to [] d r = tt
   run_back before after to (y ∷ ys) d r =
-      let new = sides_with w (record { before = to; after = (sides_of w y.1).after }) y.1 in
+      let new = sides_back w to y.1 in
       subst (λ (bs : List Block). IsRun w to bs after) (sym (changed_here (with_before w to) y ys d))
       (ap (λ (s : Sides). s.before) new, ap (λ (s : Sides). s.after) new ∙ r.1, r.2)
 

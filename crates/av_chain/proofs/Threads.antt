@@ -78,7 +78,7 @@ module _ (w : Way) where
     row_changed None f h bs = refl
     row_changed (Some p) f h bs = row_altered p.ptr f h bs
 
-    row_removed : (p : Ptr) (bs : List Block) → row w k (without_node p bs) ≡ without_node p (row w k bs)
+    pub row_removed : (p : Ptr) (bs : List Block) → row w k (without_node p bs) ≡ without_node p (row w k bs)
     row_removed p [] = refl
     row_removed p (b ∷ bs) =
         let t = k == key_of w b.1 in

@@ -10,11 +10,11 @@ use Rattle.av_chain.specs.declared.node.Way.TheVariants.{Area, Anon}
 use Rattle.av_chain.specs.declared.node.Sides.{Sides}
 use Rattle.av_chain.specs.declared.node.Place.{Place}
 use Rattle.av_chain.specs.Nodes.{Block, same_ptr, IsApart, has_place, found, without_node}
-use Rattle.av_chain.specs.Rows.{key_of, sides_of, with_before, with_after, node_changed, place_changed, leads_on, leads_back, Reaches, row, at_block, head_of, last_of, head_with, head_without, IsThreaded}
+use Rattle.av_chain.specs.Rows.{key_of, sides_of, node_of, with_before, with_after, node_changed, place_changed, leads_on, leads_back, Reaches, row, at_block, head_of, last_of, head_with, head_without, IsThreaded}
 use Rattle.av_chain.specs.Links.{Link, chain_of, AreOnce}
 use Rattle.av_chain.specs.Lists.{links_of, AreThreaded}
 use Rattle.av_chain.proofs.Altered.{either, cond_lift, changed_append, changed_avoids, reaches_avoids, removed_changed, apart_changed, has_changed, reaches_changed, place_cond}
-use Rattle.av_chain.proofs.Runs.{last_head, end_reaches, reaches_front, has_past}
+use Rattle.av_chain.proofs.Runs.{stored_sides, last_head, end_reaches, reaches_front, has_past}
 use Rattle.av_chain.proofs.Threads.{Keeps, KeepsSides, keeps_after, keeps_before, number_eq, same_number, reaches_row, thread_other, thread_grow, thread_shrink, before_reaches, after_reaches, found_row, split_at}
 
 -- ---- heads that are the same
@@ -140,12 +140,8 @@ once_removed p (b ∷ bs) o = elim (same_ptr p b.0) as (λ y. AreOnce (links_of 
 
 module _ (areas anons : ℕ → Option Head) (bs : List Block) (p : Ptr) (area anon : ℕ) (t : AreThreaded areas anons bs) where
   abbrev pub new_node : Node
-  new_node = record {
-    area = area;
-    anon = anon;
-    in_area = record { before = last_of (areas area); after = None };
-    in_anon = record { before = last_of (anons anon); after = None };
-  }
+  new_node = node_of area anon (record { before = last_of (areas area); after = None })
+      (record { before = last_of (anons anon); after = None })
 
   abbrev b : Block
   b = (p, new_node)
@@ -190,14 +186,14 @@ module _ (areas anons : ℕ → Option Head) (bs : List Block) (p : Ptr) (area a
         (with_at anon (Some (head_with (at_block b) (anons anon))) anons) bs2
     whole_made n = record {
       areas_lead = thread_other Area (with_at area (Some (head_with (at_block b) (areas area))) areas) bs1 (last_of (anons anon)) (with_after Anon at)
-          (keeps_after Area Anon at) (λ m. refl) (thread_grow Area areas bs b d t.areas_lead refl);
+          (keeps_after Area Anon at) (λ m. refl) (thread_grow Area areas bs b d t.areas_lead (stored_sides _));
       anons_lead =
           let cs = leads_on Area (last_of (areas area)) at bs in
           let d' : IsApart (cs ++ b ∷ []) = subst IsApart pushed (apart_changed (with_after Area at) (last_of (areas area)) (bs ++ b ∷ []) d) in
           subst (λ es. IsThreaded Anon (with_at anon (Some (head_with (at_block b) (anons anon))) anons) (leads_on Anon (last_of (anons anon)) at es))
           (sym pushed)
           (thread_grow Anon anons cs b d' (thread_other Anon anons bs (last_of (areas area)) (with_after Area at) (keeps_after Anon Area at)
-          (λ m. refl) t.anons_lead) refl);
+          (λ m. refl) t.anons_lead) (stored_sides _));
       once = subst AreOnce (sym links_made) (once_push (links_of bs) area anon t.once n);
     }
 
@@ -246,10 +242,10 @@ module _ (areas anons : ℕ → Option Head) (bs : List Block) (p : Ptr) (n : No
     (e : found p bs ≡ Some n)
   where
     abbrev sa : Sides
-    sa = n.in_area
+    sa = sides_of Area n
 
     abbrev sv : Sides
-    sv = n.in_anon
+    sv = sides_of Anon n
 
     abbrev cs0 : List Block
     cs0 = leads_on Area sa.before sa.after bs

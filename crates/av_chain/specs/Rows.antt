@@ -1,7 +1,7 @@
 -- The two lists that each node lies in, as they are laid out in memory.
-use Rattle.std.specs.Prelude.{◌≡◌, ℕ, suc, ◌+◌, ◌-◌, true, ◌==◌, cond, List, [], ◌∷◌, length}
-use Rattle.std.specs.Prelude.{Option, Some, None}
-use denote.RawPtr.{Ptr}
+use Rattle.std.specs.Prelude.{◌≡◌, ℕ, suc, ◌+◌, ◌-◌, Bool, true, false, ◌==◌, cond, List, [], ◌∷◌, length}
+use Rattle.std.specs.Prelude.{Option, Some, None, is_some}
+use denote.RawPtr.{Ptr, null_ptr}
 use Rattle.av_base.specs.Words.{with_at}
 use Rattle.av_chain.specs.Nodes.{Block, same_ptr, has_place}
 use Rattle.av_chain.specs.declared.node.Way.{Way}
@@ -16,19 +16,51 @@ abbrev pub key_of : Way → Node → ℕ
 key_of Area n = n.area
 key_of Anon n = n.anon
 
-abbrev pub sides_of : Way → Node → Sides
-sides_of Area n = n.in_area
-sides_of Anon n = n.in_anon
+-- what stands where there is no neighbour
+abbrev pub nowhere : Place
+nowhere = record { ptr = null_ptr }
 
-abbrev pub with_sides : Way → Sides → Node → Node
-with_sides Area s n = record { area = n.area; anon = n.anon; in_area = s; in_anon = n.in_anon }
-with_sides Anon s n = record { area = n.area; anon = n.anon; in_area = n.in_area; in_anon = s }
+abbrev pub stored : Option Place → Place
+stored None = nowhere
+stored (Some p) = p
+
+abbrev pub place_if : Bool → Place → Option Place
+place_if false p = None
+place_if true p = Some p
+
+-- a node's neighbours in one of its lists
+abbrev pub sides_of : Way → Node → Sides
+sides_of Area n = record {
+  before = place_if n.has_area_before n.area_before;
+  after = place_if n.has_area_after n.area_after;
+}
+sides_of Anon n = record {
+  before = place_if n.has_anon_before n.anon_before;
+  after = place_if n.has_anon_after n.anon_after;
+}
+
+-- the node of a link between these neighbours
+abbrev pub node_of : ℕ → ℕ → Sides → Sides → Node
+node_of area anon sa sv = record {
+  area = area;
+  anon = anon;
+  area_before = stored sa.before;
+  area_after = stored sa.after;
+  anon_before = stored sv.before;
+  anon_after = stored sv.after;
+  has_area_before = is_some sa.before;
+  has_area_after = is_some sa.after;
+  has_anon_before = is_some sv.before;
+  has_anon_after = is_some sv.after;
+}
 
 abbrev pub with_before : Way → Option Place → Node → Node
-with_before w p n = with_sides w (record { before = p; after = (sides_of w n).after }) n
+with_before Area o n = record n { area_before = stored o; has_area_before = is_some o }
+with_before Anon o n = record n { anon_before = stored o; has_anon_before = is_some o }
 
 abbrev pub with_after : Way → Option Place → Node → Node
-with_after w p n = with_sides w (record { before = (sides_of w n).before; after = p }) n
+with_after Area o n = record n { area_after = stored o; has_area_after = is_some o }
+with_after Anon o n = record n { anon_after = stored o; has_anon_after = is_some o }
 
 -- the node at a place is changed
 abbrev pub node_changed : Ptr → (Node → Node) → List Block → List Block
@@ -60,6 +92,11 @@ at_block b = record { ptr = b.0 }
 abbrev pub row : Way → ℕ → List Block → List Block
 row w k [] = []
 row w k (b ∷ bs) = cond (k == key_of w b.1) (b ∷ row w k bs) (row w k bs)
+
+-- the nodes of all other lists
+abbrev pub without_row : Way → ℕ → List Block → List Block
+without_row w k [] = []
+without_row w k (b ∷ bs) = cond (k == key_of w b.1) (without_row w k bs) (b ∷ without_row w k bs)
 
 -- the place of the first, where `after` comes after all
 abbrev pub first_or : Option Place → List Block → Option Place

@@ -44,15 +44,7 @@ impl Lists {
     {
         let in_area = room_for(&mut self.areas, area)?;
         let in_anon = room_for(&mut self.anons, anon)?;
-        let node = Box::new(
-            alloc,
-            Node {
-                area,
-                anon,
-                in_area,
-                in_anon,
-            },
-        )?;
+        let node = Box::new(alloc, Node::linking(area, anon, in_area, in_anon))?;
         let place = self.nodes.put(Parts::of(node));
         self.nodes.join(&mut self.areas, Way::Area, area, place);
         self.nodes.join(&mut self.anons, Way::Anon, anon, place);
@@ -69,40 +61,25 @@ impl Lists {
             self.old.nodes.blocks) }
     {
         let node = *self.nodes.get(place);
-        self.nodes
-            .part(&mut self.areas, Way::Area, node.area, node.in_area);
-        self.nodes
-            .part(&mut self.anons, Way::Anon, node.anon, node.in_anon);
+        self.nodes.part(&mut self.areas, Way::Area, node.area, node.sides(Way::Area));
+        self.nodes.part(&mut self.anons, Way::Anon, node.anon, node.sides(Way::Anon));
         self.nodes.free(alloc, place);
         node.anon
     }
 
-    /// Frees every node.
+    /// Frees every node, one area's list after another. No node is taken out of its lists first.
     pub(crate) fn free_all(self, alloc: Global)
         requires { AreKept self }
     {
-        let mut lists = self;
-        while let Some(place) = lists.any() {
-            lists.take_out(alloc, place);
-        }
         let Lists {
-            nodes,
-            areas: _,
+            mut nodes,
+            areas,
             anons: _,
-        } = lists;
-        nodes.end();
-    }
-
-    // A node, if there is one.
-    fn any(&self) -> Option<Place>
-        requires { AreKept self.now }
-        ensures none { IfNone result (self.now.nodes.blocks ≡ []) }
-        ensures some { IfSome result (λ p. has_place p.ptr self.now.nodes.blocks ≡ true) }
-    {
-        match self.areas.values().next() {
-            Some(head) => Some(head.first),
-            None => None,
+        } = self;
+        for (area, head) in areas.iter() {
+            nodes.free_row(alloc, *area, head.first);
         }
+        nodes.end();
     }
 
     /// How many nodes an area's list has.
@@ -140,7 +117,7 @@ impl Lists {
             if node.anon == anon {
                 return Some(place);
             }
-            at = node.in_area.after;
+            at = node.sides(Way::Area).after;
         }
         None
     }
@@ -155,7 +132,7 @@ impl Lists {
         while let Some(place) = at {
             let node = *self.nodes.get(place);
             chain.push(node.anon)?;
-            at = node.in_area.after;
+            at = node.sides(Way::Area).after;
         }
         Ok(chain)
     }
@@ -178,7 +155,7 @@ impl Lists {
         ensures { result ≡ after_in anon (chain_of (links_in self.now) area) }
     {
         let place = self.find(area, anon)?;
-        self.anon_at(self.nodes.get(place).in_area.after)
+        self.anon_at(self.nodes.get(place).sides(Way::Area).after)
     }
 
     /// The first node of an anon_vma's list.

@@ -1,11 +1,14 @@
 //! Lists of nodes. A node lies in two at once, and leaves both in constant time.
-ghost use Rattle.std.specs.Prelude.{◌≡◌, ℕ, ◌-◌, ◌<◌, ◌^◌, Some, IfSome, IsSome, nat_eq};
+ghost use Rattle.std.specs.Prelude.{◌≡◌, ℕ, ◌-◌, ◌<◌, ◌^◌, Some, None, IfSome, IsSome, nat_eq};
 ghost use Rattle.std.specs.HashMap.{get, spare};
+ghost use Rattle.av_chain.specs.declared.node.Way.TheVariants.{Area as AreaWay};
+ghost use Rattle.av_chain.specs.Rows.{row, without_row, first_or, IsRun};
 ghost use Rattle.av_chain.specs.Rows.{leads_on, leads_back, Reaches, last_of, head_with};
 ghost use Rattle.av_chain.specs.Rows.{head_without, after_join, after_part, HaveHead};
 
 use crate::node::{Head, Node, Place, Sides, Way};
 use crate::nodes::Nodes;
+use std::alloc::Global;
 use std::collections::HashMap;
 
 impl Nodes {
@@ -16,8 +19,7 @@ impl Nodes {
     {
         if let Some(place) = at {
             let node = *self.get(place);
-            let before = node.sides(way).before;
-            self.set(place, node.with_sides(way, Sides { before, after: to }));
+            self.set(place, node.with_after(way, to));
         }
     }
 
@@ -28,8 +30,7 @@ impl Nodes {
     {
         if let Some(place) = at {
             let node = *self.get(place);
-            let after = node.sides(way).after;
-            self.set(place, node.with_sides(way, Sides { before: to, after }));
+            self.set(place, node.with_before(way, to));
         }
     }
 
@@ -80,6 +81,20 @@ impl Nodes {
                 heads.remove(&key);
             }
             Some(left) => *head = left,
+        }
+    }
+
+    /// Frees the nodes of an area's list, from the first on. The anon_vmas' lists that they lay in
+    /// are not mended.
+    pub(crate) fn free_row(&mut self, alloc: Global, area: u64, first: Place)
+        requires run { IsRun AreaWay None (row AreaWay area self.old.blocks) None }
+        requires first { Some first ≡ first_or None (row AreaWay area self.old.blocks) }
+        ensures { self.new.blocks ≡ without_row AreaWay area self.old.blocks }
+    {
+        let mut at = Some(first);
+        while let Some(place) = at {
+            at = self.get(place).sides(Way::Area).after;
+            self.free(alloc, place);
         }
     }
 }

@@ -1,12 +1,21 @@
 -- Which pages are locked.
-use Rattle.std.proofs.Common.{◌≡◌, ℕ, zero, suc, ◌+◌, ◌-◌, ◌<◌, ◌≤◌, Bool, true, false, cond, List, [], ◌∷◌, Option, Some, None, length, get_or, drop, take, refl, sym, ap, ◌∙◌, arith}
+use Rattle.std.proofs.Common.{◌≡◌, ℕ, zero, suc, ◌+◌, ◌-◌, ◌<◌, ◌≤◌, Bool, true, false, cond, map, List, [], ◌∷◌, Option, Some, None, length, get_or, drop, take, refl, sym, ap, ◌∙◌, arith}
+use Rattle.std.specs.Prelude.{option_and_then, ◌||◌}
+use Rattle.std.specs.List.{list_any}
+use Rattle.std.specs.Map.{lookup}
+use Rattle.std.specs.BTreeMap.{is_at}
+use Rattle.std.specs.Ordering.{nat_cmp}
 use Rattle.std.specs.Option.{option_map_or}
 use Rattle.std.proofs.lemmas.List.{take_all}
-use Rattle.av_plain.specs.World.{Page, Process, is_locked_page, pages_to_locked}
-use Rattle.av_world.specs.Space.{IsPage, IsSpace, has, marks_in}
+use Rattle.av_plain.specs.World.{Page, Process, World, is_locked_page, pages, pages_to_locked}
+use Rattle.av_plain.specs.World.{process}
+use Rattle.av_world.specs.Memories.{IsProcess, IsWorld, has_lock}
+use Rattle.av_world.specs.Space.{IsPage, IsSpace, has, has_lock as has_lock_of, marks_in}
 use Rattle.av_world.specs.declared.space.Marks.{Marks}
 use Rattle.av_world.specs.declared.space.Range.{Range}
+use Rattle.av_world.specs.declared.memories.Memories.{Memories}
 use Rattle.av_world.specs.declared.space.Space.{Space}
+use Rattle.av_world.proofs.WorldLaws.{spaces-find}
 
 -- ---- what is said of pages
 
@@ -90,3 +99,51 @@ locked-further s q at end to h more most is same =
 
     reach : (at to : ℕ) → at < to → at + (to - at) ≡ to
     reach at to h = omega (arith, h)
+
+-- ---- where no range is locked
+
+or-parts : (a b : Bool) → (a || b) ≡ false → (a ≡ false) × (b ≡ false)
+or-parts true b h = cc
+or-parts false b h = (refl, h)
+
+marks-unlocked : (rs : List Range) (page : ℕ) → list_any (λ (r : Range). r.marks.flags.locked) rs ≡ false
+    → locked_of (marks_in rs page) ≡ false
+marks-unlocked [] page h = refl
+marks-unlocked (r ∷ rs) page h =
+    let parts = or-parts r.marks.flags.locked (list_any (λ (r : Range). r.marks.flags.locked) rs) h in
+    by (has r page) parts.0 (marks-unlocked rs page parts.1)
+  where
+    by : (b : Bool) → r.marks.flags.locked ≡ false → locked_of (marks_in rs page) ≡ false
+        → locked_of (cond b (Some r.marks) (marks_in rs page)) ≡ false
+    by true here later = here
+    by false here later = later
+
+space-unlocked : (ss : List (ℕ × Space)) (p : ℕ) (s : Space)
+    → list_any has_lock_of (map (λ (s : ℕ × Space). s.1) ss) ≡ false
+    → lookup (is_at (nat_cmp p)) ss ≡ Some s → has_lock_of s ≡ false
+space-unlocked [] p s h is = cc
+space-unlocked (e ∷ es) p s h is =
+    let parts = or-parts (has_lock_of e.1) (list_any has_lock_of (map (λ (s : ℕ × Space). s.1) es)) h in
+    by (is_at (nat_cmp p) e.0) parts.0 (space-unlocked es p s parts.1) is
+  where
+    by : (b : Bool) → has_lock_of e.1 ≡ false
+        → (lookup (is_at (nat_cmp p)) es ≡ Some s → has_lock_of s ≡ false)
+        → cond b (Some e.1) (lookup (is_at (nat_cmp p)) es) ≡ Some s → has_lock_of s ≡ false
+    by true here later is = ap (λ o. option_map_or has_lock_of o false) (sym is) ∙ here
+    by false here later is = later is
+
+-- no page is
+pub none-locked : (memories : Memories) (w : World) → has_lock memories ≡ false → IsWorld memories w
+    → (p page : ℕ) → is_locked_page (pages w p page) ≡ false
+none-locked memories w none h p page =
+    by (lookup (is_at (nat_cmp p)) memories.spaces.entries) (process w p)
+    (λ s is. space-unlocked memories.spaces.entries p s none is)
+    (spaces-find memories.spaces.entries w p h.spaces)
+  where
+    by : (o : Option Space) (q : Option Process) → ((s : Space) → o ≡ Some s → has_lock_of s ≡ false)
+        → IsProcess o q → is_locked_page (option_and_then (λ q. q page) q) ≡ false
+    by None None free is = refl
+    by None (Some q) free is = absurd is
+    by (Some s) None free is = absurd is
+    by (Some s) (Some q) free is =
+        sym (locked-is s q page is) ∙ marks-unlocked s.ranges.items page (free s refl)

@@ -1,5 +1,5 @@
 -- What is said of pages, and where their bytes are, where a range grows or shrinks or moves.
-use Rattle.std.proofs.Common.{◌≡◌, ℕ, ◌+◌, ◌-◌, ◌<◌, ◌≤◌, Bool, true, false, cond, not, ◌&&◌, ◌||◌, List, [], ◌∷◌, ◌++◌, Option, Some, None, is_some, refl, sym, ap, subst, ◌∙◌, arith, nat_le, nat_lt, append_assoc}
+use Rattle.std.proofs.Common.{◌≡◌, ℕ, ◌+◌, ◌-◌, Bool, true, false, cond, not, ◌&&◌, ◌||◌, List, [], ◌∷◌, ◌++◌, Option, Some, None, is_some, refl, sym, ap, subst, ◌∙◌, arith, nat_le, nat_lt, append_assoc}
 use Rattle.std.specs.Prelude.{min, option_and_then, option_map}
 use Rattle.std.specs.List.{flat_map}
 use Rattle.std.specs.Ordering.{is_eq, nat_cmp}
@@ -18,7 +18,6 @@ use Rattle.av_plain.specs.World.{Page, Process, wiped}
 use Rattle.av_world.specs.Ranges.{change_of, part_of, pieces}
 use Rattle.av_world.specs.Remap.{AreMoved, IsBelowTop, destination, marks_after, moved_bound, moved_part, old_change, origin}
 use Rattle.av_world.specs.Space.{IsPage, IsSpace, byte_in, has, marks_in}
-use Rattle.av_world.specs.declared.ranges.Change.{Change}
 use Rattle.av_world.specs.declared.ranges.Change.TheVariants.{Unmap}
 use Rattle.av_world.specs.declared.space.Marks.{Marks}
 use Rattle.av_world.specs.declared.space.Range.{Range}

@@ -1,6 +1,7 @@
 -- The pages that a process has.
 use Rattle.std.specs.Prelude.{◌≡◌, ℕ, ◌<◌, ◌≤◌, ◌&&◌, Bool, List, [], ◌∷◌, Option, Some, None}
 use Rattle.std.specs.Prelude.{if◌then◌else◌, nat_le, nat_lt, slice_index}
+use Rattle.std.specs.List.{list_any}
 use Rattle.std.specs.Ordering.{nat_cmp}
 use Rattle.std.specs.BTreeMap.{get}
 use Rattle.std.specs.declared.alloc.Global.{Global}
@@ -45,3 +46,7 @@ pub record IsSpace (s : Space) (q : Process) : Type 0 where
   pub pages : (page : ℕ) → IsPage (marks_in s.ranges.items page)
       (byte_in (get nat_cmp s.bytes page)) (q page)
   pub top : (page : ℕ) → top_page ≤ page → q page ≡ None
+
+-- whether a range is locked
+abbrev pub has_lock : Space → Bool
+has_lock s = list_any (λ (r : Range). r.marks.flags.locked) s.ranges.items

@@ -1,9 +1,11 @@
 //! Which pages are locked.
 
-ghost use Rattle.std.specs.Prelude.{◌≡◌, ◌+◌, ◌<◌, ◌≤◌, ◌^◌, ℕ};
-ghost use Rattle.av_plain.specs.World.{Process, is_locked_page, pages_to_locked};
-ghost use Rattle.av_world.specs.Space.{IsSpace, has, marks_in};
+ghost use Rattle.std.specs.Prelude.{◌≡◌, ◌+◌, ◌<◌, ◌≤◌, ◌^◌, ℕ, false};
+ghost use Rattle.av_plain.specs.World.{Process, World, is_locked_page, pages, pages_to_locked};
+ghost use Rattle.av_world.specs.Memories.{IsWorld, has_lock as has_lock_of};
+ghost use Rattle.av_world.specs.Space.{IsSpace, has, has_lock, marks_in};
 
+use crate::memories::Memories;
 use crate::space::{Range, Space};
 
 /// The bound of a range that is the first one above a page, but no more than `end`: on its way
@@ -41,6 +43,31 @@ pub fn same_up_to(ranges: &[Range], page: u64, end: u64) -> u64
 }
 
 impl Space {
+    /// Whether a range is locked.
+    fn has_lock(&self) -> bool
+        ensures { result ≡ has_lock self.now }
+    {
+        let mut rest = self.ranges.as_slice();
+        while let [first, others @ ..] = rest {
+            if first.marks.flags.locked {
+                return true;
+            }
+            rest = others;
+        }
+        false
+    }
+
+    /// How far the same is said of each page from one on, `end` at the most.
+    pub fn same_up_to(&self, page: u64, end: u64) -> u64
+        requires { page < end }
+        ensures above { page < result }
+        ensures most { result ≤ end }
+        ensures same { (q : ℕ) → page ≤ q → q < result
+            → marks_in self.now.ranges.items q ≡ marks_in self.now.ranges.items page }
+    {
+        same_up_to(self.ranges.as_slice(), page, end)
+    }
+
     /// Whether a page is locked.
     fn locks(&self, page: u64) -> bool
         ensures { (q : Process) → IsSpace self.now q → result ≡ is_locked_page (q page) }
@@ -66,5 +93,21 @@ impl Space {
             at = same_up_to(self.ranges.as_slice(), at, end);
         }
         n
+    }
+}
+
+impl Memories {
+    /// Whether a range of a process is locked. Where none is, no page is.
+    pub fn has_lock(&self) -> bool
+        ensures is { result ≡ has_lock_of self.now }
+        ensures none { result ≡ false → (w : World) → IsWorld self.now w → (p page : ℕ)
+            → is_locked_page (pages w p page) ≡ false }
+    {
+        for space in self.spaces.values() {
+            if space.has_lock() {
+                return true;
+            }
+        }
+        false
     }
 }

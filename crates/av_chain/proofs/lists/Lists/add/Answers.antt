@@ -1,10 +1,10 @@
-use Rattle.std.proofs.Common.{◌≡◌, ℕ, List, [], ◌∷◌, ◌++◌, sym, ap, ◌∙◌, subst, Option, None}
+use Rattle.std.proofs.Common.{◌≡◌, ℕ, List, [], ◌∷◌, ◌++◌, sym, ap, ◌∙◌, subst, Option}
 use Rattle.std.specs.HashMap.{get}
 use Rattle.std.specs.Prelude.{nat_eq}
 use Rattle.av_chain.specs.declared.node.Head.{Head}
 use Rattle.av_chain.specs.declared.node.Node.{Node}
 use Rattle.av_chain.specs.Nodes.{Block, IsApart}
-use Rattle.av_chain.specs.Rows.{Reaches, last_of}
+use Rattle.av_chain.specs.Rows.{node_of, Reaches, last_of}
 use Rattle.av_chain.specs.Lists.{AreThreaded}
 use Rattle.av_chain.proofs.Wholes.{whole_heads, new_node, first_join, second_join, links_made, whole_made}
 use Rattle.av_chain.proofs.lists.Lists.add.Goals.{After-put-place}
@@ -29,13 +29,10 @@ module _ (c : After-put-place) where
 
   blocks : c.put-place.new.self.blocks ≡ bs ++ (c.put-place.result.ptr, node) ∷ []
   blocks =
-      let value : c.of.result.value ≡ node = c.of.ensures ∙ c.in_ok-node.ensures.ok
-      ∙ (λ i. record {
-        area = c.args.area;
-        anon = c.args.anon;
-        in_area = record { before = c.in_ok-in_area.ensures.sides.0 i; after = c.in_ok-in_area.ensures.sides.1 i };
-        in_anon = record { before = c.in_ok-in_anon.ensures.sides.0 i; after = c.in_ok-in_anon.ensures.sides.1 i };
-      }) in
+      let value : c.of.result.value ≡ node = c.of.ensures ∙ c.in_ok-node.ensures.ok ∙ c.linking.ensures
+      ∙ (λ i. node_of c.args.area c.args.anon
+      (record { before = c.in_ok-in_area.ensures.sides.0 i; after = c.in_ok-in_area.ensures.sides.1 i })
+      (record { before = c.in_ok-in_anon.ensures.sides.0 i; after = c.in_ok-in_anon.ensures.sides.1 i })) in
       c.put-place.ensures ∙ ap (λ (m : Node). bs ++ (c.put-place.result.ptr, m) ∷ []) value
 
   apart : IsApart (bs ++ (c.put-place.result.ptr, node) ∷ [])

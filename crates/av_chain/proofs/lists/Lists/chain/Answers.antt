@@ -16,7 +16,7 @@ loop-at-preserved c =
     let bs = c.args.self.now.nodes.blocks in
     let a = c.loop-at.invariant in
     let next = past_next Area c.args.area bs c.loop-at.at a.0 a.1 c.in-Some.place c.in-Some.is c.args.self.now.nodes.apart c.get-node.result.now
-    c.get-node.ensures (c.requires.areas_lead.run c.args.area) in (
+    c.get-node.ensures (c.requires.areas_lead.run c.args.area) c.sides-at.result c.sides-at.ensures in (
       a.0 + 1,
       next,
       c.in_ok-push.ensures.items ∙ ap (λ vs. vs ++ c.get-node.result.now.anon ∷ []) a.2

@@ -37,7 +37,7 @@ pub loop-step-preserved : goal.loop-step-preserved
 loop-step-preserved c =
     let bs = c.args.self.now.nodes.blocks in
     let next = past_next Area c.args.area bs c.loop-step.at c.loop-step._step c.loop-step.invariant.0 c.in_ok-place.place c.in_ok-place.was
-    c.args.self.now.nodes.apart c.get-node.result.now c.get-node.ensures (c.requires.areas_lead.run c.args.area) in (
+    c.args.self.now.nodes.apart c.get-node.result.now c.get-node.ensures (c.requires.areas_lead.run c.args.area) c.sides-at.result c.sides-at.ensures in (
       next,
       is_in_not c.args.anon c.loop-step.invariant.0.0 (c.in_ok-place.place.ptr, c.get-node.result.now)
           (ne_eqb c.args.anon c.get-node.result.now.anon (λ e. c.if-node-anon.false (sym e))) c.loop-step.invariant.1,

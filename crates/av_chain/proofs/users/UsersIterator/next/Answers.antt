@@ -1,4 +1,5 @@
-use Rattle.std.proofs.Common.{◌≡◌, sym, ap, ◌∙◌, subst, true}
+use Rattle.std.proofs.Common.{◌≡◌, ◌∷◌, sym, ap, ◌∙◌, subst, true}
+use Rattle.av_chain.specs.declared.node.Sides.{Sides}
 use Rattle.av_chain.specs.declared.node.Way.TheVariants.{Anon}
 use Rattle.av_chain.specs.Nodes.{has_place}
 use Rattle.av_chain.specs.Rows.{row, Reaches}
@@ -19,8 +20,8 @@ invariant_of-self c =
     subst (λ o. Reaches o (row Anon c.self.inside.anon bs)) c.in_ok-place.was c.self.invariant.there in
     record {
       whole = c.self.invariant.whole;
-      there = users_there c.self.inside.anon c.in_ok-place.place bs c.self.inside.lists.now.nodes.apart there
-          c.get-node.result.now c.get-node.ensures (c.self.invariant.whole.anons_lead.run c.self.inside.anon);
+      there = rw (c.sides.ensures) (users_there c.self.inside.anon c.in_ok-place.place bs c.self.inside.lists.now.nodes.apart there
+          c.get-node.result.now c.get-node.ensures (c.self.invariant.whole.anons_lead.run c.self.inside.anon));
     }
 
 pub returns-clause-steps : goal.returns-clause-steps
@@ -31,6 +32,7 @@ returns-clause-steps c =
     sym c.self.view_is ∙ ap (λ o. users_left c.self.inside.anon o bs) c.in_ok-place.was
     ∙ users_step c.self.inside.anon c.in_ok-place.place bs c.self.inside.lists.now.nodes.apart there c.get-node.result.now c.get-node.ensures
     (c.self.invariant.whole.anons_lead.run c.self.inside.anon)
+    ∙ ap (λ (s : Sides). c.get-node.result.now.area ∷ users_left c.self.inside.anon s.after bs) (sym c.sides.ensures)
 
 pub returns-clause-goes : goal.returns-clause-goes
 returns-clause-goes c = record {
