@@ -51,6 +51,7 @@ CARRIERS = {
     "judges_reclaim judges_exit judges_munmap",
     "av_command_laws": "the_greatest_goes_to_the_least the_runs_are_one",
     "av_report_judge": "judges_entry judges_maps judges_rmap judges_slot judges_stat",
+    "av_area_judge": "judges_areas",
     "av_world": "Memories Space Range Marks Edit Change",
     "av_access_judge": "accesses touches comes makes unneeded drops takes_behind sparing",
     "av_swapoff_judge": "Close closes empties",

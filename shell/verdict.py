@@ -19,7 +19,7 @@ from replies import commands_in, lines_in, replies_in, row, rows_before, rows_of
 from swapfile import PAGE
 
 # statuses of `avsim audit`, as docs/REFERENCE.md has them
-BAD_LINE, ILLEGAL, NOT_JUDGED = 3, 9, 11
+BAD_LINE, ILLEGAL = 3, 9
 # the line between trace and transcript
 MARK = b"%%"
 
@@ -222,16 +222,15 @@ def command_at(number: int, trace: BinaryIO) -> Command | None:
     return next(itertools.islice(commands_in(trace), number - 1, None), None)
 
 
-def hint_of(told: Told, trace: BinaryIO, name: str) -> str:
+def hint_of(told: Told, name: str) -> str:
     """What is said behind the program's own line, if something is."""
-    number = told.number()
-    if told.status == BAD_LINE and name == "-":
+    if told.status != BAD_LINE:
+        return ""
+    if name == "-":
         return "nothing is judged: ./avsim why says why the line is none"
-    if told.status == BAD_LINE:
-        before = f"; head -n {number - 1} {name} is the trace up to it" if number > 1 else ""
-        return f"nothing is judged: ./avsim why < {name} says why the line is none{before}"
-    command = command_at(number, trace) if told.status == NOT_JUDGED else None
-    return f"its command is line {command.line}: {shown(command.text)}" if command else ""
+    number = told.number()
+    before = f"; head -n {number - 1} {name} is the trace up to it" if number > 1 else ""
+    return f"nothing is judged: ./avsim why < {name} says why the line is none{before}"
 
 
 def check(program: str, words: list[str]) -> int:
@@ -249,6 +248,6 @@ def check(program: str, words: list[str]) -> int:
         told = machine.audit(*files)
         if told.status == ILLEGAL:
             explain(told.number(), files, names, machine)
-        elif hint := hint_of(told, files[0], words[0]):
+        elif hint := hint_of(told, words[0]):
             print(f"avsim: {hint}", file=sys.stderr)
     return told.status

@@ -2,8 +2,7 @@
 
 ghost use Rattle.std.specs.Prelude.{◌≡◌, ◌<◌, ◌++◌, ◌∷◌, [], ℕ, IfOk, IfSome, List, Option};
 ghost use Rattle.std.specs.Prelude.{MatchBool, codes, length, true};
-ghost use Rattle.std.specs.List.{AllByRecursion, flat_map};
-ghost use Rattle.std.specs.Fmt.{decimal};
+ghost use Rattle.std.specs.List.{AllByRecursion};
 ghost use Rattle.av_base.specs.declared.flags.Flags.{Flags as AnyFlags};
 ghost use Rattle.av_base.specs.declared.prot.Prot.{Prot as AnyProt};
 ghost use Rattle.av_text.specs.Hex.{hex};

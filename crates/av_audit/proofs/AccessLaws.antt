@@ -1,35 +1,16 @@
 -- Accesses whose end is told: pages without addresses, the bytes that a read shows, and units of a first line and notes.
-use Rattle.std.proofs.Common.{◌≡◌, ◌⊎◌, inl, inr, ℕ, zero, suc, ◌+◌, ◌-◌, ◌*◌, ◌/◌, ◌%◌, ◌^◌, ◌<◌, ◌≤◌, Bool, true, false, cond, not, ◌==◌, List, [], ◌∷◌, ◌++◌, length, map, min, Option, Some, None, is_some, option_map, take, refl, sym, ap, subst, ◌∙◌, arith, nat_lt, append-nil, append_assoc}
-use Rattle.std.specs.Prelude.{IfSome, MatchOption, option_and_then}
-use Rattle.std.specs.List.{AllByRecursion, range_with_len}
+use Rattle.std.proofs.Common.{◌≡◌, inl, inr, ℕ, zero, suc, ◌+◌, ◌-◌, ◌*◌, ◌/◌, ◌%◌, ◌^◌, ◌<◌, ◌≤◌, Bool, true, false, cond, ◌==◌, List, [], ◌∷◌, ◌++◌, min, Option, Some, None, option_map, refl, sym, ap, subst, ◌∙◌, arith, nat_lt}
+use Rattle.std.specs.List.{AllByRecursion}
 use Rattle.std.proofs.lemmas.Bool.Decides.{nat_tests}
 use Rattle.std.proofs.lemmas.List.FromFn.{map-range_with_len_more}
-use Rattle.av_base.specs.Page.{page_of, page_size, pages_met, pages_of}
-use Rattle.av_trace.specs.declared.command.Command.{Command}
-use Rattle.av_trace.specs.declared.note.Note.{Note}
-use Rattle.av_trace.specs.declared.reply.Answer.{Answer}
-use Rattle.av_trace.specs.declared.reply.Answer.TheVariants.{Done}
-use Rattle.av_trace.specs.declared.reply.Reply.{Reply}
-use Rattle.av_trace.specs.declared.row.Row.{Row}
-use Rattle.av_trace.specs.Note.{IsNote}
-use Rattle.av_trace.specs.Print.{notes_text, rows_text, text_of, whole_line}
-use Rattle.av_trace.specs.Reply.{Follow, IsAnswer, IsReply, answer_line, answer_only}
-use Rattle.av_trace.proofs.PlainWords.{no_newline}
-use Rattle.av_trace.proofs.PrintLaws.{same_reply}
-use Rattle.av_trace.proofs.ReplyLaws.{answer_line-is}
-use Rattle.av_trace.proofs.Split.{first_line, lacks as has_none}
-use Rattle.av_plain.specs.Access.{Accesses, End, Reads, Stopped, Whole, bytes_before, bytes_served, first_bytes, page_events, pages_of_access, read_answer, write_answer}
-use Rattle.av_plain.specs.Event.{Event, after_all, note_events, notes_of}
-use Rattle.av_plain.specs.Fault.{Denied, Lost, Starved, Stop, Touches, is_allowed, permits}
+use Rattle.av_base.specs.Page.{page_of, pages_met}
+use Rattle.av_plain.specs.Access.{Accesses, End, Stopped, Whole, bytes_served, page_events, pages_of_access}
+use Rattle.av_plain.specs.Event.{Event, after_all, note_events}
+use Rattle.av_plain.specs.Fault.{Denied, Lost, Starved, Stop, Touches, is_allowed}
 use Rattle.av_plain.specs.Ledger.{Ledger, Setting}
-use Rattle.av_plain.specs.Step.{IsLegal}
-use Rattle.av_plain.specs.World.{Page, Process, Shows, World, byte_at, pages}
-use Rattle.av_audit_laws.specs.Unit.{IsTextOf, IsUnit}
-use Rattle.av_judge.specs.Notes.{lacks}
-use Rattle.av_judge.specs.Says.{SaysOnly}
-use Rattle.av_judge.proofs.NoteLaws.{lacks-not, lacks-same}
+use Rattle.av_plain.specs.World.{World}
 use Rattle.av_access_judge.specs.Access.{AreTold, Ends}
-use Rattle.av_audit.specs.Access.{IsFirst, end_below, turns_of}
+use Rattle.av_audit.specs.Access.{end_below, turns_of}
 
 -- ---- where an access may stop
 

@@ -1,5 +1,5 @@
 -- Units of read and write, as they are judged.
-use Rattle.std.proofs.Common.{◌≡◌, ℕ, ◌≤◌, Bool, true, false, List, None, take, length, min, is_some, refl, sym, ap, subst, ◌∙◌, arith}
+use Rattle.std.proofs.Common.{◌≡◌, ℕ, ◌≤◌, Bool, true, false, List, None, take, length, min, is_some, sym, ap, subst, ◌∙◌, arith}
 use Rattle.av_text.specs.Hex.{AreBytes}
 use Rattle.av_trace.specs.declared.command.Command.TheVariants.{Read, Write}
 use Rattle.av_trace.specs.declared.reply.Answer.{Answer}
@@ -8,7 +8,6 @@ use Rattle.av_trace.specs.declared.reply.Errno.TheVariants.{Esrch}
 use Rattle.av_trace.specs.Reply.{IsAnswer}
 use Rattle.av_plain.specs.Access.{End, Reads, after_write, bytes_served, first_bytes, read_answer, write_answer}
 use Rattle.av_plain.specs.Ledger.{Ledger, Setting}
-use Rattle.av_plain.specs.Step.{next}
 use Rattle.av_plain.specs.World.{World, lives, pages}
 use Rattle.av_book.specs.Book.{ledger_of}
 use Rattle.av_book.specs.declared.book.Book.{Book}
@@ -18,7 +17,7 @@ use Rattle.av_world.specs.Memories.{IsWorld}
 use Rattle.av_world.specs.declared.memories.Memories.{Memories}
 use Rattle.av_world.proofs.WorldLaws.{world-claimed}
 use Rattle.av_access_judge.specs.Access.{AreTold, Ends}
-use Rattle.av_audit.specs.Access.{IsFirst, IsTold, Tells}
+use Rattle.av_audit.specs.Access.{IsFirst}
 use Rattle.av_audit.specs.Judge.{IsLeft}
 use Rattle.av_audit.proofs.AccessLaws.{served-most}
 use Rattle.av_audit.proofs.EndLaws.{Ending, ReadsTo, WritesTo, alive-not-refused, dead-refused, first-stored, no-unit, read-ending, read-telling, tells-by, tells-left, tells-no-answer, tells-no-end, tells-no-line, told-left, write-ending, write-telling}

@@ -1,5 +1,5 @@
 -- Units of a first line and notes, of a command that is answered by where its accesses end.
-use Rattle.std.proofs.Common.{◌≡◌, ℕ, Bool, true, false, not, List, [], ◌∷◌, ◌++◌, length, Some, None, is_some, take, refl, sym, ap, subst, ◌∙◌, arith, append-nil, append_assoc}
+use Rattle.std.proofs.Common.{◌≡◌, ℕ, Bool, true, false, not, List, [], ◌∷◌, ◌++◌, length, Some, None, is_some, take, refl, sym, ap, subst, ◌∙◌, append-nil, append_assoc}
 use Rattle.std.specs.Prelude.{MatchOption, codes}
 use Rattle.std.specs.List.{AllByRecursion}
 use Rattle.av_trace.specs.declared.command.Command.{Command}

@@ -1,8 +1,8 @@
 -- Units of commands that have one reply.
 use Rattle.std.proofs.Common.{◌≡◌, ℕ, Bool, true, false, cond, List, [], Some, None, refl, sym, ap, subst, ◌∙◌}
-use Rattle.std.specs.Prelude.{◌+◌, ◌∷◌, ◌||◌, ◌==◌, MatchBool, MatchOption, is_some, nat_lt, not}
+use Rattle.std.specs.Prelude.{◌+◌, ◌∷◌, ◌||◌, ◌==◌, MatchOption, is_some, nat_lt, not}
 use Rattle.av_trace.specs.declared.command.Command.{Command}
-use Rattle.av_trace.specs.declared.command.Command.TheVariants.{Age, Complete, Munmap, Spawn}
+use Rattle.av_trace.specs.declared.command.Command.TheVariants.{Munmap, Spawn}
 use Rattle.av_trace.specs.declared.reply.Errno.{Errno}
 use Rattle.av_trace.specs.declared.reply.Errno.TheVariants.{Einval, Esrch}
 use Rattle.av_base.specs.Page.{is_on_page}
@@ -21,7 +21,7 @@ use Rattle.av_plain.specs.World.{World, lives, no_pages, set_process}
 use Rattle.av_plain.specs.Sound.{AllSound}
 use Rattle.av_plain.proofs.Refusal.{refused-next}
 use Rattle.av_plain.proofs.Sound.{soundness-stays}
-use Rattle.av_audit_laws.specs.Unit.{IsUnit, Leaves}
+use Rattle.av_audit_laws.specs.Unit.{Leaves}
 use Rattle.av_book.specs.Book.{ledger_of}
 use Rattle.av_book.specs.Machine.{setting_of}
 use Rattle.av_book.specs.declared.book.Book.{Book}
@@ -29,7 +29,7 @@ use Rattle.av_judge.specs.Says.{SaysOnly}
 use Rattle.av_judge.specs.Verdict.{IsVerdict}
 use Rattle.av_world.specs.Memories.{IsWorld}
 use Rattle.av_world.specs.declared.memories.Memories.{Memories}
-use Rattle.av_audit.specs.Judge.{IsAt, IsLeft, IsRight, IsSeen, verdict_of}
+use Rattle.av_audit.specs.Judge.{IsLeft, IsRight, IsSeen, verdict_of}
 use Rattle.av_audit.specs.declared.auditor.Verdict.{Verdict}
 use Rattle.av_audit.specs.declared.auditor.Auditor.{Auditor}
 

@@ -1,24 +1,21 @@
 -- Units of mlock: what it answers where its pages come in, and before a hole.
-use Rattle.std.proofs.Common.{◌≡◌, inl, inr, ℕ, zero, suc, ◌+◌, ◌-◌, ◌*◌, ◌^◌, ◌<◌, ◌≤◌, Bool, true, false, cond, not, ◌==◌, List, [], ◌∷◌, ◌++◌, Option, Some, None, min, is_some, refl, sym, ap, subst, ◌∙◌, arith, append-nil, append_assoc}
+use Rattle.std.proofs.Common.{◌≡◌, ℕ, zero, suc, ◌+◌, ◌-◌, ◌*◌, ◌<◌, ◌≤◌, Bool, true, false, cond, ◌==◌, List, [], ◌∷◌, ◌++◌, Option, Some, None, min, is_some, refl, sym, ap, subst, ◌∙◌, arith, append-nil, append_assoc}
 use Rattle.std.specs.Prelude.{MatchBool}
 use Rattle.std.specs.List.{AllByRecursion}
-use Rattle.std.proofs.lemmas.Bool.Decides.{nat_tests}
 use Rattle.av_base.specs.Page.{address_of, page_of, pages_met}
 use Rattle.av_trace.specs.declared.command.Command.TheVariants.{Mlock}
 use Rattle.av_trace.specs.declared.reply.Answer.{Answer}
 use Rattle.av_trace.specs.declared.reply.Answer.TheVariants.{Refused}
-use Rattle.av_trace.specs.declared.reply.Errno.TheVariants.{Einval, Enomem, Esrch}
-use Rattle.av_trace.specs.declared.reply.Reply.{Reply}
-use Rattle.av_trace.specs.declared.row.Row.{Row}
+use Rattle.av_trace.specs.declared.reply.Errno.TheVariants.{Einval, Enomem}
 use Rattle.av_trace.specs.Print.{text_of}
 use Rattle.av_trace.specs.Reply.{IsAnswer, IsReply}
-use Rattle.av_plain.specs.Access.{Accesses, End, Stopped, Whole, bytes_before, bytes_served, page_events, write_answer}
-use Rattle.av_plain.specs.Event.{Event, after_all, notes_of}
-use Rattle.av_plain.specs.Fault.{Denied, Lost, Starved, Stop, is_allowed, permits}
+use Rattle.av_plain.specs.Access.{Accesses, End, Stopped, Whole, bytes_served, write_answer}
+use Rattle.av_plain.specs.Event.{Event}
+use Rattle.av_plain.specs.Fault.{Denied, Lost, Starved, permits}
 use Rattle.av_plain.specs.Ledger.{Ledger, Setting}
-use Rattle.av_plain.specs.Lock.{BringsIn, Locks, access_of, accesses_of, lock_event, with_lock}
+use Rattle.av_plain.specs.Lock.{BringsIn, access_of, accesses_of, lock_event, with_lock}
 use Rattle.av_plain.specs.Refusal.{ends_too_high, locks_too_many, refusal, tests}
-use Rattle.av_plain.specs.Step.{Follows, next}
+use Rattle.av_plain.specs.Step.{next}
 use Rattle.av_plain.specs.World.{Page, Process, World, allows, lives, pages, pages_to_hole}
 use Rattle.av_audit_laws.proofs.ToldReply.{accesses-told}
 use Rattle.av_book.specs.Book.{ledger_of}
@@ -28,7 +25,7 @@ use Rattle.av_judge.proofs.KnownLaws.{AnswersOnly}
 use Rattle.av_world.specs.Memories.{IsWorld}
 use Rattle.av_world.specs.declared.memories.Memories.{Memories}
 use Rattle.av_access_judge.specs.Access.{AreTold}
-use Rattle.av_audit.specs.Access.{IsFirst, IsTold, Tells}
+use Rattle.av_audit.specs.Access.{IsFirst, Tells}
 use Rattle.av_audit.specs.Judge.{IsLeft}
 use Rattle.av_audit.specs.Known.{reply_of}
 use Rattle.av_audit.proofs.AccessLaws.{stopped-in}

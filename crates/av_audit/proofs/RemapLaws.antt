@@ -1,5 +1,5 @@
 -- Units of `mremap`.
-use Rattle.std.proofs.Common.{◌≡◌, ℕ, ◌+◌, ◌-◌, ◌≤◌, ◌<◌, Bool, true, false, cond, List, [], Option, Some, None, refl, sym, ap, ◌∙◌, arith, append_assoc, append-nil}
+use Rattle.std.proofs.Common.{◌≡◌, ℕ, ◌+◌, ◌-◌, ◌<◌, Bool, true, false, cond, List, [], None, refl, sym, ap, ◌∙◌, arith, append_assoc, append-nil}
 use Rattle.std.specs.Prelude.{◌∷◌, ◌++◌, ◌==◌, ◌||◌, min}
 use Rattle.av_base.specs.Limits.{top_page}
 use Rattle.av_trace.specs.declared.note.Note.{Note}

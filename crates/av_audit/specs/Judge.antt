@@ -1,7 +1,6 @@
 -- What an auditor answers.
-use Rattle.std.specs.Prelude.{◌≡◌, ℕ, Bool, true, false, if◌then◌else◌, List, MatchBool}
+use Rattle.std.specs.Prelude.{◌≡◌, ℕ, Bool, if◌then◌else◌, List, MatchBool}
 use Rattle.av_trace.specs.declared.command.Command.{Command}
-use Rattle.av_trace.specs.declared.command.Command.TheVariants.{Areas}
 use Rattle.av_plain.specs.Ledger.{Ledger, Setting}
 use Rattle.av_plain.specs.Sound.{AllSound}
 use Rattle.av_plain.specs.World.{World}
@@ -13,7 +12,7 @@ use Rattle.av_world.specs.Memories.{IsWorld}
 use Rattle.av_world.specs.declared.memories.Memories.{Memories}
 use Rattle.av_audit.specs.declared.auditor.Auditor.{Auditor}
 use Rattle.av_audit.specs.declared.auditor.Verdict.{Verdict}
-use Rattle.av_audit.specs.declared.auditor.Verdict.TheVariants.{Legal, Illegal, Unjudged}
+use Rattle.av_audit.specs.declared.auditor.Verdict.TheVariants.{Legal, Illegal}
 
 -- the auditor keeps these memories and this ledger, and they are sound
 pub record IsAt (a : Auditor) (w : World) (l : Ledger) : Type 0 where
@@ -21,22 +20,15 @@ pub record IsAt (a : Auditor) (w : World) (l : Ledger) : Type 0 where
   pub ledger : l ≡ ledger_of a.book
   pub sound : AllSound (setting_of a.machine) w l
 
--- what is said of a command that is judged
+-- what is said of a unit
 abbrev pub verdict_of : Bool → Verdict
 verdict_of legal = if legal then Legal else Illegal
 
--- the commands that are judged
-abbrev pub is_judged : Command → Bool
-is_judged (Areas p) = false
-is_judged command = true
-
--- the unit is legal, and the auditor is at what it leaves; or it isn't legal; or the command isn't
--- judged
+-- the unit is legal, and the auditor is at what it leaves; or it isn't legal
 abbrev pub IsRight : Setting → World → Ledger → Command → List ℕ → Verdict → Auditor → Type 0
 IsRight m w l command unit Legal new =
     (w' : World) × (l' : Ledger) × Leaves m w l command unit w' l' × IsAt new w' l'
 IsRight m w l command unit Illegal new = IsUnit m w l command unit → ⊥
-IsRight m w l command unit Unjudged new = is_judged command ≡ false
 
 -- the unit is legal, and leaves what these keep; or it isn't
 abbrev pub IsLeft : Setting → World → Ledger → Command → List ℕ → Bool → Memories → Book → Type 0

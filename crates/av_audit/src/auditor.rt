@@ -7,27 +7,24 @@ ghost use Rattle.av_book.specs.Machine.{setting_of};
 ghost use Rattle.av_audit.specs.Judge.{IsAt, IsRight, verdict_of};
 ghost use Rattle.av_audit.specs.Swap.{FitsWords};
 
-use crate::units::{is_judged, is_legal};
+use crate::units::is_legal;
 use av_book::{Book, Machine};
 use av_trace::Command;
 use av_world::Memories;
 use std::alloc::{AllocError, Global};
 
-/// What is said of a unit: it is legal, or it isn't; or units of that command aren't judged yet.
+/// What is said of a unit: it is legal, or it isn't.
 #[derive(Clone, Copy, Drop)]
 pub enum Verdict {
     Legal,
     Illegal,
-    Unjudged,
 }
 
-/// Whether the auditor goes on. Else a unit wasn't legal; or it was of a command that isn't judged,
-/// so what it leaves isn't known; or memory was wanting.
+/// Whether the auditor goes on. Else a unit wasn't legal, or memory was wanting.
 #[derive(Clone, Copy, Drop)]
 pub enum Phase {
     Going,
     Over,
-    Blind,
     Spent,
 }
 
@@ -42,7 +39,7 @@ pub struct Auditor {
     pub phase: Phase,
 }
 
-/// What is said of a unit of a command that is judged.
+/// What is said of a unit.
 fn said(legal: bool) -> Verdict
     ensures { result ≡ verdict_of legal }
 {
@@ -77,9 +74,6 @@ impl Auditor {
         ensures right { IfOk result (λ verdict. (w : World) (l : Ledger) → IsAt self.old w l
             → IsRight (setting_of self.old.machine) w l command.now unit.now verdict self.new) }
     {
-        if !is_judged(command) {
-            return Ok(Verdict::Unjudged);
-        }
         let (memories, book) = (&mut self.memories, &mut self.book);
         let legal = is_legal(self.alloc, &self.machine, memories, book, command, unit)?;
         Ok(said(legal))
@@ -96,20 +90,15 @@ impl Auditor {
             → self.new.phase ≡ Phase.Going) }
         ensures over { self.old.phase ≡ Phase.Over
             → (result ≡ Ok Verdict.Illegal) × (self.new.phase ≡ Phase.Over) }
-        ensures blind { self.old.phase ≡ Phase.Blind
-            → (result ≡ Ok Verdict.Unjudged) × (self.new.phase ≡ Phase.Blind) }
         ensures spent { self.old.phase ≡ Phase.Spent
             → IsErr result × (self.new.phase ≡ Phase.Spent) }
         ensures ends { IfOk result (λ verdict. verdict ≡ Verdict.Illegal
             → self.new.phase ≡ Phase.Over) }
-        ensures stops { IfOk result (λ verdict. verdict ≡ Verdict.Unjudged
-            → self.new.phase ≡ Phase.Blind) }
         ensures wants { OnErr result (self.new.phase ≡ Phase.Spent) }
     {
         match self.phase {
             Phase::Going => {}
             Phase::Over => return Ok(Verdict::Illegal),
-            Phase::Blind => return Ok(Verdict::Unjudged),
             Phase::Spent => return Err(AllocError),
         }
         match self.judge_next(command, unit) {
@@ -117,10 +106,6 @@ impl Auditor {
             Ok(Verdict::Illegal) => {
                 self.phase = Phase::Over;
                 Ok(Verdict::Illegal)
-            }
-            Ok(Verdict::Unjudged) => {
-                self.phase = Phase::Blind;
-                Ok(Verdict::Unjudged)
             }
             Err(error) => {
                 self.phase = Phase::Spent;

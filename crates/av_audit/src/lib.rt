@@ -1,12 +1,10 @@
 //! The auditor: whether a transcript is legal, unit by unit. It knows the definitions alone, and no
 //! kernel.
 //!
-//! Proved: of a command that it judges, a unit is answered to be legal exactly where the
-//! definitions have it so, and then the auditor keeps the memories and the ledger that the unit
-//! leaves (`Auditor::judge`). Not judged is `areas`: of its units it says so, and of each unit
-//! behind one, since what may stand there isn't known to be legal. After a unit that isn't legal
-//! none is, and after want of memory each call wants it. The numbers of the machine have to be such
-//! as words can say (`FitsWords`).
+//! Proved: a unit is answered to be legal exactly where the definitions have it so, and then the
+//! auditor keeps the memories and the ledger that the unit leaves (`Auditor::judge`). After a unit
+//! that isn't legal none is, and after want of memory each call wants it. The numbers of the machine
+//! have to be such as words can say (`FitsWords`).
 //!
 //! Only tested: nothing. That memory suffices isn't proved.
 #![tactic(auto)]

@@ -10,6 +10,7 @@ ghost use Rattle.av_book.specs.Machine.{setting_of};
 ghost use Rattle.av_world.specs.Memories.{IsWorld};
 ghost use Rattle.av_audit.specs.Judge.{IsLeft};
 
+use av_area_judge::judges_areas;
 use av_base::{PAGE_SIZE, Slot};
 use av_book::{Book, Machine};
 use av_judge::is_answer;
@@ -126,5 +127,23 @@ pub fn audits_maps(
     match memories.get(process) {
         None => is_answer(alloc, &Answer::Refused(Errno::Esrch), unit),
         Some(space) => judges_maps(space, alloc, process, unit),
+    }
+}
+
+/// Whether a unit is legal for `areas`.
+pub fn audits_areas(
+    alloc: Global,
+    memories: &Memories,
+    book: &Book,
+    process: u16,
+    unit: &[u8],
+) -> Result<bool, AllocError>
+    ensures { IfOk result (λ legal. (m : Setting) (w : World) → IsWorld memories.now w
+        → is_some m.headers ≡ true → IsLeft m w (ledger_of book.now) (commands.Areas process)
+        unit.now legal memories.now book.now) }
+{
+    match memories.get(process) {
+        None => is_answer(alloc, &Answer::Refused(Errno::Esrch), unit),
+        Some(space) => judges_areas(space, alloc, process, unit),
     }
 }

@@ -1,12 +1,12 @@
 //! Whether a unit is legal, by the command that it answers.
 
-ghost use Rattle.std.specs.Prelude.{◌≡◌, IfOk, true};
+ghost use Rattle.std.specs.Prelude.{◌≡◌, IfOk};
 ghost use Rattle.av_plain.specs.Sound.{AllSound};
 ghost use Rattle.av_plain.specs.World.{World};
 ghost use Rattle.av_book.specs.Book.{ledger_of};
 ghost use Rattle.av_book.specs.Machine.{setting_of};
 ghost use Rattle.av_world.specs.Memories.{IsWorld};
-ghost use Rattle.av_audit.specs.Judge.{IsLeft, is_judged};
+ghost use Rattle.av_audit.specs.Judge.{IsLeft};
 ghost use Rattle.av_audit.specs.Kind.{OfAreas, OfFrames, OfMarks, OfPages, OfProcesses, Reports};
 ghost use Rattle.av_audit.specs.Kind.{kind_of};
 ghost use Rattle.av_audit.specs.Swap.{FitsWords};
@@ -19,7 +19,9 @@ use crate::locking::audits_mlock;
 use crate::mapping::{audits_mmap, audits_mprotect};
 use crate::neighbours::{audits_compact, audits_merge};
 use crate::remapping::audits_mremap;
-use crate::reporting::{audits_entry, audits_maps, audits_rmap, audits_slot, audits_stat};
+use crate::reporting::{
+    audits_areas, audits_entry, audits_maps, audits_rmap, audits_slot, audits_stat,
+};
 use crate::spawn::audits_spawn;
 use crate::swapping::{audits_reclaim, audits_swapoff, audits_swapon};
 use av_book::{Book, Machine};
@@ -27,13 +29,6 @@ use av_judge::{judges_age, judges_complete};
 use av_trace::Command;
 use av_world::Memories;
 use std::alloc::{AllocError, Global};
-
-/// Whether units of the command are judged.
-pub fn is_judged(command: &Command) -> bool
-    ensures { result ≡ is_judged command.now }
-{
-    !matches!(command, Command::Areas { .. })
-}
 
 /// Whether a unit is legal. Memories and book are then as it leaves them.
 pub fn is_legal(
@@ -45,7 +40,6 @@ pub fn is_legal(
     unit: &[u8],
 ) -> Result<bool, AllocError>
     requires machine { FitsWords machine.now }
-    requires judged { is_judged command.now ≡ true }
     ensures { IfOk result (λ legal. (w : World) → IsWorld memories.old w
         → AllSound (setting_of machine.now) w (ledger_of book.old)
         → IsLeft (setting_of machine.now) w (ledger_of book.old) command.now unit.now legal
@@ -88,7 +82,6 @@ fn is_legal_for_process(
     command: &Command,
     unit: &[u8],
 ) -> Result<bool, AllocError>
-    requires judged { is_judged command.now ≡ true }
     requires kind { kind_of command.now ≡ OfProcesses }
     ensures { IfOk result (λ legal. (machine : Machine) (w : World) → IsWorld memories.old w
         → IsLeft (setting_of machine) w (ledger_of book.old) command.now unit.now legal
@@ -112,7 +105,6 @@ fn is_legal_for_areas(
     command: &Command,
     unit: &[u8],
 ) -> Result<bool, AllocError>
-    requires judged { is_judged command.now ≡ true }
     requires kind { kind_of command.now ≡ OfAreas }
     ensures { IfOk result (λ legal. (machine : Machine) (w : World) → IsWorld memories.old w
         → IsLeft (setting_of machine) w (ledger_of book.old) command.now unit.now legal
@@ -151,7 +143,6 @@ fn is_legal_for_marks(
     command: &Command,
     unit: &[u8],
 ) -> Result<bool, AllocError>
-    requires judged { is_judged command.now ≡ true }
     requires kind { kind_of command.now ≡ OfMarks }
     ensures { IfOk result (λ legal. (machine : Machine) (w : World) → IsWorld memories.old w
         → IsLeft (setting_of machine) w (ledger_of book.old) command.now unit.now legal
@@ -191,7 +182,6 @@ fn is_legal_for_pages(
     unit: &[u8],
 ) -> Result<bool, AllocError>
     requires machine { FitsWords machine.now }
-    requires judged { is_judged command.now ≡ true }
     requires kind { kind_of command.now ≡ OfPages }
     ensures { IfOk result (λ legal. (w : World) → IsWorld memories.old w
         → IsLeft (setting_of machine.now) w (ledger_of book.old) command.now unit.now legal
@@ -236,7 +226,6 @@ fn is_legal_for_frames(
     unit: &[u8],
 ) -> Result<bool, AllocError>
     requires machine { FitsWords machine.now }
-    requires judged { is_judged command.now ≡ true }
     requires kind { kind_of command.now ≡ OfFrames }
     ensures { IfOk result (λ legal. (w : World) → IsWorld memories.old w
         → AllSound (setting_of machine.now) w (ledger_of book.old)
@@ -268,7 +257,6 @@ fn is_legal_report(
     command: &Command,
     unit: &[u8],
 ) -> Result<bool, AllocError>
-    requires judged { is_judged command.now ≡ true }
     requires kind { kind_of command.now ≡ Reports }
     ensures { IfOk result (λ legal. (w : World) → IsWorld memories.now w
         → IsLeft (setting_of machine.now) w (ledger_of book.now) command.now unit.now legal
@@ -276,6 +264,7 @@ fn is_legal_report(
 {
     match command {
         Command::Maps { process } => audits_maps(alloc, memories, book, *process, unit),
+        Command::Areas { process } => audits_areas(alloc, memories, book, *process, unit),
         Command::Rmap { process, address } => {
             audits_rmap(alloc, memories, book, *process, *address, unit)
         }

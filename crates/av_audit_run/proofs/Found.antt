@@ -14,7 +14,7 @@ use Rattle.av_audit_input.specs.Trace.{EndsTrace}
 use Rattle.av_audit_input.specs.Unit.{bytes_of, units_of}
 use Rattle.av_audit_run.specs.declared.transcript.Finding.{Finding}
 use Rattle.av_audit_run.specs.declared.transcript.Finding.TheVariants as findings
-use Rattle.av_audit_run.specs.Transcript.{AreLegal, Audits, Finds, IsAuditOf, IsFoundOf, IsFront, IsUnknown, IsWrong, StopsAt}
+use Rattle.av_audit_run.specs.Transcript.{AreLegal, Audits, Finds, IsAuditOf, IsFoundOf, IsFront, IsWrong, StopsAt}
 
 -- what the others are legal from
 behind : (m : Setting) (w : World) (l : Ledger) (done others : List Command) (legal rest : List (List ℕ)) (w1 w' : World) (l1 l' : Ledger)
@@ -134,19 +134,12 @@ wrong-longer : (m : Setting) (more : List (List ℕ)) (w : World) (l : Ledger) (
 wrong-longer m more w l [] u us h = h
 wrong-longer m more w l (c ∷ others) u us h = h
 
-unknown-longer : (m : Setting) (more : List (List ℕ)) (w : World) (l : Ledger) (others : List Command) (u : List ℕ) (us : List (List ℕ))
-    → IsUnknown m w l others (u ∷ us) → IsUnknown m w l others (u ∷ us ++ more)
-unknown-longer m more w l [] u us h = h
-unknown-longer m more w l (c ∷ others) u us h = h
-
 found-all : (finding : Finding) (m : Setting) (commands : List Command) (units more : List (List ℕ)) (Ended : Type 0) → (Ended → more ≡ [])
     → Finds finding m commands units Ended → IsFoundOf finding m commands (units ++ more)
 found-all findings.Legal m commands units more Ended none h =
     subst (AreLegal m commands) (sym (append-nil units) ∙ ap (λ us. units ++ us) (sym (none h.1))) h.0
 found-all (findings.Illegal n) m commands units more Ended none h =
     stopped-more m commands units more n IsWrong (wrong-longer m more) h.0 (elim h.1 [ inl is ↦ inl is | inr ended ↦ inr (none ended) ])
-found-all (findings.Unjudged n) m commands units more Ended none h =
-    stopped-more m commands units more n IsUnknown (unknown-longer m more) h.0 (inl h.1)
 
 -- ---- an input that is told
 

@@ -21,7 +21,7 @@ use Rattle.av_audit_input.specs.declared.input_err.InputErr.{InputErr}
 use Rattle.av_audit_input.specs.declared.input_err.InputErr.TheVariants as input
 use Rattle.av_audit_input.proofs.UnitLaws.{bytes-more, cut-more, cut-none}
 use Rattle.av_audit_run.specs.declared.transcript.Finding.{Finding}
-use Rattle.av_audit_run.specs.Transcript.{found_of, BreaksOff, IsUnknown, IsWrong, Judges, StopsAt, StopsReading}
+use Rattle.av_audit_run.specs.Transcript.{found_of, BreaksOff, IsWrong, Judges, StopsAt, StopsReading}
 use Rattle.av_audit_run.specs.declared.transcript.Finding.TheVariants as findings
 
 units-more : (m : Setting) (w : World) (l : Ledger) (cs : List Command) (us : List (List ℕ)) (w' w'' : World) (l' l'' : Ledger) (c : Command)
@@ -184,16 +184,6 @@ module _ (m : Setting) (commands : List Command) (number : ℕ) (before now : Op
       finds = (one-left IsWrong stops, inl (sym t.many));
     }
 
-    pub unknown : (Ended : Type 0) → IsUnknown m h.world h.ledger (drop number commands) (unit ∷ [])
-        → Judges (findings.Unjudged (number + 1)) m commands before after Ended
-    unknown Ended stops = record {
-      units = h.units ++ unit ∷ [];
-      each = t.each;
-      cuts = t.cuts;
-      few = omega (arith, t.counts);
-      finds = (one-left IsUnknown stops, sym t.many);
-    }
-
   -- no more could be read, or memory was wanting
   breaks : (error : InputErr) (now' : Option (List ℕ)) (units : List (List ℕ)) → Cuts units before now' → AllByRecursion IsOne units
       → AreUnits m [] first_ledger (take number commands) units h.world h.ledger → StopsReading error (length (bytes_of units)) now'
@@ -252,17 +242,11 @@ verdict-ends m commands others number before now after left left' auditor audito
     subst (λ f. Judges f m commands before after Ended) same
     (wrong m commands number before now left auditor h after left' unit t Ended
     (subst (λ cs. IsWrong m h.world h.ledger cs (unit ∷ [])) (sym is) right))
-verdict-ends m commands others number before now after left left' auditor auditor' command unit Ended verdicts.Unjudged finding h t is found right =
-    let same : findings.Unjudged (number + 1) ≡ finding = ap (λ o. unwrap_or o finding) found in
-    subst (λ f. Judges f m commands before after Ended) same
-    (unknown m commands number before now left auditor h after left' unit t Ended
-    (subst (λ cs. IsUnknown m h.world h.ledger cs (unit ∷ [])) (sym is) right))
 
 -- it goes on, since the unit is legal
 pub verdict-legal : (verdict : Verdict) (number : ℕ) → found_of verdict number ≡ None → verdict ≡ verdicts.Legal
 verdict-legal verdicts.Legal number e = refl
 verdict-legal verdicts.Illegal number e = cc
-verdict-legal verdicts.Unjudged number e = cc
 
 pub verdict-goes : (m : Setting) (commands others : List Command) (number : ℕ) (before now after : Option (List ℕ)) (left left' : ℕ)
     (auditor auditor' : Auditor) (command : Command) (unit : List ℕ) (verdict : Verdict)

@@ -1,5 +1,5 @@
 -- What an audit finds in a transcript.
-use Rattle.std.specs.Prelude.{◌≡◌, ◌⊎◌, ℕ, ◌+◌, ◌<◌, ◌≤◌, Bool, false, List, [], ◌∷◌, ◌++◌}
+use Rattle.std.specs.Prelude.{◌≡◌, ◌⊎◌, ℕ, ◌+◌, ◌<◌, ◌≤◌, Bool, List, [], ◌∷◌, ◌++◌}
 use Rattle.std.specs.Prelude.{length, Option, Some, None}
 use Rattle.std.specs.List.{AllByRecursion}
 use Rattle.av_io.specs.Source.{Took}
@@ -8,7 +8,6 @@ use Rattle.av_trace.specs.declared.command.Command.{Command}
 use Rattle.av_plain.specs.Ledger.{Ledger, Setting, first_ledger}
 use Rattle.av_plain.specs.World.{World}
 use Rattle.av_audit_laws.specs.Unit.{AreUnits, IsUnit}
-use Rattle.av_audit.specs.Judge.{is_judged}
 use Rattle.av_audit_input.specs.Input.{IsEnded}
 use Rattle.av_audit_input.specs.Unit.{Cuts, IsOne, bytes_of, most_bytes, units_of}
 use Rattle.av_audit_input.specs.Trace.{AreLines, IsTrace, StopsWithin, TakesTrace, all_lines, mark}
@@ -27,11 +26,6 @@ IsWrong m w l [] [] = ⊥
 IsWrong m w l [] (unit ∷ units) = Unit {0}
 IsWrong m w l (command ∷ commands) [] = Unit {0}
 IsWrong m w l (command ∷ commands) (unit ∷ units) = IsUnit m w l command unit → ⊥
-
--- there is a next unit, of a command that isn't judged
-abbrev pub IsUnknown : Setting → World → Ledger → List Command → List (List ℕ) → Type 0
-IsUnknown m w l (command ∷ commands) (unit ∷ units) = is_judged command ≡ false
-IsUnknown m w l commands units = ⊥
 
 -- the first units are legal for the first commands in turn, all before the one of this number; and
 -- this is said of it, by what they leave
@@ -59,8 +53,6 @@ abbrev pub Finds : Finding → Setting → List Command → List (List ℕ) → 
 Finds findings.Legal m commands units Ended = AreLegal m commands units × Ended
 Finds (findings.Illegal n) m commands units Ended =
     StopsAt m commands units n IsWrong × ((n ≡ length units) ⊎ Ended)
-Finds (findings.Unjudged n) m commands units Ended =
-    StopsAt m commands units n IsUnknown × (n ≡ length units)
 
 -- ---- a transcript that is read
 
@@ -127,7 +119,6 @@ AuditStops error m old new =
 abbrev pub found_of : Verdict → ℕ → Option Finding
 found_of verdicts.Legal number = None
 found_of verdicts.Illegal number = Some (findings.Illegal number)
-found_of verdicts.Unjudged number = Some (findings.Unjudged number)
 
 -- ---- of an input that is told
 
@@ -135,7 +126,6 @@ found_of verdicts.Unjudged number = Some (findings.Unjudged number)
 abbrev pub IsFoundOf : Finding → Setting → List Command → List (List ℕ) → Type 0
 IsFoundOf findings.Legal m commands units = AreLegal m commands units
 IsFoundOf (findings.Illegal n) m commands units = StopsAt m commands units n IsWrong
-IsFoundOf (findings.Unjudged n) m commands units = StopsAt m commands units n IsUnknown
 
 -- the bytes are a trace with its mark, or all of an input without one
 abbrev pub IsFront : List (List ℕ) → List ℕ → List ℕ → Type 0

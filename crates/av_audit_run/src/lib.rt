@@ -3,10 +3,9 @@
 //! Proved: the trace is read up to the line `%%`, and then the transcript unit by unit, each whole
 //! before it is judged. The transcript is found legal where there are as many units as commands and
 //! each is legal in its turn; else the first that isn't is named, which may be wanting, or come
-//! behind the last command; or the first of a command that isn't judged (`audit`). Where the source
-//! tells what it has left that is so of all units of the transcript (`audits_of_inputs`), not both
-//! (`legal_or_stopped`), and of one number alone (`stopped_once`). Nothing is written; what failed
-//! is what the error tells of.
+//! behind the last command (`audit`). Where the source tells what it has left that is so of all
+//! units of the transcript (`audits_of_inputs`), not both (`legal_or_stopped`), and of one number
+//! alone (`stopped_once`). Nothing is written; what failed is what the error tells of.
 //!
 //! Only tested: that memory suffices.
 #![tactic(auto)]

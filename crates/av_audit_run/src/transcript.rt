@@ -19,13 +19,11 @@ use av_ports::{Pending, Ports};
 use av_trace::Command;
 use std::alloc::Global;
 
-/// What an audit finds: the transcript is legal; or the reply of this number, from 1, isn't, or
-/// isn't judged yet.
+/// What an audit finds: the transcript is legal, or the reply of this number, from 1, isn't.
 #[derive(Clone, Copy, Drop, Debug, PartialEq, Eq)]
 pub enum Finding {
     Legal,
     Illegal(u32),
-    Unjudged(u32),
 }
 
 /// What was found of a unit, if the audit ends with it.
@@ -35,7 +33,6 @@ fn found(verdict: Verdict, number: u32) -> Option<Finding>
     match verdict {
         Verdict::Legal => None,
         Verdict::Illegal => Some(Finding::Illegal(number)),
-        Verdict::Unjudged => Some(Finding::Unjudged(number)),
     }
 }
 

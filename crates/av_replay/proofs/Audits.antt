@@ -29,7 +29,6 @@ module _ (m : Setting) (old new : PortsView) where
   legal-ends statuses.ReadFault mid finds only ends = absurd ends
   legal-ends (statuses.Illegal number) mid finds only ends = absurd ends
   legal-ends statuses.TooLong mid finds only ends = absurd ends
-  legal-ends (statuses.Unjudged number) mid finds only ends = absurd ends
 
   -- it could not go on
   pub breaks-ends : (error : InputErr) → BreaksOff error m old new → EndsAudit (status_by error) m old new

@@ -67,7 +67,6 @@ module _ (old now new : PortsView) (was : AreUnfailed old now) where
   fails_since statuses.AttachFault fails = unfailed_then old now new was fails
   fails_since (statuses.Illegal number) fails = unfailed_then old now new was fails
   fails_since statuses.TooLong fails = unfailed_then old now new was fails
-  fails_since (statuses.Unjudged number) fails = unfailed_then old now new was fails
   fails_since statuses.ReadFault fails = fails ∙ was.sink
   fails_since statuses.WriteFault fails = fails ∙ was.source
   fails_since statuses.Memory fails = (

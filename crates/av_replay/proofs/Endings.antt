@@ -389,7 +389,6 @@ module _ (n : ℕ) (past : Past) (ahead rest : List ℕ) (old now new : PortsVie
   finishes statuses.AttachFault f = absurd f
   finishes (statuses.Illegal number) f = absurd f
   finishes statuses.TooLong f = absurd f
-  finishes (statuses.Unjudged number) f = absurd f
   finishes (statuses.BadLine number) f = absurd f
   finishes statuses.Memory f = absurd f
 
@@ -553,7 +552,6 @@ module _ (n : ℕ) (old now : PortsView) (kernel : Machine) (sink : SinkView) wh
   replayed statuses.AttachFault last f h was memory so none = absurd h.ends.0
   replayed (statuses.Illegal number) last f h was memory so none = absurd h.ends.0
   replayed statuses.TooLong last f h was memory so none = absurd h.ends.0
-  replayed (statuses.Unjudged number) last f h was memory so none = absurd h.ends.0
   replayed statuses.ReadFault last f h was memory so none =
       named statuses.ReadFault last f.0 (same_sink statuses.ReadFault f.1
       (record { headline = h; unfailed = was; flushed = record { none_kept = none refl; flushed = so } }))

@@ -169,7 +169,6 @@ complete n statuses.Usage old new kernel h content e trace no_read no_write = ab
 complete n statuses.AttachFault old new kernel h content e trace no_read no_write = absurd h.ends.0
 complete n (statuses.Illegal number) old new kernel h content e trace no_read no_write = absurd h.ends.0
 complete n statuses.TooLong old new kernel h content e trace no_read no_write = absurd h.ends.0
-complete n (statuses.Unjudged number) old new kernel h content e trace no_read no_write = absurd h.ends.0
 complete n statuses.ReadFault old new kernel h content e trace no_read no_write = absurd (no_read h.ends.2.failures)
 complete n statuses.WriteFault old new kernel h content e trace no_read no_write = absurd (no_write h.ends.1)
 complete n (statuses.BadLine number) old new kernel h content e trace no_read no_write =

@@ -38,7 +38,6 @@ BreaksOff error m old new = AuditStops error m old new × OnlyReads old new × F
 abbrev pub EndsAudit : Status → Setting → PortsView → PortsView → Type 0
 EndsAudit statuses.Done m old new = WritesLegal statuses.Done m old new
 EndsAudit (statuses.Illegal n) m old new = Finds (findings.Illegal n) m old new
-EndsAudit (statuses.Unjudged n) m old new = Finds (findings.Unjudged n) m old new
 EndsAudit (statuses.BadLine n) m old new = BreaksOff (input.BadLine n) m old new
 EndsAudit statuses.TooMany m old new = BreaksOff input.TooMany m old new
 EndsAudit statuses.TooLong m old new = BreaksOff input.TooLong m old new

@@ -94,7 +94,6 @@ can_go_on statuses.AttachFault = false
 can_go_on statuses.Memory = false
 can_go_on (statuses.Illegal n) = false
 can_go_on statuses.TooLong = false
-can_go_on (statuses.Unjudged n) = false
 can_go_on status = true
 
 -- the kernel, where it can go on
@@ -137,7 +136,6 @@ StopsAt statuses.WriteFault new run rest = ⊥
 StopsAt statuses.Memory new run rest = ⊥
 StopsAt (statuses.Illegal n) new run rest = ⊥
 StopsAt statuses.TooLong new run rest = ⊥
-StopsAt (statuses.Unjudged n) new run rest = ⊥
 
 -- the text of the last line's reply was cut short, and those before it are whole
 pub record IsCutOff (run : Run) (written : List ℕ) : Type 0 where

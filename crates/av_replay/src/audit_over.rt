@@ -56,7 +56,6 @@ fn audit_ports<P: Ports>(alloc: Global, machine: Machine, ports: &mut P) -> Stat
     match audit(alloc, machine, ports) {
         Ok(Finding::Legal) => write_last(ports, LEGAL),
         Ok(Finding::Illegal(number)) => Status::Illegal(number),
-        Ok(Finding::Unjudged(number)) => Status::Unjudged(number),
         Err(error) => status_of(error),
     }
 }

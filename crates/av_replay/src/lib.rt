@@ -17,7 +17,7 @@
 //! `replies_are_out_before_a_read`, `failed_writes_cut_the_last_reply`). Of a load: its lines are
 //! those of the seed, their transcript is legal, the summary counts it and the kernel handed back,
 //! and nothing is read. Of an audit: that the transcript is legal, or which reply is the first that
-//! isn't, or isn't judged, is so by the definitions (`DoesAudit`), and no kernel is handed back.
+//! isn't, is so by the definitions (`DoesAudit`), and no kernel is handed back.
 //! That memory suffices is only tested.
 #![tactic(auto)]
 

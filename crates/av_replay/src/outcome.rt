@@ -33,8 +33,7 @@ pub fn hand_back(status: Status, kernel: Kernel) -> Outcome
         | Status::Memory
         | Status::AttachFault
         | Status::Illegal(_)
-        | Status::TooLong
-        | Status::Unjudged(_) => Outcome {
+        | Status::TooLong => Outcome {
             status,
             kernel: None,
         },

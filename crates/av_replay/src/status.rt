@@ -25,6 +25,4 @@ pub enum Status {
     Illegal(u32),
     /// The transcript's byte 2^32 + 1 came. The replies before it that are whole are legal.
     TooLong,
-    /// The reply of this number is of a command that isn't judged. Those before it are legal.
-    Unjudged(u32),
 }

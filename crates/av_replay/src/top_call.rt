@@ -42,7 +42,7 @@ fn refuse_words(error: WordsErr) -> Outcome
 ///
 /// `audit` reads a trace, the line `%%` and a transcript, and judges that by the definitions alone,
 /// over areas of which only page 0 is read: `legal` is written where it is, and else the status
-/// tells the first reply that isn't, or that isn't judged.
+/// tells the first reply that isn't.
 ///
 /// `work` reads nothing. It makes its lines from the seed, each when it is done, writes none of
 /// their replies, and in the end a summary: what the kernel that is handed back counted, and what

@@ -17,7 +17,6 @@ number_of statuses.TooMany = 7
 number_of statuses.AttachFault = 8
 number_of (statuses.Illegal n) = 9
 number_of statuses.TooLong = 10
-number_of (statuses.Unjudged n) = 11
 
 -- the failure whose text is printed
 abbrev pub failure_of : Status → Option Failure
@@ -31,4 +30,3 @@ failure_of statuses.TooMany = Some failures.TooMany
 failure_of statuses.AttachFault = Some failures.Attach
 failure_of (statuses.Illegal n) = Some (failures.Illegal n)
 failure_of statuses.TooLong = Some failures.TooLong
-failure_of (statuses.Unjudged n) = Some (failures.Unjudged n)

@@ -27,8 +27,6 @@ pub enum Failure {
     Illegal(u32),
     #[error("transcript too long")]
     TooLong,
-    #[error("reply {0}: not judged yet")]
-    Unjudged(u32),
 }
 
 impl Failure {
@@ -47,7 +45,6 @@ impl Failure {
             Status::AttachFault => Some(Failure::Attach),
             Status::Illegal(reply) => Some(Failure::Illegal(reply)),
             Status::TooLong => Some(Failure::TooLong),
-            Status::Unjudged(reply) => Some(Failure::Unjudged(reply)),
         }
     }
 }
@@ -67,6 +64,5 @@ pub fn exit_number(status: Status) -> u8
         Status::AttachFault => 8,
         Status::Illegal(_) => 9,
         Status::TooLong => 10,
-        Status::Unjudged(_) => 11,
     }
 }

@@ -136,8 +136,7 @@ prints:      ok
 Exit status
   0, or 2 usage, 3 a line that is no command, 4 a failed read, 5 a failed
   write, 6 out of memory, 7 too many lines, 8 a swap file that can't be opened.
-  Of audit also 9 a reply that isn't legal, 10 a transcript that is too long,
-  11 a reply that isn't judged
+  Of audit also 9 a reply that isn't legal, 10 a transcript that is too long
 ";
 
 /// The text of `run --help`.

@@ -1,4 +1,4 @@
-use Rattle.std.proofs.Common.{◌≡◌, ◌≤◌, Bool, false, List, None, Some, min, option_map, refl, subst, sym, ◌∙◌}
+use Rattle.std.proofs.Common.{◌≡◌, false, min, option_map, refl, subst, sym, ◌∙◌}
 use Rattle.av_text.specs.Hex.{AreBytes}
 use Rattle.av_trace.specs.declared.reply.Answer.TheVariants.{Refused}
 use Rattle.av_trace.specs.declared.reply.Errno.TheVariants.{Esrch}

@@ -1,4 +1,4 @@
-use Rattle.std.proofs.Common.{◌≡◌, Bool, false, true, List, None, Some, length, option_map, refl, subst, sym, ◌∙◌}
+use Rattle.std.proofs.Common.{Bool, true, length, option_map, refl, subst, sym, ◌∙◌}
 use Rattle.av_trace.specs.declared.reply.Answer.TheVariants.{Refused}
 use Rattle.av_trace.specs.declared.reply.Errno.TheVariants.{Esrch}
 use Rattle.av_book.specs.Book.{ledger_of}

@@ -1,6 +1,6 @@
-use Rattle.std.proofs.Common.{◌≡◌, ◌+◌, ◌-◌, ◌^◌, ◌<◌, ◌≤◌, false, List, Option, min, option_map, ap, subst, sym, ◌∙◌, arith}
+use Rattle.std.proofs.Common.{◌≡◌, ◌+◌, ◌-◌, ◌^◌, ◌≤◌, false, min, option_map, ap, subst, sym, ◌∙◌, arith}
 use Rattle.av_base.specs.Page.{page_of, pages_met}
-use Rattle.av_plain.specs.Access.{Accesses, End}
+use Rattle.av_plain.specs.Access.{Accesses}
 use Rattle.av_plain.specs.Fault.{is_allowed, permits}
 use Rattle.av_book.specs.Book.{ledger_of}
 use Rattle.av_book.specs.Machine.{setting_of}

@@ -1,6 +1,5 @@
-use Rattle.std.proofs.Common.{◌≡◌, ◌+◌, ◌-◌, ◌^◌, ◌<◌, ◌≤◌, ◌∷◌, [], ◌++◌, Bool, ℕ, min, ap, refl, subst, sym, ◌∙◌, arith}
+use Rattle.std.proofs.Common.{◌^◌, ◌<◌, ◌∷◌, [], ◌++◌, Bool, ℕ, ap, subst, sym, ◌∙◌, arith}
 use Rattle.std.specs.List.{AllByRecursion}
-use Rattle.av_audit.specs.Access.{turns_of}
 use Rattle.av_audit.proofs.AccessLaws.{all-push, turns-more}
 use Rattle.av_audit.proofs.accessing.turns.Goals as goal
 

@@ -1,4 +1,4 @@
-use Rattle.std.proofs.Common.{◌≡◌, ℕ, Bool, true, false, ap, arith, refl, subst, sym, ◌∙◌}
+use Rattle.std.proofs.Common.{◌≡◌, ℕ, Bool, arith, refl, subst, sym, ◌∙◌}
 use Rattle.av_trace.specs.declared.command.Command.TheVariants.{Munmap}
 use Rattle.av_trace.specs.declared.reply.Answer.TheVariants.{Refused}
 use Rattle.av_book.specs.Book.{ledger_of}

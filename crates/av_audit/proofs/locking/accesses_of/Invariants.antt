@@ -1,4 +1,4 @@
-use Rattle.std.proofs.Common.{◌≡◌, ℕ, ◌+◌, ◌-◌, ◌<◌, ◌≤◌, ◌++◌, Bool}
+use Rattle.std.proofs.Common.{◌≡◌, ℕ, ◌+◌, ◌-◌, ◌<◌, ◌++◌, Bool}
 use Rattle.std.specs.List.{AllByRecursion}
 use Rattle.av_plain.specs.Lock.{accesses_of}
 use Rattle.av_plain.specs.World.{World, pages}

@@ -1,7 +1,6 @@
-use Rattle.std.proofs.Common.{◌≡◌, ℕ, ◌+◌, ◌*◌, ◌^◌, ◌<◌, ◌≤◌, Bool, false, None, Some, option_map, refl, subst, sym, ◌∙◌, arith}
+use Rattle.std.proofs.Common.{◌+◌, ◌^◌, option_map, subst, arith}
 use Rattle.av_base.specs.Page.{address_of}
-use Rattle.av_plain.specs.Access.{Accesses, End}
-use Rattle.av_plain.specs.Event.{Event}
+use Rattle.av_plain.specs.Access.{Accesses}
 use Rattle.av_book.specs.Book.{ledger_of}
 use Rattle.av_book.specs.Machine.{setting_of}
 use Rattle.av_judge.specs.Says.{SaysOnly}

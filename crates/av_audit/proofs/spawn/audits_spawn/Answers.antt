@@ -1,10 +1,9 @@
-use Rattle.std.proofs.Common.{◌≡◌, true, false, refl, subst, sym, ◌∙◌}
+use Rattle.std.proofs.Common.{◌≡◌, true, false, subst, sym, ◌∙◌}
 use Rattle.av_trace.specs.declared.command.Command.TheVariants.{Spawn}
 use Rattle.av_trace.specs.declared.reply.Answer.TheVariants.{Done, Refused}
 use Rattle.av_plain.specs.World.{no_pages}
 use Rattle.av_judge.specs.Says.{SaysOnly}
 use Rattle.av_judge.proofs.Finds.{if-ok}
-use Rattle.av_audit.specs.Judge.{IsSeen}
 use Rattle.av_audit.proofs.JudgeLaws.{refused-seen, spawn-seen}
 use Rattle.av_audit.proofs.spawn.audits_spawn.Goals as goal
 

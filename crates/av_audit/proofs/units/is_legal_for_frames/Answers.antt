@@ -3,7 +3,7 @@ use Rattle.std.proofs.lemmas.Result.{IfOk-weaker}
 use Rattle.av_trace.specs.declared.command.Command.TheVariants as commands
 use Rattle.av_book.specs.Book.{ledger_of}
 use Rattle.av_book.specs.Machine.{setting_of}
-use Rattle.av_audit.proofs.JudgeLaws.{left-is, seen-left}
+use Rattle.av_audit.proofs.JudgeLaws.{left-is}
 use Rattle.av_audit.proofs.SwapLaws.{book-left}
 use Rattle.av_audit.proofs.units.is_legal_for_frames.Goals as goal
 

@@ -4,7 +4,6 @@ use Rattle.av_trace.specs.declared.command.Command.TheVariants as commands
 use Rattle.av_book.specs.Book.{ledger_of}
 use Rattle.av_book.specs.Machine.{setting_of}
 use Rattle.av_audit.proofs.JudgeLaws.{left-is, seen-left}
-use Rattle.av_audit.proofs.SwapLaws.{book-left}
 use Rattle.av_audit.proofs.units.is_legal_for_process.Goals as goal
 
 pub returns-in-Spawn : goal.returns-in-Spawn

@@ -3,8 +3,7 @@ use Rattle.std.proofs.lemmas.Result.{IfOk-weaker}
 use Rattle.av_trace.specs.declared.command.Command.TheVariants as commands
 use Rattle.av_book.specs.Book.{ledger_of}
 use Rattle.av_book.specs.Machine.{setting_of}
-use Rattle.av_audit.proofs.JudgeLaws.{left-is, seen-left}
-use Rattle.av_audit.proofs.SwapLaws.{book-left}
+use Rattle.av_audit.proofs.JudgeLaws.{left-is}
 use Rattle.av_audit.proofs.units.is_legal_report.Goals as goal
 
 pub returns-in-Maps : goal.returns-in-Maps
@@ -14,6 +13,14 @@ returns-in-Maps c = IfOk-weaker c.audits_maps.result _ _ (λ legal h w at.
     c.args.command.now c.args.unit.now legal c.args.memories.now c.args.book.now c.in-Maps.is
     (h (setting_of c.args.machine.now) w at refl))
     c.audits_maps.ensures
+
+pub returns-in-Areas : goal.returns-in-Areas
+returns-in-Areas c = IfOk-weaker c.audits_areas.result _ _ (λ legal h w at.
+    left-is (setting_of c.args.machine.now) w (ledger_of c.args.book.now)
+    (commands.Areas c.in-Areas.process)
+    c.args.command.now c.args.unit.now legal c.args.memories.now c.args.book.now c.in-Areas.is
+    (h (setting_of c.args.machine.now) w at refl))
+    c.audits_areas.ensures
 
 pub returns-in-Rmap : goal.returns-in-Rmap
 returns-in-Rmap c = IfOk-weaker c.audits_rmap.result _ _ (λ legal h w at.

@@ -27,15 +27,6 @@ returns-in-Ok-Illegal-clause-ends g c =
       c.in-Ok-Illegal.ensures.only,
     )
 
-pub returns-in-Ok-Unjudged-clause-ends : goal.returns-in-Ok-Unjudged-clause-ends
-returns-in-Ok-Unjudged-clause-ends g c =
-    let m = setting_of c.args.machine in
-    let old = g.P.Ports.view c.args.ports.now in
-    let new = g.P.Ports.view c.audit.new.ports in (
-      subst (λ (f : Finding). Audits f m old new) c.in-Ok-Unjudged.field-0-is c.in-Ok-Unjudged.ensures.audits,
-      c.in-Ok-Unjudged.ensures.only,
-    )
-
 pub returns-in-Err-clause-ends : goal.returns-in-Err-clause-ends
 returns-in-Err-clause-ends g c =
     let m = setting_of c.args.machine in

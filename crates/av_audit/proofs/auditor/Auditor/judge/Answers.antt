@@ -12,8 +12,3 @@ pub returns-in-Ok-Illegal-clause-going : goal.returns-in-Ok-Illegal-clause-going
 returns-in-Ok-Illegal-clause-going c = λ going w l at.
     subst (λ v. IsRight (setting_of c.args.self.now.machine) w l c.args.command.now c.args.unit.now v c.judge_next.new.self)
     c.in-Ok-Illegal.field-0-is (c.in-Ok-Illegal.ensures.right w l at)
-
-pub returns-in-Ok-Unjudged-clause-going : goal.returns-in-Ok-Unjudged-clause-going
-returns-in-Ok-Unjudged-clause-going c = λ going w l at.
-    subst (λ v. IsRight (setting_of c.args.self.now.machine) w l c.args.command.now c.args.unit.now v c.judge_next.new.self)
-    c.in-Ok-Unjudged.field-0-is (c.in-Ok-Unjudged.ensures.right w l at)

@@ -1,8 +1,7 @@
 use Rattle.std.proofs.Common.{refl, subst, sym}
-use Rattle.av_book.specs.Book.{ledger_of}
 use Rattle.av_book.specs.Machine.{setting_of}
 use Rattle.av_plain.specs.Sound.{AllSound}
-use Rattle.av_audit.specs.Judge.{IsLeft, IsRight, verdict_of}
+use Rattle.av_audit.specs.Judge.{IsLeft, IsRight}
 use Rattle.av_audit.specs.declared.auditor.Auditor.{Auditor}
 use Rattle.av_audit.proofs.JudgeLaws.{left-right}
 use Rattle.av_audit.proofs.auditor.Auditor.judge_next.Goals as goal
