@@ -3,11 +3,11 @@
 //!
 //! Proved, both ways, as in `av_judge`: some bytes are the notes of an access of these pages, and
 //! where it ends; or they are those of none (`accesses`). Of one page, that it is served, or isn't
-//! and the unit ends (`touches`). Its parts: a page whose entry is a slot comes in, or is kept out
-//! (`comes`); a page that is here gets what it needs, or no frame can be had for it (`makes`); its
-//! slot is dropped where that is needed no more (`unneeded`, `drops`). What a pass spares is what
-//! the definitions say (`sparing`); to find it costs a look at all entries, also where no pass
-//! comes. Which bytes a page holds is not asked here, nor what the answer says.
+//! and the unit ends. Its parts: a page whose entry is a slot comes in, or is kept out; a page that
+//! is here gets what it needs, or no frame can be had for it; its slot is dropped where that is
+//! needed no more. What a pass spares is what the definitions say (`sparing`); to find it costs a
+//! look at all entries, also where no pass comes. Which bytes a page holds is not asked here, nor
+//! what the answer says.
 //!
 //! Only tested: nothing.
 #![tactic(auto)]
@@ -21,9 +21,5 @@ mod taking;
 mod touching;
 
 pub use accessing::{End, accesses};
-pub use coming::{Coming, Stop, comes};
-pub use dropping::{drops, unneeded};
-pub use making::{Making, makes};
+pub use coming::Stop;
 pub use spared::sparing;
-pub use taking::{Take, takes_behind};
-pub use touching::touches;

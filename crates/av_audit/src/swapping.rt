@@ -88,7 +88,7 @@ fn header_answer(machine: &Machine, area: u8) -> Answer
     }
 }
 
-/// A swap area is on where an answer has its numbers. Without memory all stays.
+/// A swap area is on where an answer has its numbers. Without memory a part may be done.
 fn turns_on(
     book: &mut Book,
     area: u8,

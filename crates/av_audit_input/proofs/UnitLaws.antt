@@ -1,10 +1,10 @@
 -- How units are cut.
-use Rattle.std.proofs.Common.{◌≡◌, ℕ, zero, suc, ◌-◌, ◌<◌, ◌≤◌, Bool, true, false, cond, List, [], ◌∷◌, ◌++◌, length, take, Option, Some, None, refl, sym, ap}
+use Rattle.std.proofs.Common.{◌≡◌, ℕ, zero, suc, ◌+◌, ◌-◌, ◌<◌, ◌≤◌, Bool, true, false, cond, List, [], ◌∷◌, ◌++◌, length, take, Option, Some, None, refl, sym, ap}
 use Rattle.std.proofs.Common.{subst, ◌∙◌, arith, length-take-le, append-nil, append_assoc}
 use Rattle.std.specs.Prelude.{◌==◌, ◌&&◌, not, slice_index, IfSome, All}
 use Rattle.std.proofs.lemmas.List.Elements.{All-head, All-tail}
 use Rattle.std.proofs.lemmas.Bool.{eqb-true}
-use Rattle.std.proofs.lemmas.List.{take-take}
+use Rattle.std.proofs.lemmas.List.{take-take, take_more}
 use Rattle.av_io.specs.Source.{Took}
 use Rattle.av_ports.specs.Line.{IsNoNewline}
 use Rattle.av_ports.proofs.Bytes.{Took-then}
@@ -77,6 +77,18 @@ ends-at (b ∷ []) some = refl
 ends-at (b ∷ c ∷ bytes) some =
     let next : length (b ∷ c ∷ bytes) - 1 ≡ suc (length (c ∷ bytes) - 1) = omega arith in
     ends-at (c ∷ bytes) (omega arith) ∙ ap (λ k. slice_index (b ∷ c ∷ bytes) k == 10) (sym next)
+
+ends-behind : (front : List ℕ) → ends_line (front ++ 10 ∷ []) ≡ true
+ends-behind [] = refl
+ends-behind (b ∷ []) = refl
+ends-behind (b ∷ c ∷ front) = ends-behind (c ∷ front)
+
+-- bytes up to a newline and with it end where a line does
+pub ends-with : (bytes : List ℕ) (k : ℕ) → k < length bytes → slice_index bytes k ≡ 10
+    → ends_line (take (k + 1) bytes) ≡ true
+ends-with bytes k there is =
+    ap ends_line (take_more bytes k 0 there ∙ ap (λ b. take k bytes ++ b ∷ []) is)
+    ∙ ends-behind (take k bytes)
 
 piece-by : (b : ℕ) (rest : List ℕ) (n : ℕ) → n ≡ length rest → All IsNoNewline (take n (b ∷ rest)) → IsOne (b ∷ rest)
 piece-by b [] n is one = by (ends_at b [])

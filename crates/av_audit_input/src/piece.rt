@@ -1,6 +1,6 @@
 //! The pieces of a transcript that are taken at once.
 
-ghost use Rattle.std.specs.Prelude.{◌≡◌, ◌-◌, ◌<◌, ◌≤◌, length, take};
+ghost use Rattle.std.specs.Prelude.{◌≡◌, ◌-◌, ◌<◌, ◌≤◌, ◌⊎◌, length, take, true};
 ghost use Rattle.av_ports.specs.Line.{HasNoNewline};
 ghost use Rattle.av_audit_input.specs.Unit.{begins_unit, ends_line, is_whole};
 
@@ -12,6 +12,7 @@ pub fn piece_size(bytes: &[u8]) -> usize
     ensures some { 0 < result }
     ensures within { result ≤ length bytes.now }
     ensures one { HasNoNewline (take (result - 1) bytes.now) }
+    ensures whole { (ends_line (take result bytes.now) ≡ true) ⊎ (result ≡ length bytes.now) }
 {
     match memchr(b'\n', bytes) {
         Some(size) => size + 1,

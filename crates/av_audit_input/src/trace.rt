@@ -135,8 +135,8 @@ fn take_mark<P: Ports>(ports: &mut P, pending: &mut Pending) -> Result<bool, Inp
     Ok(line.whole == line.size)
 }
 
-/// Reads a trace up to the line `%%`, which is taken, or to the end of the input, and puts what it
-/// commands behind the commands; says whether the input has ended.
+/// Reads a trace up to the line `%%`, which is taken, or to the end of the input, and gives what it
+/// commands; there are no commands before. Says whether the input has ended.
 pub fn read_trace<P: Ports>(
     alloc: Global,
     ports: &mut P,

@@ -4,8 +4,9 @@
 //! before it is judged. The transcript is found legal where there are as many units as commands and
 //! each is legal in its turn; else the first that isn't is named, which may be wanting, or come
 //! behind the last command (`audit`). Where the source tells what it has left that is so of all
-//! units of the transcript (`audits_of_inputs`), not both (`legal_or_stopped`), and of one number
-//! alone (`stopped_once`). Nothing is written; what failed is what the error tells of.
+//! units of the transcript (`audits_of_inputs`). One that is legal has no first reply that isn't
+//! (`legal_or_stopped`), and another has that at one number alone (`stopped_once`). Nothing is
+//! written; what failed is what the error tells of.
 //!
 //! Only tested: that memory suffices.
 #![tactic(auto)]

@@ -1,6 +1,6 @@
 //! Swap areas that go on and off.
 
-ghost use Rattle.std.specs.Prelude.{◌≡◌, OnOk};
+ghost use Rattle.std.specs.Prelude.{◌≡◌, OnErr, OnOk};
 ghost use Rattle.av_plain.specs.Event.{TurnedOff, TurnedOn, after};
 ghost use Rattle.av_book.specs.Book.{area_of, ledger_of};
 
@@ -9,8 +9,9 @@ use std::alloc::AllocError;
 
 /// A swap area is on. Without memory all stays.
 pub fn turn_on(book: &mut Book, number: u8, area: Area) -> Result<(), AllocError>
-    ensures { OnOk result (ledger_of book.new
+    ensures ok { OnOk result (ledger_of book.new
         ≡ after (ledger_of book.old) (TurnedOn number (area_of area))) }
+    ensures err { OnErr result (ledger_of book.new ≡ ledger_of book.old) }
 {
     book.on.insert(number, area)?;
     Ok(())

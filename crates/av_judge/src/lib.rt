@@ -4,13 +4,12 @@
 //! Proved: a judge reads exactly the notes that may stand in front of some bytes. Where it says
 //! yes, lawful notes stand there, the book has followed them, and what is left is what follows
 //! them; where it says no, no lawful notes stand there. There are judges of writes that end
-//! (`completes`), of a direct pass (`seeks`), of a frame that is taken (`takes`), of a page that
-//! is fetched from its slot (`fetches`) and mapped (`swaps_in`), and of frames that are reclaimed
-//! or aged (`outcomes`, `ages`). Where a page need not come the unit has to end. Whole units of
-//! `complete`, `age`, `reclaim`, `exit` and `munmap` are judged, too: yes exactly where the bytes
-//! are the text of a legal reply. The last two leave no choice: their reply is made and compared.
-//! Nothing asks that the ledger is sound. After want of memory a book may have followed a part of
-//! a note.
+//! (`completes`), of a direct pass (`seeks`), of a frame that is taken (`takes`), and of a page
+//! that is fetched from its slot (`fetches`) and mapped (`swaps_in`). Where a page need not come
+//! the unit has to end. Whole units of `complete`, `age`, `reclaim`, `exit` and `munmap` are
+//! judged, too: yes exactly where the bytes are the text of a legal reply. The last two leave no
+//! choice: their reply is made and compared. Nothing asks that the ledger is sound. After want of
+//! memory a book may have followed a part of a note.
 //!
 //! Units of other commands are not judged here.
 //!
@@ -22,6 +21,7 @@ mod commands;
 mod fetch;
 mod flight;
 mod notes;
+mod pages;
 mod pass;
 mod reclaim;
 mod seek;
@@ -32,11 +32,10 @@ mod zaps;
 pub use come::{Come, swaps_in};
 pub use commands::{judges_age, judges_complete, judges_reclaim};
 pub use fetch::{Fetch, fetches};
-pub use flight::{completes, ends};
-pub use notes::{Taking, cut, take_frame, take_note, take_slot};
-pub use pass::unmaps;
-pub use reclaim::{ages, outcomes};
+pub use flight::completes;
+pub use notes::{Taking, cut};
+pub use pages::ADDRESS_PAGES;
 pub use seek::{seeks, takes};
 pub use text::{all_fit, is_answer, is_reply};
-pub use unit::{Unit, reads, reads_when};
+pub use unit::{Unit, reads};
 pub use zaps::{judges_exit, judges_munmap};

@@ -83,7 +83,7 @@ fn read_head<D: SwapDev>(
 }
 
 /// A machine of so many frames, with the swap areas of the device, which have so many pages each.
-/// The time is that of reading page 0 of each that has pages.
+/// Page 0 is read of each that has pages.
 pub fn read_machine<D: SwapDev>(
     alloc: Global,
     frames: u32,

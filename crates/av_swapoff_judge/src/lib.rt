@@ -18,4 +18,3 @@ mod emptying;
 mod users;
 
 pub use closing::{Close, closes};
-pub use emptying::empties;

@@ -62,7 +62,7 @@ fn fit(bytes: &[u8])
 }
 
 impl Space {
-    /// A piece is laid over the bytes of a page from a place on. Without memory all stays.
+    /// A piece is laid over the bytes of a page from a place on. Without memory a part may be done.
     fn lay(&mut self, page: u64, at: usize, piece: &[u8]) -> Result<(), AllocError>
         requires { at + length piece.now ≤ page_size }
         ensures { OnOk result ((q : Process) → IsSpace self.old q

@@ -116,7 +116,8 @@ impl Memories {
         }
     }
 
-    /// A process gets what a child gets of another's pages, and lives. Without memory all stays.
+    /// A process gets what a child gets of another's pages, and lives. Without memory a part may be
+    /// done.
     pub fn fork(&mut self, parent: u16, child: u16) -> Result<(), AllocError>
         ensures { OnOk result ((w : World) → IsWorld self.old w
             → IsWorld self.new (set_process w child (child_of (pages w parent)))) }

@@ -8,9 +8,9 @@
 //! whether pages have one protection, and the greatest gap.
 //!
 //! Pages are kept as ranges, so a call doesn't cost more where its own range is long. But it goes
-//! over all ranges of the process, a fork for each of them; where it unmaps or wipes, over all its
-//! pages with bytes; and ranges that become alike are not joined. Right, and slow where there are
-//! many.
+//! over all ranges of the process, and where it unmaps or wipes over all its pages with bytes. A
+//! fork does so for each range, behind a copy of all bytes. Ranges that become alike are not
+//! joined. Right, and slow where there are many.
 //!
 //! Only tested: nothing.
 #![tactic(auto)]
@@ -30,5 +30,4 @@ mod space;
 
 pub use edit::Edit;
 pub use memories::Memories;
-pub use ranges::Change;
 pub use space::{Marks, Range, Space};

@@ -1,6 +1,6 @@
 //! Pages are mapped, unmapped, protected and flagged.
 
-ghost use Rattle.std.specs.Prelude.{◌≡◌, ◌+◌, ◌<◌, ◌≤◌, ◌^◌, OnOk, Some};
+ghost use Rattle.std.specs.Prelude.{◌≡◌, ◌+◌, ◌<◌, ◌≤◌, ◌^◌, OnErr, OnOk, Some};
 ghost use Rattle.av_base.specs.Limits.{top_page};
 ghost use Rattle.av_plain.specs.World.{Process, no_pages, wiped, with_change_on, with_page_flag};
 ghost use Rattle.av_plain.specs.World.{with_pages, with_prot_on, zeros};
@@ -16,7 +16,8 @@ impl Space {
     /// What is said of n pages from one on changes, and their bytes stay. Without memory all stays.
     fn change(&mut self, from: u64, n: u64, change: Change) -> Result<(), AllocError>
         requires { from + n < 2 ^ 64 }
-        ensures { OnOk result (AreChanged self.old self.new from n change) }
+        ensures ok { OnOk result (AreChanged self.old self.new from n change) }
+        ensures err { OnErr result (self.new ≡ self.old) }
     {
         let ranges = with_change(self.alloc, self.ranges.as_slice(), from, from + n, change)?;
         self.ranges = ranges;
@@ -37,8 +38,9 @@ impl Space {
     /// n pages from one on aren't mapped any more. Without memory all stays.
     pub fn unmap(&mut self, from: u64, n: u64) -> Result<(), AllocError>
         requires { from + n < 2 ^ 64 }
-        ensures { OnOk result ((q : Process) → IsSpace self.old q
+        ensures ok { OnOk result ((q : Process) → IsSpace self.old q
             → IsSpace self.new (with_pages q from n no_pages)) }
+        ensures err { OnErr result (self.new ≡ self.old) }
     {
         self.change(from, n, Change::Unmap)?;
         self.wipe(from, n);
@@ -68,8 +70,9 @@ impl Space {
     /// Those of n pages from one on that are mapped get a protection. Without memory all stays.
     pub fn protect(&mut self, from: u64, n: u64, prot: Prot) -> Result<(), AllocError>
         requires { from + n < 2 ^ 64 }
-        ensures { OnOk result ((q : Process) → IsSpace self.old q
+        ensures ok { OnOk result ((q : Process) → IsSpace self.old q
             → IsSpace self.new (with_prot_on q from n prot)) }
+        ensures err { OnErr result (self.new ≡ self.old) }
     {
         self.change(from, n, Change::Protect(prot))
     }
@@ -78,8 +81,9 @@ impl Space {
     /// all stays.
     pub fn mark(&mut self, from: u64, n: u64, flag: Flag, set: bool) -> Result<(), AllocError>
         requires { from + n < 2 ^ 64 }
-        ensures { OnOk result ((q : Process) → IsSpace self.old q
+        ensures ok { OnOk result ((q : Process) → IsSpace self.old q
             → IsSpace self.new (with_change_on q from n (with_page_flag flag set))) }
+        ensures err { OnErr result (self.new ≡ self.old) }
     {
         self.change(from, n, Change::Mark { flag, set })
     }

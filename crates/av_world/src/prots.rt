@@ -16,7 +16,7 @@ use av_base::Prot;
 fn same_prot(one: Prot, other: Prot) -> bool
     ensures { result ≡ same_prot_of one other }
 {
-    one.read == other.read && one.write == other.write && one.execute == other.execute
+    one == other
 }
 
 impl Space {

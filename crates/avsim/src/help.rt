@@ -30,8 +30,9 @@ Command line
   LINES                  1 to 1000000 lines, behind the first ones
   FRAMES                 1 to 16384 frames of 4096 bytes
   SWAP..                 up to eight files, which are swap areas 0, 1, .. in
-                         their order; pages are written over what they have,
-                         but for the first one of each
+                         their order; run and work write pages over what they
+                         have, but for the first one of each, which is all that
+                         audit reads
 
 Trace
   A line that is empty or begins with # says nothing. Words are separated by

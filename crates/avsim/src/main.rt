@@ -1,5 +1,5 @@
-//! Replays a trace on standard input, over the swap files that the words name, if any, and writes
-//! its transcript to standard output.
+//! Replays a trace, does a load or judges a transcript, over the swap files that the words name, if
+//! any.
 //!
 //! Proved: which text the words ask for, by the status of a run the number with which the program
 //! ends and the failure that it prints, and at which lines of a load how many hundredths are due.
