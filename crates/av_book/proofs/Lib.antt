@@ -1,4 +1,5 @@
 pub mod AreaLaws
 pub mod BookLaws
+pub mod CountLaws
 pub mod MapLaws
 pub mod RangeLaws

@@ -7,4 +7,4 @@ use Rattle.av_book.proofs.book.Book.entry.Goals as goal
 
 pub returns : goal.returns
 returns c = ap (option_map entry_of) (c.copied.ensures ∙ c.get.ensures.value)
-    ∙ find-says key_cmp entry_of c.args.self.now.entries.entries (c.args.process, c.args.page)
+    ∙ find-says key_cmp entry_of c.args.self.now.pages.entries (c.args.process, c.args.page)

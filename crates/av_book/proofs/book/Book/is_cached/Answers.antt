@@ -4,4 +4,4 @@ use Rattle.av_book.proofs.BookLaws.{cached-some}
 use Rattle.av_book.proofs.book.Book.is_cached.Goals as goal
 
 pub returns : goal.returns
-returns c = c.is_some.ensures ∙ ap is_some c.frame_at.ensures ∙ cached-some c.args.slot (map cached_of c.args.self.now.cache.items)
+returns c = c.is_some.ensures ∙ ap is_some c.frame_at.ensures ∙ cached-some c.args.slot (map cached_of c.args.self.now.pages.cache)

@@ -10,9 +10,9 @@ pub returns : goal.returns
 returns c =
     let same = ap (map cached_of) (filter_same _ (λ (t : Cached). not (same_slot c.args.slot t.slot)) _ (λ x b f' k. search rules) _ _ c.retain.ensures.filtered)
     ∙ filter-cached (λ (t : Cached). not (same_slot c.args.slot t.slot)) (λ (t : PlainCached). not (same_slot c.args.slot t.slot)) (λ t. refl)
-    c.args.self.now.cache.items in
+    c.args.self.now.pages.cache in
     λ i. record {
-      entries = entries_of c.args.self.now.entries.entries;
+      entries = entries_of c.args.self.now.pages.entries;
       cache = same i;
       flight = c.args.self.now.flight.items;
       active = c.args.self.now.active.items;

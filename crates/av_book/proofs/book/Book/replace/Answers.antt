@@ -11,7 +11,7 @@ returns c =
     let from = c.args.from in
     let to = c.args.to in
     let entries = ap entries_of (map_same_pairs _ (with_frame_at from to) _ (λ k v b w f' t. search rules) _ _ c.retain.ensures.filtered)
-    ∙ change-entries (with_frame_at from to) (placed_entry (renamed from to)) (place-is from to) c.args.self.now.entries.entries in
+    ∙ change-entries (with_frame_at from to) (placed_entry (renamed from to)) (place-is from to) c.args.self.now.pages.entries in
     let cache = c.in_ok-cache.ensures ∙ ap (λ cs. map (cached_with_frame_at from to) (map cached_of cs)) c.as_slice.ensures.value in
     let active = c.in_ok-active.ensures ∙ ap (map (renamed from to)) c.as_slice-2.ensures.value in
     let inactive = c.in_ok-inactive.ensures ∙ ap (map (renamed from to)) c.as_slice-3.ensures.value in

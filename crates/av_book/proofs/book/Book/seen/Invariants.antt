@@ -10,6 +10,6 @@ invariant-loop-entry l = record {
   can_next : (goal.iterator-loop-entry).can_next l.entry-iterator;
   is_finite : (goal.iterator-loop-entry).is_finite l.entry-iterator;
   left : l.n + how_many (λ e. names_seen l.frame (entry_of e)) l.entry-iterator
-      ≡ how_many (λ e. names_seen l.frame (entry_of e)) (map (λ e. e.1) l.self.entries.entries);
+      ≡ how_many (λ e. names_seen l.frame (entry_of e)) (map (λ e. e.1) l.self.pages.entries);
   fits : l.n + length l.entry-iterator < 2 ^ 63;
 }

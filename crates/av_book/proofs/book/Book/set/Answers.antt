@@ -7,10 +7,10 @@ use Rattle.av_book.proofs.book.Book.set.Goals as goal
 pub returns : goal.returns
 returns c =
     let same = ap entries_of c.in_ok-insert.ensures.entries
-    ∙ put-says key_cmp entry_of c.args.self.now.entries.entries (c.args.process, c.args.page) c.args.entry in
+    ∙ put-says key_cmp entry_of c.args.self.now.pages.entries (c.args.process, c.args.page) c.args.entry in
     λ i. record {
       entries = same i;
-      cache = map cached_of c.args.self.now.cache.items;
+      cache = map cached_of c.args.self.now.pages.cache;
       flight = c.args.self.now.flight.items;
       active = c.args.self.now.active.items;
       inactive = c.args.self.now.inactive.items;

@@ -10,10 +10,10 @@ pub returns : goal.returns
 returns c =
     let same = ap entries_of (map_same_pairs _ (with_slot c.args.frame c.args.slot) _ (λ k v b w f' t. search rules) _ _ c.retain.ensures.filtered)
     ∙ change-entries (with_slot c.args.frame c.args.slot) (λ e. cond (names_frame c.args.frame e) (PlainInSlot c.args.slot) e) (slot-is c.args.frame c.args.slot)
-    c.args.self.now.entries.entries in
+    c.args.self.now.pages.entries in
     λ i. record {
       entries = same i;
-      cache = map cached_of c.args.self.now.cache.items;
+      cache = map cached_of c.args.self.now.pages.cache;
       flight = c.args.self.now.flight.items;
       active = c.args.self.now.active.items;
       inactive = c.args.self.now.inactive.items;
