@@ -1,0 +1,2 @@
+pub mod KeyIndex
+pub mod Uses
