@@ -261,8 +261,38 @@ kept-gone p q (c ∷ cs) = by (q c) (kept-gone p q cs)
     by false h = omega (arith, h)
 
 -- the pairs of a slot, and the others
-pub of_slot : Slot → List PlainCached → List PlainCached
+abbrev pub of_slot : Slot → List PlainCached → List PlainCached
 of_slot s cs = filter (λ (c : PlainCached). same_slot s c.slot) cs
 
-pub off_slot : Slot → List PlainCached → List PlainCached
+abbrev pub off_slot : Slot → List PlainCached → List PlainCached
 off_slot s cs = filter (λ (c : PlainCached). not (same_slot s c.slot)) cs
+
+more-many : (p : PlainCached → Bool) (xs ys : List PlainCached) → how_many p (xs ++ ys) ≡ how_many p xs + how_many p ys
+more-many p [] ys = omega arith
+more-many p (x ∷ xs) ys = let h = more-many p xs ys in omega (arith, h)
+
+-- a pair is of the slot, or is another's
+pub split-counts : (i : Index) (es : List (Key × PlainEntry)) (cs : List PlainCached) (s : Slot) → Counts i es cs
+    → Counts i es (of_slot s cs ++ off_slot s cs)
+split-counts i es cs s c = record {
+  frame_names = c.frame_names;
+  frame_uses = λ f. same _ _ _ _ _ _ (c.frame_uses f) (all (λ (c : PlainCached). f == c.frame)) (more-many (λ (c : PlainCached). f == c.frame) (of_slot s cs) (off_slot s cs));
+  slot_names = c.slot_names;
+  slot_uses = λ t. same _ _ _ _ _ _ (c.slot_uses t) (all (λ (c : PlainCached). same_slot t c.slot))
+      (more-many (λ (c : PlainCached). same_slot t c.slot) (of_slot s cs) (off_slot s cs));
+}
+  where
+    all : (p : PlainCached → Bool) → how_many p cs ≡ how_many p (off_slot s cs) + how_many p (of_slot s cs)
+    all p = kept-gone p (λ c. same_slot s c.slot) cs
+
+    same : (a b d q r t : ℕ) → a ≡ b + d → d ≡ q + r → t ≡ r + q → a ≡ b + t
+    same a b d q r t e f g = omega (arith, e, f, g)
+
+pub of-slot-yes : (s : Slot) (c : PlainCached) (cs : List PlainCached) → same_slot s c.slot ≡ true → of_slot s (c ∷ cs) ≡ c ∷ of_slot s cs
+of-slot-yes s c cs is = ap (λ b. cond b (c ∷ of_slot s cs) (of_slot s cs)) is
+
+pub of-slot-no : (s : Slot) (c : PlainCached) (cs : List PlainCached) → same_slot s c.slot ≡ false → of_slot s (c ∷ cs) ≡ of_slot s cs
+of-slot-no s c cs is = ap (λ b. cond b (c ∷ of_slot s cs) (of_slot s cs)) is
+
+pub names-few : (s : Slot) (es : List (Key × Entry)) → how_many (λ (e : Key × PlainEntry). names_slot s e.1) (entries_of es) ≤ length es
+names-few s es = let h = few (λ (e : Key × PlainEntry). names_slot s e.1) (entries_of es) in let k = entries-few es in omega (arith, h, k)

@@ -45,7 +45,7 @@ impl Book {
     pub fn is_cached(&self, slot: Slot) -> bool
         ensures { result ≡ is_cached (ledger_of self.now) slot }
     {
-        self.frame_at(slot).is_some()
+        self.pages.slot_uses(slot) > self.pages.slot_names(slot)
     }
 
     /// Whether its page changed since its last write began.

@@ -1,11 +1,12 @@
 //! The entries of pages and the cached pairs, with the counts beside them.
 
 ghost use Rattle.std.specs.Prelude.{◌≡◌, ◌+◌, ◌^◌, ◌<◌, ◌==◌, List, [], ◌∷◌, IfOk, OnOk, filter, length};
-ghost use Rattle.std.specs.Prelude.{map, not, set};
+ghost use Rattle.std.specs.Prelude.{Some, if◌then◌else◌, map, nat_lt, not, option_map, set, ◌-◌};
+ghost use Rattle.std.specs.List.{range_with_len};
 ghost use Rattle.std.specs.BTreeMap.{insert_entry, is_at};
 ghost use Rattle.std.specs.List.Sorted.{IsStrictlySortedBy};
 ghost use Rattle.std.specs.Map.{keys_of, lookup, remove_entry};
-ghost use Rattle.av_base.specs.Keys.{Key, key_cmp};
+ghost use Rattle.av_base.specs.Keys.{Key, key_cmp, same_key};
 ghost use Rattle.av_base.specs.Words.{how_many};
 ghost use Rattle.av_plain.specs.Ledger.{Entry as PlainEntry, names_frame, names_slot, same_slot};
 ghost use Rattle.av_book.specs.Entries.{cached_of, changed_at, changed_pair, entries_of};
@@ -83,6 +84,10 @@ impl Pages {
     pub(crate) fn set(&mut self, process: u16, page: u64, entry: Entry) -> Result<(), AllocError>
         ensures entries { OnOk result (self.new.entries
             ≡ insert_entry key_cmp self.old.entries (process, page) entry) }
+        ensures at { OnOk result ((q : Key) → lookup (is_at (key_cmp q)) self.new.entries
+            ≡ if same_key (process, page) q then Some entry
+            else lookup (is_at (key_cmp q)) self.old.entries) }
+        ensures rising { IsStrictlySortedBy key_cmp (keys_of self.new.entries) }
         ensures cache { self.new.cache ≡ self.old.cache }
     {
         are_few(&self.entries, self.cache.as_slice());
@@ -114,8 +119,11 @@ impl Pages {
 
     /// How many entries name a slot.
     pub(crate) fn slot_names(&self, slot: Slot) -> u64
-        ensures { result ≡ how_many (λ e. names_slot slot e.1) (entries_of self.now.entries) }
+        ensures names { result
+            ≡ how_many (λ e. names_slot slot e.1) (entries_of self.now.entries) }
+        ensures fits { result < 2 ^ 63 }
     {
+        are_few(&self.entries, self.cache.as_slice());
         self.index.slot_names.count(slot)
     }
 
@@ -125,6 +133,28 @@ impl Pages {
             + how_many (λ c. same_slot slot c.slot) (map cached_of self.now.cache) }
     {
         self.index.slot_uses.count(slot)
+    }
+
+    /// How many of the first frames are used.
+    pub(crate) fn frames_used(&self, frames: u32) -> u32
+        ensures { result ≡ length (filter (λ f. nat_lt 0
+            (how_many (λ e. names_frame f e.1) (entries_of self.now.entries)
+            + how_many (λ c. f == c.frame) (map cached_of self.now.cache)))
+            (range_with_len 0 frames)) }
+    {
+        self.index.frame_uses.len_within(0, frames)
+    }
+
+    /// How many slots of an area are used, where it has so many pages.
+    pub(crate) fn slots_used(&self, area: u8, pages: u32) -> u32
+        ensures { result ≡ length (filter (λ page. nat_lt 0
+            (how_many (λ e. names_slot (record { area = area; page = page }) e.1)
+            (entries_of self.now.entries)
+            + how_many (λ c. same_slot (record { area = area; page = page }) c.slot)
+            (map cached_of self.now.cache)))
+            (range_with_len 1 (pages - 1))) }
+    {
+        self.index.slot_uses.len_within(area, 1, pages)
     }
 
     /// The keys of the entries that name a frame, rising.
@@ -158,14 +188,32 @@ impl Pages {
         ensures cache { self.new.cache ≡ self.old.cache }
     {
         let keys = self.keys_of_frame(alloc, frame)?;
-        let mut rest = keys.as_slice();
-        while let [(process, page), others @ ..] = rest {
-            if let Some(entry) = self.entries().get(&(*process, *page)).copied() {
-                self.set(*process, *page, entry.changed_at(frame, change))?;
-            }
-            rest = others;
+        for key in keys.as_slice() {
+            self.change_at(*key, frame, change)?;
         }
         Ok(())
+    }
+
+    /// The entry of a page changes, if it has one that names the frame. Without memory it may have
+    /// lost it.
+    fn change_at(
+        &mut self,
+        key: (u16, u64),
+        frame: u32,
+        change: Change,
+    ) -> Result<(), AllocError>
+        ensures at { OnOk result ((q : Key) → lookup (is_at (key_cmp q)) self.new.entries
+            ≡ if same_key key q
+            then option_map (changed_at frame change) (lookup (is_at (key_cmp q)) self.old.entries)
+            else lookup (is_at (key_cmp q)) self.old.entries) }
+        ensures rising { IsStrictlySortedBy key_cmp (keys_of self.old.entries)
+            → IsStrictlySortedBy key_cmp (keys_of self.new.entries) }
+        ensures cache { self.new.cache ≡ self.old.cache }
+    {
+        match self.entries().get(&key).copied() {
+            None => Ok(()),
+            Some(entry) => self.set(key.0, key.1, entry.changed_at(frame, change)),
+        }
     }
 
     /// One pair more is cached, before the others. Without memory all stays.
@@ -235,11 +283,9 @@ fn drop_pairs(index: &mut Index, cache: &[Cached], slot: Slot)
         → Counts index.new es
         (map cached_of (filter (λ c. not (same_slot slot c.slot)) cache.now)) }
 {
-    let mut rest = cache;
-    while let [first, others @ ..] = rest {
-        if slot == first.slot {
-            index.drop_pair(*first);
+    for pair in cache {
+        if slot == pair.slot {
+            index.drop_pair(*pair);
         }
-        rest = others;
     }
 }

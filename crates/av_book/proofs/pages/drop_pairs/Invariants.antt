@@ -1,4 +1,4 @@
-use Rattle.std.proofs.Common.{List, map, length, ◌++◌}
+use Rattle.std.proofs.Common.{List, map, drop, ◌++◌}
 use Rattle.av_base.specs.Keys.{Key}
 use Rattle.av_plain.specs.Ledger.{Entry as PlainEntry}
 use Rattle.av_book.specs.Entries.{cached_of}
@@ -6,9 +6,6 @@ use Rattle.av_book.specs.Index.{Counts}
 use Rattle.av_book.proofs.CountLaws.{of_slot, off_slot}
 use Rattle.av_book.proofs.pages.drop_pairs.Given as goal
 
-abbrev pub invariant-loop-rest : goal.invariant-loop-rest
-invariant-loop-rest l = (es : List (Key × PlainEntry)) → Counts l.fn.index es (map cached_of l.cache)
-    → Counts l.index es (of_slot l.slot (map cached_of l.rest) ++ off_slot l.slot (map cached_of l.cache))
-
-abbrev pub decreases-loop-rest : goal.decreases-loop-rest
-decreases-loop-rest l = length l.rest
+abbrev pub invariant-loop-pair : goal.invariant-loop-pair
+invariant-loop-pair l = (es : List (Key × PlainEntry)) → Counts l.fn.index es (map cached_of l.cache)
+    → Counts l.index es (of_slot l.slot (map cached_of (drop l.pair-index l.cache)) ++ off_slot l.slot (map cached_of l.cache))

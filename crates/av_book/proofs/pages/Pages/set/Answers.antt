@@ -1,8 +1,9 @@
-use Rattle.std.proofs.Common.{map, length, ap, subst, sym, arith, Some, ◌≡◌}
+use Rattle.std.proofs.Common.{map, length, ap, cond, ◌∙◌, subst, sym, arith, Some, ◌≡◌}
 use Rattle.std.specs.Prelude.{option_map}
 use Rattle.std.specs.BTreeMap.{insert_entry, is_at}
 use Rattle.std.specs.Map.{lookup, remove_entry}
-use Rattle.av_base.specs.Keys.{Key, key_cmp}
+use Rattle.av_base.specs.Keys.{Key, key_cmp, same_key}
+use Rattle.av_book.specs.Pages.{Content}
 use Rattle.av_book.specs.declared.book.Cached.{Cached}
 use Rattle.av_book.specs.Entries.{cached_of, entries_of, entry_of}
 use Rattle.av_book.specs.Index.{Counts, Takes, marks_of}
@@ -51,3 +52,8 @@ invariant_of-self-in-Err c =
       counts = subst (λ es. Counts c.add.new.self (entries_of es) cs) (sym c.remove.ensures.entries)
           (subst (λ es. Counts c.add.new.self (entries_of (remove_entry (is_at (key_cmp k)) es)) cs) (sym c.in_ok-old.ensures.entries) left);
     }
+
+pub returns-in-Ok-clause-at : goal.returns-in-Ok-clause-at
+returns-in-Ok-clause-at c = λ q.
+    c.in_ok-old.ensures.updates.0 q
+    ∙ ap (λ (p : Content). cond (same_key (c.args.process, c.args.page) q) (Some c.args.entry) (lookup (is_at (key_cmp q)) p.entries)) c.self.view_is
