@@ -2,6 +2,7 @@
 use Rattle.std.proofs.Common.{◌≡◌, ℕ, ◌+◌, List, [], ◌∷◌, map, filter, Bool, true, false, not, cond, ◌||◌, ◌==◌, Some, is_some, refl, ap, ◌∙◌, arith}
 use Rattle.std.specs.Prelude.{option_map}
 use Rattle.std.specs.List.{list_any}
+use Rattle.std.specs.Map.{keys_of}
 use Rattle.av_base.specs.Words.{how_many}
 use Rattle.av_base.specs.declared.slot.Slot.{Slot}
 use Rattle.av_base.specs.Keys.{Key}
@@ -111,3 +112,20 @@ stale-is stale s c = by (same_slot s c.slot)
     by : (b : Bool) → cached_of (cond b (record c { stale = stale }) c) ≡ cond b (record (cached_of c) { stale = stale }) (cached_of c)
     by true = refl
     by false = refl
+
+-- the keys of the entries that name a frame
+pub walk-is : (f : ℕ) (es : List (Key × Entry)) → keys_of (filter (λ (e : Key × Entry). names_frame f (entry_of e.1)) es)
+    ≡ map (λ e. e.0) (filter (λ (e : Key × PlainEntry). names_frame f e.1) (entries_of es))
+walk-is f [] = refl
+walk-is f (e ∷ es) = by (names_frame f (entry_of e.1)) (walk-is f es)
+  where
+    rest : List (Key × Entry)
+    rest = filter (λ (e : Key × Entry). names_frame f (entry_of e.1)) es
+
+    says : List (Key × PlainEntry)
+    says = filter (λ (e : Key × PlainEntry). names_frame f e.1) (entries_of es)
+
+    by : (b : Bool) → keys_of rest ≡ map (λ e. e.0) says
+        → keys_of (cond b (e ∷ rest) rest) ≡ map (λ (e : Key × PlainEntry). e.0) (cond b ((e.0, entry_of e.1) ∷ says) says)
+    by true h = ap (λ ks. e.0 ∷ ks) h
+    by false h = h

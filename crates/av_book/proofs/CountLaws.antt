@@ -3,7 +3,6 @@ use Prim.Native.Nat.{zero}
 use Rattle.std.proofs.Common.{◌≡◌, ℕ, suc, get_or, ◌+◌, ◌-◌, ◌<◌, ◌≤◌, List, [], ◌∷◌, map, filter, Bool, true, false, cond, not, ◌++◌, Option, Some, None, length, refl, sym, ap, ◌∙◌, arith}
 use Rattle.std.specs.Prelude.{option_map, unwrap_or, ◌==◌, ◌^◌, set, sum_by}
 use Rattle.std.specs.BTreeMap.{insert_entry, is_at}
-use Rattle.std.specs.Cmp.{IsTotalOrder}
 use Rattle.std.specs.List.Sorted.{IsStrictlySortedBy}
 use Rattle.std.specs.Map.{keys_of, lookup, remove_entry, values_of}
 use Rattle.std.proofs.lemmas.List.Sums.{sum_by-cons}
@@ -14,9 +13,8 @@ use Rattle.av_base.specs.Words.{how_many}
 use Rattle.av_base.specs.declared.slot.Slot.{Slot}
 use Rattle.av_plain.specs.Ledger.{Cached as PlainCached, Entry as PlainEntry, names_frame, names_slot, same_slot}
 use Rattle.av_book.specs.Entries.{cached_of, entries_of, entry_of}
-use Rattle.av_book.specs.Index.{Adds, Counts, HasRoom, Keeps, Takes, Marks, cached_marks, entry_marks, marks_of}
-use Rattle.av_book.specs.SlotUses.{one, slot_uses_at}
-use Rattle.av_index.specs.Uses.{uses_at}
+use Rattle.av_book.specs.Index.{Adds, Counts, HasRoom, Keeps, Takes, cached_marks, entry_marks, marks_of}
+use Rattle.av_book.specs.SlotUses.{one}
 use Rattle.av_book.specs.declared.book.Cached.{Cached}
 use Rattle.av_book.specs.declared.book.Entry.{Entry}
 use Rattle.av_book.specs.declared.index.Index.{Index}

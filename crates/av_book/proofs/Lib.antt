@@ -5,4 +5,5 @@ pub mod CountLaws
 pub mod MapLaws
 pub mod PrefixLaws
 pub mod RangeLaws
+pub mod RemovalLaws
 pub mod UseLaws

@@ -5,8 +5,7 @@ use Rattle.std.specs.List.{list_any}
 use Rattle.std.proofs.lemmas.Bool.Decides.{nat_tests}
 use Rattle.av_base.specs.Words.{how_many}
 use Rattle.av_base.specs.declared.slot.Slot.{Slot}
-use Rattle.av_base.specs.Keys.{Key}
-use Rattle.av_plain.specs.Ledger.{Cached, Entry, Ledger, cached_by, is_free, map_count, names_slot, same_slot, slot_count, slot_entries}
+use Rattle.av_plain.specs.Ledger.{Cached, Ledger, cached_by, is_free, map_count, same_slot, slot_count, slot_entries}
 use Rattle.av_book.proofs.RangeLaws.{any-count}
 
 none-cached : {B : Type 0} (g : Cached → B) (p : Cached → Bool) (cs : List Cached) → (how_many p cs == 0) ≡ is_none (option_map g (cached_by p cs))

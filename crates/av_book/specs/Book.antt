@@ -1,6 +1,8 @@
 -- The ledger that a book has.
-use Rattle.std.specs.Prelude.{ℕ, List, map}
+use Rattle.std.specs.Prelude.{ℕ, List, map, not, ◌&&◌, ◌==◌}
+use Rattle.av_base.specs.Keys.{Key}
 use Rattle.av_base.specs.Words.{without}
+use Rattle.av_plain.specs.Event.{entries_where}
 use Rattle.av_plain.specs.Ledger.{Ledger, SwapArea}
 use Rattle.av_plain.specs.Swapon.{priority_of}
 use Rattle.av_book.specs.declared.book.Area.{Area}
@@ -28,3 +30,7 @@ ledger_of book = record {
 -- the frame is in neither list
 abbrev pub in_neither : ℕ → Ledger → Ledger
 in_neither f l = record l { active = without f l.active; inactive = without f l.inactive }
+
+-- the key has no entry
+abbrev pub without_entry : Key → Ledger → Ledger
+without_entry k l = record l { entries = entries_where (λ q. not (k.0 == q.0 && k.1 == q.1)) l }

@@ -1,17 +1,19 @@
 //! The entries of a book.
 
-ghost use Rattle.std.specs.Prelude.{◌≡◌, ◌^◌, ◌<◌, OnOk, option_map};
+ghost use Rattle.std.specs.Prelude.{◌≡◌, ◌^◌, ◌<◌, IfOk, OnOk, option_map};
 ghost use Rattle.av_base.specs.Words.{how_many};
 ghost use Rattle.av_plain.specs.Event.{change_entries, set_entry, without_seen};
 ghost use Rattle.av_plain.specs.Ledger.{InSlot as NamesSlot, entry, map_count, slot_entries};
+ghost use Rattle.av_plain.specs.Ledger.{walk};
 ghost use Rattle.av_plain.specs.Ledger.{names_frame as names_frame_of, names_slot as names_slot_of};
 ghost use Rattle.av_plain.specs.Reclaim.{is_referenced, names_seen as names_seen_of};
-ghost use Rattle.av_book.specs.Book.{entry_of, ledger_of};
+ghost use Rattle.av_book.specs.Book.{entry_of, ledger_of, without_entry};
 
 use crate::book::{Book, Entry};
 use crate::changes::Change;
 use av_base::Slot;
-use std::alloc::AllocError;
+use std::alloc::{AllocError, Global};
+use std::collections::BTreeMap;
 
 impl Entry {
     /// Whether it names the frame.
@@ -59,6 +61,29 @@ impl Book {
             ≡ set_entry (process, page) (entry_of entry) (ledger_of self.old)) }
     {
         self.pages.set(process, page, entry)
+    }
+
+    /// The entries, by process and page.
+    pub fn entries(&self) -> &BTreeMap<(u16, u64), Entry>
+        ensures { result.now.entries ≡ self.now.pages.entries }
+    {
+        self.pages.entries()
+    }
+
+    /// The entry of a page goes, if it has one.
+    pub fn remove(&mut self, process: u16, page: u64) -> Option<Entry>
+        ensures entry { option_map entry_of result ≡ entry (ledger_of self.old) (process, page) }
+        ensures others { ledger_of self.new
+            ≡ without_entry (process, page) (ledger_of self.old) }
+    {
+        self.pages.remove(process, page)
+    }
+
+    /// The keys of the entries that name a frame, by process and page.
+    pub fn keys_of_frame(&self, alloc: Global, frame: u32) -> Result<Vec<(u16, u64)>, AllocError>
+        ensures { IfOk result (λ keys. keys.items ≡ walk (ledger_of self.now) frame) }
+    {
+        self.pages.keys_of_frame(alloc, frame)
     }
 
     /// How many entries name the frame.

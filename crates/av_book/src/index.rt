@@ -8,8 +8,8 @@ ghost use Rattle.av_book.specs.Index.{entry_marks, marks_of};
 
 use crate::book::{Cached, Entry};
 use crate::slot_uses::SlotUses;
-use av_index::Uses;
 use av_base::Slot;
+use av_index::Uses;
 use std::alloc::{AllocError, Global};
 
 /// How often each frame and each slot is named by an entry, and how often it is used: named, or

@@ -7,8 +7,8 @@
 //! Nothing asks that the ledger is sound. After want of memory a book may have followed a part of
 //! a note.
 //!
-//! Each count is a scan of all entries, as the definitions have it: exact, and slow where there
-//! are many.
+//! Counts are kept beside the entries and the cached pairs (`Pages`), by an invariant that says
+//! that they are right: how often a frame or a slot is named or used is a look-up.
 //!
 //! Only tested: nothing.
 #![tactic(auto)]

@@ -1,7 +1,7 @@
 //! The entries of pages and the cached pairs, with the counts beside them.
 
 ghost use Rattle.std.specs.Prelude.{◌≡◌, ◌+◌, ◌^◌, ◌<◌, ◌==◌, List, [], ◌∷◌, IfOk, OnOk, filter, length};
-ghost use Rattle.std.specs.Prelude.{Some, if◌then◌else◌, map, nat_lt, not, option_map, set, ◌-◌};
+ghost use Rattle.std.specs.Prelude.{None, Some, if◌then◌else◌, map, nat_lt, not, option_map, set, ◌-◌};
 ghost use Rattle.std.specs.List.{range_with_len};
 ghost use Rattle.std.specs.BTreeMap.{insert_entry, is_at};
 ghost use Rattle.std.specs.List.Sorted.{IsStrictlySortedBy};
@@ -73,6 +73,7 @@ impl Pages {
         ensures value { result ≡ lookup (is_at (key_cmp (process, page))) self.old.entries }
         ensures entries { self.new.entries
             ≡ remove_entry (is_at (key_cmp (process, page))) self.old.entries }
+        ensures gone { lookup (is_at (key_cmp (process, page))) self.new.entries ≡ None }
         ensures cache { self.new.cache ≡ self.old.cache }
     {
         let entry = self.entries.remove(&(process, page));
@@ -196,12 +197,7 @@ impl Pages {
 
     /// The entry of a page changes, if it has one that names the frame. Without memory it may have
     /// lost it.
-    fn change_at(
-        &mut self,
-        key: (u16, u64),
-        frame: u32,
-        change: Change,
-    ) -> Result<(), AllocError>
+    fn change_at(&mut self, key: (u16, u64), frame: u32, change: Change) -> Result<(), AllocError>
         ensures at { OnOk result ((q : Key) → lookup (is_at (key_cmp q)) self.new.entries
             ≡ if same_key key q
             then option_map (changed_at frame change) (lookup (is_at (key_cmp q)) self.old.entries)

@@ -7,8 +7,8 @@ ghost use Rattle.av_base.specs.declared.slot.Slot.{Slot as SlotOf};
 ghost use Rattle.av_plain.specs.Ledger.{same_slot};
 ghost use Rattle.av_book.specs.SlotUses.{one, slot_uses_at};
 
-use av_index::Uses;
 use av_base::Slot;
+use av_index::Uses;
 use std::alloc::{AllocError, Global};
 use std::collections::BTreeMap;
 

@@ -15,6 +15,6 @@ pub returns : goal.returns
 returns c = λ es counts.
     let ended = drop_all c.loop-pair.pair-index c.args.cache.now c.loop-pair-test.false in
     let left = subst (λ (rest : List Cached). Counts c.loop-pair.index es
-        (of_slot c.args.slot (map cached_of rest) ++ off_slot c.args.slot (map cached_of c.args.cache.now))) ended (c.loop-pair.invariant es counts) in
+    (of_slot c.args.slot (map cached_of rest) ++ off_slot c.args.slot (map cached_of c.args.cache.now))) ended (c.loop-pair.invariant es counts) in
     subst (Counts c.loop-pair.index es)
     (sym (filter-cached (λ (t : Cached). not (same_slot c.args.slot t.slot)) (λ (t : PlainCached). not (same_slot c.args.slot t.slot)) (λ t. refl) c.args.cache.now)) left

@@ -1,9 +1,7 @@
-use Rattle.std.proofs.Common.{length, ap, ◌∙◌, ◌-◌}
+use Rattle.std.proofs.Common.{length, ◌∙◌, ◌-◌}
 use Rattle.std.specs.Prelude.{filter}
 use Rattle.std.specs.List.{range_with_len}
-use Rattle.av_plain.specs.Ledger.{size_of}
 use Rattle.av_book.specs.Book.{ledger_of}
-use Rattle.av_book.specs.Machine.{setting_of}
 use Rattle.av_book.proofs.UseLaws.{count-is}
 use Rattle.av_book.proofs.book.Book.in_use.Goals as goal
 

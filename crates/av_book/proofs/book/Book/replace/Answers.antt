@@ -4,7 +4,6 @@ use Rattle.av_base.specs.Words.{renamed}
 use Rattle.av_plain.specs.Event.{placed_entry}
 use Rattle.av_book.specs.Book.{areas_of, cached_of, cached_with_frame_at, entries_of, with_frame_at}
 use Rattle.av_book.specs.Entries.{changed_pair}
-use Rattle.av_book.specs.Pages.{Content}
 use Rattle.av_book.specs.declared.changes.PairChange.TheVariants.{Frame}
 use Rattle.av_book.proofs.BookLaws.{change-entries, change-pairs, place-is}
 use Rattle.av_book.proofs.book.Book.replace.Goals as goal
@@ -20,9 +19,9 @@ returns c =
     let merged = c.in_ok-merged.ensures ∙ ap (map (renamed from to)) c.as_slice-3.ensures.value in
     on_ok_weaker c.change.result
     (λ changes. let entries = ap entries_of changes
-      ∙ change-entries (with_frame_at from to) (placed_entry (renamed from to)) (place-is from to) c.change_pairs.new.self.entries
-      ∙ ap (λ es. map (λ e. (e.0, placed_entry (renamed from to) e.1)) (entries_of es)) c.in_ok-change_pairs.ensures.entries in
-      λ i. record {
+    ∙ change-entries (with_frame_at from to) (placed_entry (renamed from to)) (place-is from to) c.change_pairs.new.self.entries
+    ∙ ap (λ es. map (λ e. (e.0, placed_entry (renamed from to) e.1)) (entries_of es)) c.in_ok-change_pairs.ensures.entries in
+    λ i. record {
       entries = entries i;
       cache = cache i;
       flight = c.args.self.now.flight.items;

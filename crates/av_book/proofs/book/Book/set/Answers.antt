@@ -8,8 +8,8 @@ use Rattle.av_book.proofs.book.Book.set.Goals as goal
 pub returns : goal.returns
 returns c = on_ok_weaker c.set.result
     (λ puts. let k : Key = (c.args.process, c.args.page) in
-      let same = ap entries_of puts ∙ put-says key_cmp entry_of c.args.self.now.pages.entries k c.args.entry in
-      λ i. record {
+    let same = ap entries_of puts ∙ put-says key_cmp entry_of c.args.self.now.pages.entries k c.args.entry in
+    λ i. record {
       entries = same i;
       cache = map cached_of (c.set.ensures.cache i);
       flight = c.args.self.now.flight.items;

@@ -1,16 +1,16 @@
 use Rattle.std.proofs.Common.{ap, cond, map, ◌∙◌}
 use Rattle.std.proofs.lemmas.Result.{on_ok_weaker}
 use Rattle.av_plain.specs.Event.{without_seen}
-use Rattle.av_plain.specs.Ledger.{InSlot as PlainInSlot, names_frame}
-use Rattle.av_book.specs.Book.{areas_of, cached_of, entries_of, with_slot, without_seen_of}
-use Rattle.av_book.proofs.BookLaws.{change-entries, slot-is, unseen-is}
+use Rattle.av_plain.specs.Ledger.{names_frame}
+use Rattle.av_book.specs.Book.{areas_of, cached_of, entries_of, without_seen_of}
+use Rattle.av_book.proofs.BookLaws.{change-entries, unseen-is}
 use Rattle.av_book.proofs.book.Book.unsee.Goals as goal
 
 pub returns : goal.returns
 returns c = on_ok_weaker c.change.result
     (λ changes. let same = ap entries_of changes
-      ∙ change-entries (without_seen_of c.args.frame) (λ e. cond (names_frame c.args.frame e) (without_seen e) e) (unseen-is c.args.frame) c.args.self.now.pages.entries in
-      λ i. record {
+    ∙ change-entries (without_seen_of c.args.frame) (λ e. cond (names_frame c.args.frame e) (without_seen e) e) (unseen-is c.args.frame) c.args.self.now.pages.entries in
+    λ i. record {
       entries = same i;
       cache = map cached_of (c.change.ensures.cache i);
       flight = c.args.self.now.flight.items;

@@ -1,8 +1,8 @@
 use Rattle.std.proofs.Common.{refl, ap, sym, ◌∙◌}
 use Rattle.std.proofs.lemmas.List.{drop_all}
 use Rattle.std.specs.List.{list_any}
-use Rattle.av_base.specs.Keys.{Key, same_key}
-use Rattle.av_book.proofs.ChangeLaws.{all-end, one-done, one-ends, others-stay}
+use Rattle.av_base.specs.Keys.{same_key}
+use Rattle.av_book.proofs.ChangeLaws.{all-end, others-stay}
 use Rattle.av_book.proofs.pages.Pages.change.Goals as goal
 
 pub loop-key-init : goal.loop-key-init

@@ -13,5 +13,5 @@ returns-in-Some-clause-at c =
     let is = sym c.in-Some.is ∙ c.copied.ensures ∙ c.get.ensures.value ∙ ap (lookup (is_at (key_cmp k))) c.entries.ensures in
     on_ok_weaker c.set.result
     (λ at q. at q ∙ ap (λ e. cond (same_key k q) (Some e) (lookup (is_at (key_cmp q)) es)) c.changed_at.ensures
-      ∙ put-changed c.args.frame c.args.change es k q c.in-Some.entry (lookup (is_at (key_cmp q)) es) is)
+    ∙ put-changed c.args.frame c.args.change es k q c.in-Some.entry (lookup (is_at (key_cmp q)) es) is)
     c.set.ensures.at

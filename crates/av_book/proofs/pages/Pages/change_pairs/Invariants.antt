@@ -1,4 +1,4 @@
-use Rattle.std.proofs.Common.{◌≡◌, ◌++◌, drop, map, take, length}
+use Rattle.std.proofs.Common.{◌≡◌, ◌++◌, drop, map, take}
 use Rattle.av_book.specs.Entries.{changed_pair}
 use Rattle.av_book.proofs.pages.Pages.change_pairs.Given as goal
 

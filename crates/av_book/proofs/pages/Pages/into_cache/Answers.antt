@@ -1,4 +1,4 @@
-use Rattle.std.proofs.Common.{length, map, ap, arith}
+use Rattle.std.proofs.Common.{length, ap, arith}
 use Rattle.av_book.specs.Entries.{cached_of}
 use Rattle.av_book.specs.declared.book.Cached.{Cached}
 use Rattle.av_book.proofs.CountLaws.{entries-few, mapped-few, room}

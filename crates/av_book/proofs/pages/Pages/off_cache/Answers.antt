@@ -13,7 +13,7 @@ invariant_of-self c =
     let same = filter_same _ other _ (λ x b f' k. search rules) _ _ c.retain.ensures.filtered in
     let Is = λ (cs : List Cached). Counts c.drop_pairs.new.index (entries_of c.self.inside.entries.entries) (map cached_of cs) in
     let counts = subst (λ (cs : List Cached). Counts c.self.inside.index (entries_of c.self.inside.entries.entries) (map cached_of cs))
-        (sym c.as_slice.ensures.value) c.self.invariant.counts in
+    (sym c.as_slice.ensures.value) c.self.invariant.counts in
     record {
       rising = c.self.invariant.rising;
       counts = subst Is (ap (filter other) c.as_slice.ensures.value ∙ sym same) (c.drop_pairs.ensures _ counts);

@@ -1,5 +1,5 @@
-use Rattle.std.proofs.Common.{length, map, ap, arith, subst, sym, ◌<◌}
-use Rattle.av_book.specs.Entries.{cached_of, entries_of}
+use Rattle.std.proofs.Common.{length, ap, arith, subst, sym, ◌<◌}
+use Rattle.av_book.specs.Entries.{cached_of}
 use Rattle.av_book.specs.Pages.{Content}
 use Rattle.av_book.specs.declared.book.Cached.{Cached}
 use Rattle.av_book.proofs.CountLaws.{entries-few, mapped-few, pair-put, room}

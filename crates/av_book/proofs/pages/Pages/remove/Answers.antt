@@ -1,6 +1,5 @@
 use Rattle.std.proofs.Common.{map, subst, sym}
 use Rattle.std.specs.Prelude.{option_map}
-use Rattle.av_base.specs.Keys.{key_cmp}
 use Rattle.av_book.specs.Entries.{cached_of, entries_of, entry_of}
 use Rattle.av_book.specs.Index.{Counts, Takes, marks_of}
 use Rattle.av_book.proofs.CountLaws.{entry-gone}
@@ -10,7 +9,7 @@ pub invariant_of-self : goal.invariant_of-self
 invariant_of-self c =
     let cs = map cached_of c.self.inside.cache.items in
     let gone = entry-gone _ _ c.self.inside.entries.entries cs (c.args.process, c.args.page) c.self.invariant.counts
-        (subst (λ o. Takes c.self.inside.index c.take.new.self (marks_of (option_map entry_of o))) c.remove-entry.ensures.value c.take.ensures) in
+    (subst (λ o. Takes c.self.inside.index c.take.new.self (marks_of (option_map entry_of o))) c.remove-entry.ensures.value c.take.ensures) in
     record {
       rising = c.remove-entry.ensures.ordered;
       counts = subst (λ es. Counts c.take.new.self (entries_of es) cs) (sym c.remove-entry.ensures.entries) gone;

@@ -16,7 +16,7 @@ add-requires c =
     let es = c.self.inside.entries.entries in
     let cs = c.self.inside.cache.items in
     let gone = entry-gone _ _ es (map cached_of cs) k c.self.invariant.counts
-        (subst (λ o. Takes c.self.inside.index c.take.new.self (marks_of (option_map entry_of o))) c.in_ok-old.ensures.old c.take.ensures) in
+    (subst (λ o. Takes c.self.inside.index c.take.new.self (marks_of (option_map entry_of o))) c.in_ok-old.ensures.old c.take.ensures) in
     let left = left-few (is_at (key_cmp k)) es in
     let pairs = mapped-few cached_of cs in
     let few = c.are_few.ensures.entries in
@@ -30,7 +30,7 @@ invariant_of-self-in-Ok c =
     let cs = map cached_of c.self.inside.cache.items in
     let es = c.self.inside.entries.entries in
     let gone = entry-gone _ _ es cs k c.self.invariant.counts
-        (subst (λ o. Takes c.self.inside.index c.take.new.self (marks_of (option_map entry_of o))) c.in_ok-old.ensures.old c.take.ensures) in
+    (subst (λ o. Takes c.self.inside.index c.take.new.self (marks_of (option_map entry_of o))) c.in_ok-old.ensures.old c.take.ensures) in
     record {
       rising = c.insert.ensures.ordered;
       counts = subst (λ es. Counts c.add.new.self (entries_of es) cs) (sym c.in_ok-old.ensures.entries)
@@ -43,9 +43,9 @@ invariant_of-self-in-Err c =
     let cs = map cached_of c.self.inside.cache.items in
     let es = c.self.inside.entries.entries in
     let gone = entry-gone _ _ es cs k c.self.invariant.counts
-        (subst (λ o. Takes c.self.inside.index c.take.new.self (marks_of (option_map entry_of o))) c.in_ok-old.ensures.old c.take.ensures) in
+    (subst (λ o. Takes c.self.inside.index c.take.new.self (marks_of (option_map entry_of o))) c.in_ok-old.ensures.old c.take.ensures) in
     let is : lookup (is_at (key_cmp k)) (insert_entry key_cmp es k c.args.entry) ≡ Some c.args.entry
-        = subst (λ es. lookup (is_at (key_cmp k)) es ≡ Some c.args.entry) c.in_ok-old.ensures.entries c.in_ok-old.ensures.updates.1 in
+    = subst (λ es. lookup (is_at (key_cmp k)) es ≡ Some c.args.entry) c.in_ok-old.ensures.entries c.in_ok-old.ensures.updates.1 in
     let left = counts-kept _ _ _ cs (entry-undone _ es cs k c.args.entry c.insert.ensures.was_ordered is gone) c.in-Err.ensures.err in
     record {
       rising = c.remove.ensures.ordered;

@@ -14,5 +14,5 @@ returns c =
     c.len_within.ensures
     ∙ (λ i. length (filter (λ page. nat_lt 0 (c.self.invariant.counts.slot_uses (record { area = c.args.area; page = page }) i)) pages))
     ∙ ap (λ (p : Content). length (filter (λ page. nat_lt 0
-        (how_many (λ (e : Key × PlainEntry). names_slot (record { area = c.args.area; page = page }) e.1) (entries_of p.entries)
-        + how_many (λ (t : PlainCached). same_slot (record { area = c.args.area; page = page }) t.slot) (map cached_of p.cache))) pages)) c.self.view_is
+    (how_many (λ (e : Key × PlainEntry). names_slot (record { area = c.args.area; page = page }) e.1) (entries_of p.entries)
+    + how_many (λ (t : PlainCached). same_slot (record { area = c.args.area; page = page }) t.slot) (map cached_of p.cache))) pages)) c.self.view_is
