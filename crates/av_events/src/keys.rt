@@ -50,7 +50,11 @@ pub fn entries_of(book: &Book, alloc: Global, process: u16) -> Result<Vec<Keyed>
 {
     match process.checked_add(1) {
         None => of_process(alloc, book.entries().range((process, 0)..), process),
-        Some(next) => of_process(alloc, book.entries().range((process, 0)..(next, 0)), process),
+        Some(next) => of_process(
+            alloc,
+            book.entries().range((process, 0)..(next, 0)),
+            process,
+        ),
     }
 }
 

@@ -1,4 +1,4 @@
-use Rattle.std.proofs.Common.{[], ◌∷◌, ap, not, sym, ◌==◌, ◌∙◌}
+use Rattle.std.proofs.Common.{[], ◌∷◌, ap, not, ◌==◌, ◌∙◌}
 use Rattle.std.specs.Prelude.{◌&&◌}
 use Rattle.av_base.specs.Keys.{Key}
 use Rattle.av_plain.specs.Ledger.{Entry as PlainEntry}
