@@ -2,6 +2,7 @@ pub mod AreaLaws
 pub mod BookLaws
 pub mod ChangeLaws
 pub mod CountLaws
+pub mod KeyLaws
 pub mod MapLaws
 pub mod PrefixLaws
 pub mod RangeLaws

@@ -1,5 +1,5 @@
 -- What is used, by the counts.
-use Rattle.std.proofs.Common.{◌≡◌, ℕ, suc, ◌+◌, ◌-◌, ◌≤◌, List, [], ◌∷◌, length, Bool, true, false, cond, not, Some, refl, sym, ap, ◌∙◌, arith}
+use Rattle.std.proofs.Common.{◌≡◌, ℕ, suc, ◌+◌, ◌-◌, ◌≤◌, List, [], ◌∷◌, length, Bool, true, false, cond, not, None, Some, refl, sym, ap, ◌∙◌, arith}
 use Rattle.std.specs.Prelude.{filter, is_none, nat_lt, option_map, ◌==◌, ◌&&◌, ◌||◌}
 use Rattle.std.specs.List.{list_any}
 use Rattle.std.proofs.lemmas.Bool.Decides.{nat_tests}
@@ -90,3 +90,25 @@ one-passes p (x ∷ xs) = by (p x) (one-passes p xs)
     by : (b : Bool) → nat_lt 0 (length (filter p xs)) ≡ list_any p xs → nat_lt 0 (length (cond b (x ∷ filter p xs) (filter p xs))) ≡ (b || list_any p xs)
     by true h = above (length (filter p xs))
     by false h = h
+
+-- ---- nothing is cached
+
+pub no-pair : {B : Type 0} (g : Cached → B) (p : Cached → Bool) (cs : List Cached) → list_any p cs ≡ false → None ≡ option_map g (cached_by p cs)
+no-pair g p [] none = refl
+no-pair g p (c ∷ cs) none = by (p c) none (no-pair g p cs)
+  where
+    by : (b : Bool) → (b || list_any p cs) ≡ false → (list_any p cs ≡ false → None ≡ option_map g (cached_by p cs))
+        → None ≡ option_map g (cond b (Some c) (cached_by p cs))
+    by true none more = cc
+    by false none more = more none
+
+-- as many uses as names
+pub no-use : (n : ℕ) (p : Cached → Bool) (cs : List Cached) (uses names : ℕ) → uses ≡ n + how_many p cs → names ≡ n → uses ≡ names
+    → list_any p cs ≡ false
+no-use n p cs uses names all named same = sym (any-count p cs) ∙ none (how_many p cs) (zero (how_many p cs) uses names all named same)
+  where
+    zero : (h uses names : ℕ) → uses ≡ n + h → names ≡ n → uses ≡ names → h ≡ 0
+    zero h uses names e f g = omega (arith, e, f, g)
+
+    none : (h : ℕ) → h ≡ 0 → nat_lt 0 h ≡ false
+    none h e = grind (arith, nat_tests, e)

@@ -17,6 +17,9 @@ impl Book {
     pub fn slot_of(&self, frame: u32) -> Option<Slot>
         ensures { result ≡ slot_of (ledger_of self.now) frame }
     {
+        if self.pages.frame_uses(frame) == self.pages.frame_names(frame) {
+            return None;
+        }
         let mut rest = self.pages.cache();
         while let [first, others @ ..] = rest {
             if frame == first.frame {
@@ -31,6 +34,9 @@ impl Book {
     pub fn frame_at(&self, slot: Slot) -> Option<u32>
         ensures { result ≡ frame_at (ledger_of self.now) slot }
     {
+        if !self.is_cached(slot) {
+            return None;
+        }
         let mut rest = self.pages.cache();
         while let [first, others @ ..] = rest {
             if slot == first.slot {

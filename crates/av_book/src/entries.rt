@@ -101,24 +101,11 @@ impl Book {
         self.pages.slot_names(slot)
     }
 
-    /// How many entries of the frame are seen.
-    fn seen(&self, frame: u32) -> u64
-        ensures { result ≡ how_many (λ e. names_seen_of frame e.1) (ledger_of self.now).entries }
-    {
-        let mut n = 0u64;
-        for entry in self.pages.entries().values() {
-            if entry.names_seen(frame) {
-                n += 1;
-            }
-        }
-        n
-    }
-
     /// Whether an entry of the frame is seen.
     pub fn is_referenced(&self, frame: u32) -> bool
         ensures { result ≡ is_referenced (ledger_of self.now) frame }
     {
-        self.seen(frame) > 0
+        self.pages.is_seen(frame)
     }
 
     /// The frame's entries are unseen. Without memory a part may be done.

@@ -1,8 +1,8 @@
 //! The entries of pages and the cached pairs, with the counts beside them.
 
-ghost use Rattle.std.specs.Prelude.{◌≡◌, ◌+◌, ◌^◌, ◌<◌, ◌==◌, List, [], ◌∷◌, IfOk, OnOk, filter, length};
-ghost use Rattle.std.specs.Prelude.{None, Some, if◌then◌else◌, map, nat_lt, not, option_map, set, ◌-◌};
-ghost use Rattle.std.specs.List.{range_with_len};
+ghost use Rattle.std.specs.Prelude.{◌≡◌, ◌+◌, ◌^◌, ◌<◌, ◌==◌, List, [], ◌∷◌, IfOk, OnErr, OnOk, filter};
+ghost use Rattle.std.specs.Prelude.{None, Some, if◌then◌else◌, length, ℕ, ◌&&◌, ◌||◌, map, nat_lt, not, option_map, set, ◌-◌};
+ghost use Rattle.std.specs.List.{list_any, range_with_len};
 ghost use Rattle.std.specs.BTreeMap.{insert_entry, is_at};
 ghost use Rattle.std.specs.List.Sorted.{IsStrictlySortedBy};
 ghost use Rattle.std.specs.Map.{keys_of, lookup, remove_entry};
@@ -11,12 +11,16 @@ ghost use Rattle.av_base.specs.Words.{how_many};
 ghost use Rattle.av_plain.specs.Ledger.{Entry as PlainEntry, names_frame, names_slot, same_slot};
 ghost use Rattle.av_book.specs.Entries.{cached_of, changed_at, changed_pair, entries_of};
 ghost use Rattle.av_book.specs.Entries.{entry_of};
-ghost use Rattle.av_book.specs.Index.{Counts};
+ghost use Rattle.av_plain.specs.Reclaim.{names_seen};
+ghost use Rattle.av_book.specs.Index.{Adds, Counts, HasRoom, Keeps, entry_marks};
+ghost use Rattle.av_book.specs.Pages.{names_in, seen_at};
+ghost use Rattle.av_index.specs.KeyIndex.{has_key};
 
 use crate::book::{Cached, Entry};
 use crate::changes::{Change, PairChange};
 use crate::index::Index;
 use av_base::Slot;
+use av_index::KeyIndex;
 use std::alloc::{AllocError, Global};
 use std::collections::BTreeMap;
 use std::marker::Model;
@@ -27,6 +31,7 @@ pub struct Pages {
     entries: BTreeMap<(u16, u64), Entry>,
     cache: Vec<Cached>,
     index: Index,
+    frame_keys: KeyIndex,
 }
 
 impl Model for Pages {
@@ -38,7 +43,7 @@ impl Model for Pages {
 
     ghost view = { λ a. record { entries = a.entries.entries; cache = a.cache.items } };
 
-    ghost invariant = { λ a. IsIndexed a.index a.entries.entries a.cache.items };
+    ghost invariant = { λ a. IsIndexed a.index a.frame_keys a.entries.entries a.cache.items };
 }
 
 impl Pages {
@@ -51,6 +56,7 @@ impl Pages {
             entries: BTreeMap::new(alloc),
             cache: Vec::new(alloc),
             index: Index::new(alloc),
+            frame_keys: KeyIndex::new(alloc),
         }
     }
 
@@ -78,6 +84,7 @@ impl Pages {
     {
         let entry = self.entries.remove(&(process, page));
         self.index.take(entry);
+        unlist(&mut self.frame_keys, (process, page), entry);
         entry
     }
 
@@ -94,7 +101,8 @@ impl Pages {
         are_few(&self.entries, self.cache.as_slice());
         let old = self.entries.insert((process, page), entry)?;
         self.index.take(old);
-        match self.index.add(entry) {
+        unlist(&mut self.frame_keys, (process, page), old);
+        match enter(&mut self.index, &mut self.frame_keys, (process, page), entry) {
             Ok(()) => Ok(()),
             Err(error) => {
                 let _ = self.entries.remove(&(process, page));
@@ -168,13 +176,32 @@ impl Pages {
             ≡ keys_of (filter (λ e. names_frame frame (entry_of e.1)) self.now.entries)) }
         ensures rising { IsStrictlySortedBy key_cmp (keys_of self.now.entries) }
     {
-        let mut keys = Vec::new(alloc);
-        for (key, entry) in self.entries.iter() {
-            if entry.names_frame(frame) {
-                keys.push(*key)?;
+        self.frame_keys.keys(alloc, u64::from(frame))
+    }
+
+    /// Whether the entry of a page names a frame and is seen.
+    fn is_seen_at(&self, key: (u16, u64), frame: u32) -> bool
+        ensures { result ≡ seen_at frame self.now.entries key }
+    {
+        match self.entries.get(&key) {
+            None => false,
+            Some(entry) => entry.names_seen(frame),
+        }
+    }
+
+    /// Whether an entry of a frame is seen.
+    pub(crate) fn is_seen(&self, frame: u32) -> bool
+        ensures { result ≡ list_any (λ e. names_seen frame e.1) (entries_of self.now.entries) }
+    {
+        let Some(keys) = self.frame_keys.of(u64::from(frame)) else {
+            return false;
+        };
+        for key in keys {
+            if self.is_seen_at(*key, frame) {
+                return true;
             }
         }
-        Ok(keys)
+        false
     }
 
     /// The entries of a frame change. Without memory a part may have changed.
@@ -263,6 +290,50 @@ impl Pages {
         }
         Ok(())
     }
+}
+
+/// A frame's key goes, if the entry named one.
+fn unlist(keys: &mut KeyIndex, key: (u16, u64), entry: Option<Entry>)
+    ensures { (f : ℕ) (k : Key) → has_key keys.new f k
+        ≡ (not (names_in f entry && same_key key k) && has_key keys.old f k) }
+{
+    if let Some(Entry::InFrame { frame, .. }) = entry {
+        keys.take(u64::from(frame), key);
+    }
+}
+
+/// A frame has the key, if the entry names one. Without memory all stays.
+fn list(keys: &mut KeyIndex, key: (u16, u64), entry: Entry) -> Result<(), AllocError>
+    ensures ok { OnOk result ((f : ℕ) (k : Key) → has_key keys.new f k
+        ≡ ((names_frame f (entry_of entry) && same_key key k) || has_key keys.old f k)) }
+    ensures err { OnErr result (keys.new ≡ keys.old) }
+{
+    match entry {
+        Entry::InFrame { frame, .. } => keys.add(u64::from(frame), key),
+        _ => Ok(()),
+    }
+}
+
+/// The entry is counted, and its key listed. Without memory all stays.
+fn enter(
+    index: &mut Index,
+    keys: &mut KeyIndex,
+    key: (u16, u64),
+    entry: Entry,
+) -> Result<(), AllocError>
+    requires { HasRoom index.old }
+    ensures counts { OnOk result (Adds index.old index.new (entry_marks (entry_of entry))) }
+    ensures keys { OnOk result ((f : ℕ) (k : Key) → has_key keys.new f k
+        ≡ ((names_frame f (entry_of entry) && same_key key k) || has_key keys.old f k)) }
+    ensures kept { OnErr result (Keeps index.old index.new) }
+    ensures same { OnErr result (keys.new ≡ keys.old) }
+{
+    index.add(entry)?;
+    let listed = list(keys, key, entry);
+    if listed.is_err() {
+        index.take(Some(entry));
+    }
+    listed
 }
 
 /// There is memory for fewer than these.

@@ -1,15 +1,15 @@
-use Rattle.std.proofs.Common.{sym, ◌∙◌}
-use Rattle.av_base.specs.Keys.{Key}
+use Rattle.std.proofs.Common.{ap, filter, ◌∙◌}
+use Rattle.std.specs.Map.{keys_of}
+use Rattle.std.proofs.lemmas.Result.{IfOk-weaker}
+use Rattle.av_index.specs.KeyIndex.{has_key}
 use Rattle.av_plain.specs.Ledger.{names_frame}
 use Rattle.av_book.specs.Entries.{entry_of}
-use Rattle.av_book.specs.declared.book.Entry.{Entry}
-use Rattle.av_book.proofs.ChangeLaws.{key-next}
+use Rattle.av_book.specs.Pages.{Content}
+use Rattle.av_book.proofs.KeyLaws.{keys-are-listed}
 use Rattle.av_book.proofs.pages.Pages.keys_of_frame.Goals as goal
 
-pub loop-key-preserved-in-Continue-1 : goal.loop-key-preserved-in-Continue-1
-loop-key-preserved-in-Continue-1 c = record {
-  can_next = tt;
-  is_finite = tt;
-  left = key-next (λ (e : Key × Entry). names_frame c.args.frame (entry_of e.1)) c.loop-key.keys.items c.push.new.self.items c.in-Some.key.now c.in-Some.entry.now
-      c.loop-key.key-iterator _ _ c.in_ok-push.ensures.items c.in-Some.ensures.steps (sym c.names_frame.ensures ∙ c.if-names_frame.true) c.loop-key.invariant.left;
-}
+pub returns-clause-keys : goal.returns-clause-keys
+returns-clause-keys c = IfOk-weaker c.keys.result _ _ (λ keys is. is
+    ∙ keys-are-listed c.args.frame c.self.inside.entries.entries _ c.self.invariant.rising c.keys.ensures.rising 
+      (λ k. ap (λ n. has_key c.self.inside.frame_keys n k) c.from.ensures ∙ c.self.invariant.listed c.args.frame k)
+    ∙ ap (λ (p : Content). keys_of (filter (λ e. names_frame c.args.frame (entry_of e.1)) p.entries)) c.self.view_is) c.keys.ensures.same

@@ -16,6 +16,7 @@ invariant_of-self c =
     (sym c.as_slice.ensures.value) c.self.invariant.counts in
     record {
       rising = c.self.invariant.rising;
+      listed = c.self.invariant.listed;
       counts = subst Is (ap (filter other) c.as_slice.ensures.value ∙ sym same) (c.drop_pairs.ensures _ counts);
     }
 
