@@ -13,7 +13,8 @@ uses_at uses n = unwrap_or (lookup (is_at (nat_cmp n)) uses) 0
 
 -- the numbers from one on and below another that are used
 abbrev pub used_within : List (ℕ × ℕ) → ℕ → ℕ → List ℕ
-used_within uses from end = filter (λ n. nat_lt 0 (uses_at uses n)) (range_with_len from (end - from))
+used_within uses from end =
+    filter (λ n. nat_lt 0 (uses_at uses n)) (range_with_len from (end - from))
 
 -- the numbers rise, and each that is there is used
 pub record AreUses (uses : List (ℕ × ℕ)) : Type 0 where

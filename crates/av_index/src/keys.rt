@@ -1,7 +1,6 @@
 //! The keys of each name.
 
-ghost use Rattle.std.specs.Prelude.{◌≡◌, ℕ, ◌&&◌, ◌||◌, ◌==◌, false, not, IfOk, OnErr, OnOk};
-ghost use Rattle.std.specs.Prelude.{[], length};
+ghost use Rattle.std.specs.Prelude.{◌≡◌, ℕ, ◌&&◌, ◌||◌, ◌==◌, false, not, [], IfOk, OnErr, OnOk};
 ghost use Rattle.std.specs.Option.{option_map_or};
 ghost use Rattle.std.specs.List.Sorted.{IsStrictlySortedBy};
 ghost use Rattle.av_base.specs.Keys.{Key, key_cmp, same_key};
@@ -91,16 +90,5 @@ impl KeyIndex {
             }
         }
         Ok(list)
-    }
-
-    /// How many keys a name has.
-    pub fn count(&self, name: u64) -> u64
-        ensures same { result ≡ length (keys_at self.now name) }
-        ensures rising { IsStrictlySortedBy key_cmp (keys_at self.now name) }
-    {
-        match self.of(name) {
-            Some(keys) => keys.len() as u64,
-            None => 0,
-        }
     }
 }

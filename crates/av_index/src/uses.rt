@@ -56,10 +56,7 @@ impl Uses {
             ≡ with_at n (uses_at self.old n + 1) (uses_at self.old) k) }
         ensures err { OnErr result (self.new ≡ self.old) }
     {
-        let count = match self.counts.get(&n) {
-            Some(count) => *count,
-            None => 0,
-        };
+        let count = self.count(n);
         self.counts.insert(n, count + 1)?;
         Ok(())
     }
