@@ -102,7 +102,12 @@ impl Pages {
         let old = self.entries.insert((process, page), entry)?;
         self.index.take(old);
         unlist(&mut self.frame_keys, (process, page), old);
-        match enter(&mut self.index, &mut self.frame_keys, (process, page), entry) {
+        match enter(
+            &mut self.index,
+            &mut self.frame_keys,
+            (process, page),
+            entry,
+        ) {
             Ok(()) => Ok(()),
             Err(error) => {
                 let _ = self.entries.remove(&(process, page));

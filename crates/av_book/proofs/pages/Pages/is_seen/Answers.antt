@@ -16,7 +16,7 @@ returns-in_default c =
     let none : [] ≡ keys_at c.self.inside.frame_keys c.from.result = c.in_default.ensures.same in
     ap (list_any (seen_at f es)) none
     ∙ seen-is f es (keys_at c.self.inside.frame_keys c.from.result) c.self.invariant.rising c.in_default.ensures.rising
-        (λ k. ap (λ n. has_key c.self.inside.frame_keys n k) c.from.ensures ∙ c.self.invariant.listed f k)
+    (λ k. ap (λ n. has_key c.self.inside.frame_keys n k) c.from.ensures ∙ c.self.invariant.listed f k)
     ∙ ap (λ (p : Content). list_any (λ (e : Key × PlainEntry). names_seen f e.1) (entries_of p.entries)) c.self.view_is
 
 pub loop-key-init : goal.loop-key-init
@@ -26,7 +26,7 @@ loop-key-init c =
     let all : c.into_iter-key-iterator.result ≡ c.in-Some.keys.now.keys = search rules in
     let seen = ap (list_any (seen_at f es)) (all ∙ c.in-Some.ensures.same)
     ∙ seen-is f es (keys_at c.self.inside.frame_keys c.from.result) c.self.invariant.rising c.in-Some.ensures.rising
-        (λ k. ap (λ n. has_key c.self.inside.frame_keys n k) c.from.ensures ∙ c.self.invariant.listed f k) in
+    (λ k. ap (λ n. has_key c.self.inside.frame_keys n k) c.from.ensures ∙ c.self.invariant.listed f k) in
     record {
       can_next = tt;
       is_finite = tt;

@@ -19,7 +19,7 @@ hold-requires c =
 pub invariant_of-self-2 : goal.invariant_of-self-2
 invariant_of-self-2 c = record {
   rising = c.self.invariant.rising;
-      listed = c.self.invariant.listed;
+  listed = c.self.invariant.listed;
   counts = pair-put _ _ _ _ c.self.inside.cache.items c.args.place c.index.result.now c.args.pair c.self.invariant.counts
       (subst (λ (p : Content). c.args.place < length p.cache) (sym c.self.view_is) c.requires) c.index.ensures c.in_ok-hold.ensures.ok c.drop_pair.ensures;
 }

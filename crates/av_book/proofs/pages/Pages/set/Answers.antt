@@ -57,7 +57,7 @@ invariant_of-self-in-Err c =
       rising = c.remove.ensures.ordered;
       listed = λ f q. names-less f k q es c.remove.new.self.entries c.in_ok-old.old _ _ c.in_ok-old.ensures.old
           (c.remove.ensures.updates.0 q ∙ ap (cond (same_key k q) None) (c.in_ok-old.ensures.updates.0 q)
-            ∙ gone-again (same_key k q) (Some c.args.entry) (lookup (is_at (key_cmp q)) es))
+          ∙ gone-again (same_key k q) (Some c.args.entry) (lookup (is_at (key_cmp q)) es))
           (c.self.invariant.listed f q) (ap (λ ks. has_key ks f q) c.in-Err.ensures.same ∙ c.unlist.ensures f q);
       counts = subst (λ es. Counts c.enter.new.index (entries_of es) cs) (sym c.remove.ensures.entries)
           (subst (λ es. Counts c.enter.new.index (entries_of (remove_entry (is_at (key_cmp k)) es)) cs) (sym c.in_ok-old.ensures.entries) left);
