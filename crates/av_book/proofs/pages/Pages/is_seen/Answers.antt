@@ -1,11 +1,11 @@
-use Rattle.std.proofs.Common.{◌≡◌, List, [], ap, rules, subst, ◌∙◌}
+use Rattle.std.proofs.Common.{◌≡◌, [], ap, rules, subst, ◌∙◌}
 use Rattle.std.specs.List.{list_any}
-use Rattle.av_base.specs.Keys.{Key, same_key}
+use Rattle.av_base.specs.Keys.{Key}
 use Rattle.av_index.specs.KeyIndex.{has_key, keys_at}
 use Rattle.av_plain.specs.Ledger.{Entry as PlainEntry}
 use Rattle.av_plain.specs.Reclaim.{names_seen}
 use Rattle.av_book.specs.Entries.{entries_of}
-use Rattle.av_book.specs.Pages.{Content, names_at, seen_at}
+use Rattle.av_book.specs.Pages.{Content, seen_at}
 use Rattle.av_book.proofs.KeyLaws.{seen-is}
 use Rattle.av_book.proofs.pages.Pages.is_seen.Goals as goal
 
