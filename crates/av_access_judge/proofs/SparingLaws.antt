@@ -47,9 +47,9 @@ locked-in w (e ∷ es) f = by e.1 (locked-in w es f)
         ∙ key-in (λ k. is_locked_page (pages w k.0 k.1)) e.0 (entry_of (InFrame g seen)) rest (f == g)
     by (InSlot s) ih = ih
 
-pub sparing-is : (w : World) (book : Book) (locked : List ℕ) → locked ≡ locked_of w book.entries.entries
+pub sparing-is : (w : World) (book : Book) (locked : List ℕ) → locked ≡ locked_of w book.pages.entries
     → (λ f. is_in f locked) ≡ is_locked w (ledger_of book)
-sparing-is w book locked is = λ i f. (ap (is_in f) is ∙ locked-in w book.entries.entries f) i
+sparing-is w book locked is = λ i f. (ap (is_in f) is ∙ locked-in w book.pages.entries f) i
 
 -- where no page is locked, no frame is of one
 pub none-locked : (w : World) (es : List (Key × Entry)) → ((p page : ℕ) → is_locked_page (pages w p page) ≡ false)

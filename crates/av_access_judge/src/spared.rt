@@ -15,13 +15,13 @@ use std::alloc::{AllocError, Global};
 /// The frames of locked pages.
 fn locked_frames(alloc: Global, book: &Book, memories: &Memories) -> Result<Vec<u32>, AllocError>
     ensures { IfOk result (λ made. (w : World) → IsWorld memories.now w
-        → made.items ≡ locked_of w book.now.entries.entries) }
+        → made.items ≡ locked_of w book.now.pages.entries) }
 {
     let mut made = Vec::new(alloc);
     if !memories.has_lock() {
         return Ok(made);
     }
-    for (key, entry) in book.entries.iter() {
+    for (key, entry) in book.entries().iter() {
         if let Entry::InFrame { frame, .. } = *entry {
             if memories.locks(key.0, key.1) {
                 made.push(frame)?;

@@ -2,6 +2,7 @@
 use Rattle.std.proofs.Common.{◌≡◌, ℕ, ◌+◌, List, [], ◌∷◌, map, filter, Bool, true, false, not, cond, ◌||◌, ◌==◌, Some, is_some, refl, ap, ◌∙◌, arith}
 use Rattle.std.specs.Prelude.{option_map}
 use Rattle.std.specs.List.{list_any}
+use Rattle.std.specs.Map.{keys_of}
 use Rattle.av_base.specs.Words.{how_many}
 use Rattle.av_base.specs.declared.slot.Slot.{Slot}
 use Rattle.av_base.specs.Keys.{Key}
@@ -12,6 +13,8 @@ use Rattle.av_plain.specs.Event.{placed_entry, without_seen}
 use Rattle.av_plain.specs.Ledger.{InFrame as PlainInFrame, InSlot as PlainInSlot}
 use Rattle.av_book.specs.Book.{cached_of, entries_of, entry_of, with_frame_at, with_slot, without_seen_of}
 use Rattle.av_book.specs.declared.book.Entry.TheVariants.{InFrame, InSlot, Zero}
+use Rattle.av_book.specs.Entries.{changed_pair, stale_at}
+use Rattle.av_book.specs.declared.changes.PairChange.TheVariants.{Stale}
 use Rattle.av_book.specs.declared.book.Cached.{Cached}
 use Rattle.av_book.specs.declared.book.Entry.{Entry}
 
@@ -95,3 +98,34 @@ all-counted p es n rest over left =
         ≡ how_many (λ (e : Key × PlainEntry). p e.1) (entries_of es)
     each [] = refl
     each (e ∷ es) = ap (λ n. cond (p (entry_of e.1)) 1 0 + n) (each es)
+
+-- ---- cached pairs that are changed
+
+pub change-pairs : (g : Cached → Cached) (h : PlainCached → PlainCached) → ((c : Cached) → cached_of (g c) ≡ h (cached_of c))
+    → (cs : List Cached) → map cached_of (map g cs) ≡ map h (map cached_of cs)
+change-pairs g h same [] = refl
+change-pairs g h same (c ∷ cs) = λ i. same c i ∷ change-pairs g h same cs i
+
+pub stale-is : (stale : Bool) (s : Slot) (c : Cached) → cached_of (changed_pair (Stale s stale) c) ≡ stale_at stale s (cached_of c)
+stale-is stale s c = by (same_slot s c.slot)
+  where
+    by : (b : Bool) → cached_of (cond b (record c { stale = stale }) c) ≡ cond b (record (cached_of c) { stale = stale }) (cached_of c)
+    by true = refl
+    by false = refl
+
+-- the keys of the entries that name a frame
+pub walk-is : (f : ℕ) (es : List (Key × Entry)) → keys_of (filter (λ (e : Key × Entry). names_frame f (entry_of e.1)) es)
+    ≡ map (λ e. e.0) (filter (λ (e : Key × PlainEntry). names_frame f e.1) (entries_of es))
+walk-is f [] = refl
+walk-is f (e ∷ es) = by (names_frame f (entry_of e.1)) (walk-is f es)
+  where
+    rest : List (Key × Entry)
+    rest = filter (λ (e : Key × Entry). names_frame f (entry_of e.1)) es
+
+    says : List (Key × PlainEntry)
+    says = filter (λ (e : Key × PlainEntry). names_frame f e.1) (entries_of es)
+
+    by : (b : Bool) → keys_of rest ≡ map (λ e. e.0) says
+        → keys_of (cond b (e ∷ rest) rest) ≡ map (λ (e : Key × PlainEntry). e.0) (cond b ((e.0, entry_of e.1) ∷ says) says)
+    by true h = ap (λ ks. e.0 ∷ ks) h
+    by false h = h

@@ -1,55 +1,14 @@
 -- The ledger that a book has.
-use Rattle.std.specs.Prelude.{ℕ, Bool, List, map, not, ◌&&◌, ◌==◌, if◌then◌else◌}
-use Rattle.av_base.specs.Words.{renamed}
-use Rattle.av_base.specs.declared.slot.Slot.{Slot}
-use Rattle.av_plain.specs.Ledger.{Entry as PlainEntry, Zero as PlainZero, InFrame as PlainInFrame}
+use Rattle.std.specs.Prelude.{ℕ, List, map, not, ◌&&◌, ◌==◌}
 use Rattle.av_base.specs.Keys.{Key}
-use Rattle.av_plain.specs.Ledger.{InSlot as PlainInSlot, Cached as PlainCached, Ledger, SwapArea}
-use Rattle.av_plain.specs.Ledger.{same_slot}
 use Rattle.av_base.specs.Words.{without}
+use Rattle.av_plain.specs.Event.{entries_where}
+use Rattle.av_plain.specs.Ledger.{Ledger, SwapArea}
 use Rattle.av_plain.specs.Swapon.{priority_of}
 use Rattle.av_book.specs.declared.book.Area.{Area}
 use Rattle.av_book.specs.declared.book.Book.{Book}
-use Rattle.av_book.specs.declared.book.Cached.{Cached}
-use Rattle.av_book.specs.declared.book.Entry.{Entry}
-use Rattle.av_book.specs.declared.book.Entry.TheVariants.{Zero, InFrame, InSlot}
-
-abbrev pub entry_of : Entry → PlainEntry
-entry_of Zero = PlainZero
-entry_of (InFrame f seen) = PlainInFrame f seen
-entry_of (InSlot s) = PlainInSlot s
-
--- the entry, unseen where it names the frame
-abbrev pub without_seen_of : ℕ → Entry → Entry
-without_seen_of f Zero = Zero
-without_seen_of f (InFrame g seen) = InFrame g (not (f == g) && seen)
-without_seen_of f (InSlot s) = InSlot s
-
--- the slot in place of the frame
-abbrev pub with_slot : ℕ → Slot → Entry → Entry
-with_slot f s Zero = Zero
-with_slot f s (InFrame g seen) = if f == g then InSlot s else InFrame g seen
-with_slot f s (InSlot t) = InSlot t
-
--- the frame at its place
-abbrev pub with_frame_at : ℕ → ℕ → Entry → Entry
-with_frame_at from to Zero = Zero
-with_frame_at from to (InFrame f seen) = InFrame (renamed from to f) seen
-with_frame_at from to (InSlot s) = InSlot s
-
-abbrev pub entries_of : List (Key × Entry) → List (Key × PlainEntry)
-entries_of es = map (λ e. (e.0, entry_of e.1)) es
-
-abbrev pub cached_of : Cached → PlainCached
-cached_of c = record { slot = c.slot; frame = c.frame; stale = c.stale }
-
--- the pair, stale or not where it is of the slot
-abbrev pub stale_at : Bool → Slot → PlainCached → PlainCached
-stale_at stale s c = if same_slot s c.slot then record c { stale = stale } else c
-
--- the pair, with the frame at its place
-abbrev pub cached_with_frame_at : ℕ → ℕ → PlainCached → PlainCached
-cached_with_frame_at from to c = record c { frame = renamed from to c.frame }
+pub use Rattle.av_book.specs.Entries.{cached_of, cached_with_frame_at, entries_of, entry_of}
+pub use Rattle.av_book.specs.Entries.{stale_at, with_frame_at, with_slot, without_seen_of}
 
 abbrev pub area_of : Area → SwapArea
 area_of a = record { slots = a.slots; bad = a.bad; priority = priority_of a.priority }
@@ -59,8 +18,8 @@ areas_of on = map (λ a. (a.0, area_of a.1)) on
 
 abbrev pub ledger_of : Book → Ledger
 ledger_of book = record {
-  entries = entries_of book.entries.entries;
-  cache = map cached_of book.cache.items;
+  entries = entries_of book.pages.entries;
+  cache = map cached_of book.pages.cache;
   flight = book.flight.items;
   active = book.active.items;
   inactive = book.inactive.items;
@@ -71,3 +30,7 @@ ledger_of book = record {
 -- the frame is in neither list
 abbrev pub in_neither : ℕ → Ledger → Ledger
 in_neither f l = record l { active = without f l.active; inactive = without f l.inactive }
+
+-- the key has no entry
+abbrev pub without_entry : Key → Ledger → Ledger
+without_entry k l = record l { entries = entries_where (λ q. not (k.0 == q.0 && k.1 == q.1)) l }

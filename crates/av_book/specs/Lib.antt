@@ -1,7 +1,11 @@
 pub mod Book
+pub mod Entries
 pub mod Filters
 pub mod Follow
+pub mod Index
 pub mod Machine
 pub mod Need
+pub mod Pages
 pub mod Shortage
+pub mod SlotUses
 pub mod Spared

@@ -1,7 +1,7 @@
 -- The setting of a machine.
 use Rattle.std.specs.Prelude.{ℕ, ◌<◌, ◌≤◌, ◌^◌, Option, Some}
 use Rattle.std.specs.Prelude.{option_map}
-use Rattle.std.specs.Prelude.{option_and_then, ◌-◌}
+use Rattle.std.specs.Prelude.{option_and_then}
 use Rattle.std.specs.List.{slice_get}
 use Rattle.av_swapdev.specs.Header.{Layout as PlainLayout}
 use Rattle.av_plain.specs.Ledger.{Setting, size_of}

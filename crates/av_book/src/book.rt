@@ -4,6 +4,7 @@ ghost use Rattle.std.specs.Prelude.{◌≡◌};
 ghost use Rattle.av_plain.specs.Ledger.{first_ledger};
 ghost use Rattle.av_book.specs.Book.{ledger_of};
 
+use crate::pages::Pages;
 use av_base::Slot;
 use std::alloc::Global;
 use std::collections::BTreeMap;
@@ -36,8 +37,7 @@ pub struct Area {
 #[derive(Drop)]
 pub struct Book {
     pub alloc: Global,
-    pub entries: BTreeMap<(u16, u64), Entry>,
-    pub cache: Vec<Cached>,
+    pub pages: Pages,
     pub flight: Vec<Slot>,
     pub active: Vec<u32>,
     pub inactive: Vec<u32>,
@@ -52,8 +52,7 @@ impl Book {
     {
         Book {
             alloc,
-            entries: BTreeMap::new(alloc),
-            cache: Vec::new(alloc),
+            pages: Pages::new(alloc),
             flight: Vec::new(alloc),
             active: Vec::new(alloc),
             inactive: Vec::new(alloc),

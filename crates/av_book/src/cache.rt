@@ -8,6 +8,7 @@ ghost use Rattle.av_plain.specs.Ledger.{is_stale, slot_of};
 ghost use Rattle.av_book.specs.Book.{cached_of, ledger_of, stale_at};
 
 use crate::book::{Book, Cached};
+use crate::changes::PairChange;
 use av_base::Slot;
 use std::alloc::{AllocError, Global};
 
@@ -16,7 +17,10 @@ impl Book {
     pub fn slot_of(&self, frame: u32) -> Option<Slot>
         ensures { result ≡ slot_of (ledger_of self.now) frame }
     {
-        let mut rest = self.cache.as_slice();
+        if self.pages.frame_uses(frame) == self.pages.frame_names(frame) {
+            return None;
+        }
+        let mut rest = self.pages.cache();
         while let [first, others @ ..] = rest {
             if frame == first.frame {
                 return Some(first.slot);
@@ -30,7 +34,10 @@ impl Book {
     pub fn frame_at(&self, slot: Slot) -> Option<u32>
         ensures { result ≡ frame_at (ledger_of self.now) slot }
     {
-        let mut rest = self.cache.as_slice();
+        if !self.is_cached(slot) {
+            return None;
+        }
+        let mut rest = self.pages.cache();
         while let [first, others @ ..] = rest {
             if slot == first.slot {
                 return Some(first.frame);
@@ -44,14 +51,14 @@ impl Book {
     pub fn is_cached(&self, slot: Slot) -> bool
         ensures { result ≡ is_cached (ledger_of self.now) slot }
     {
-        self.frame_at(slot).is_some()
+        self.pages.slot_uses(slot) > self.pages.slot_names(slot)
     }
 
     /// Whether its page changed since its last write began.
     pub fn is_stale(&self, slot: Slot) -> bool
         ensures { result ≡ is_stale (ledger_of self.now) slot }
     {
-        let mut rest = self.cache.as_slice();
+        let mut rest = self.pages.cache();
         while let [first, others @ ..] = rest {
             if slot == first.slot && first.stale {
                 return true;
@@ -79,7 +86,7 @@ impl Book {
     pub fn is_free(&self, frame: u32) -> bool
         ensures { result ≡ is_free (ledger_of self.now) frame }
     {
-        self.maps(frame) == 0 && self.slot_of(frame).is_none()
+        self.pages.frame_uses(frame) == 0
     }
 
     /// Whether the slot is cached in vain.
@@ -107,9 +114,7 @@ impl Book {
     pub fn set_stale(&mut self, stale: bool, slot: Slot) -> Result<(), AllocError>
         ensures { OnOk result (ledger_of self.new ≡ with_stale_of stale slot (ledger_of self.old)) }
     {
-        let cache = with_stale(self.alloc, self.cache.as_slice(), stale, slot)?;
-        self.cache = cache;
-        Ok(())
+        self.pages.change_pairs(PairChange::Stale { slot, stale })
     }
 
     /// The slot is cached at the frame. Without memory all stays.
@@ -117,15 +122,14 @@ impl Book {
         ensures { OnOk result (ledger_of self.new
             ≡ into_cache slot frame stale (ledger_of self.old)) }
     {
-        self.cache.insert(0, Cached { slot, frame, stale })?;
-        Ok(())
+        self.pages.into_cache(Cached { slot, frame, stale })
     }
 
     /// The slot is cached no longer.
     pub fn off_cache(&mut self, slot: Slot)
         ensures { ledger_of self.new ≡ off_cache slot (ledger_of self.old) }
     {
-        self.cache.retain(|c| slot != c.slot);
+        self.pages.off_cache(slot);
     }
 
     /// The slot is in flight no longer.
@@ -134,38 +138,4 @@ impl Book {
     {
         self.flight.retain(|other| slot != *other);
     }
-}
-
-/// A cached pair, stale or not where it is of the slot.
-fn with_stale_at(c: Cached, stale: bool, slot: Slot) -> Cached
-    ensures { cached_of result ≡ stale_at stale slot (cached_of c) }
-{
-    if slot == c.slot {
-        Cached {
-            slot: c.slot,
-            frame: c.frame,
-            stale,
-        }
-    } else {
-        c
-    }
-}
-
-/// Cached pairs, those of the slot stale or not.
-fn with_stale(
-    alloc: Global,
-    cache: &[Cached],
-    stale: bool,
-    slot: Slot,
-) -> Result<Vec<Cached>, AllocError>
-    ensures { IfOk result (λ made. map cached_of made.items
-        ≡ map (stale_at stale slot) (map cached_of cache.now)) }
-{
-    let mut made = Vec::new(alloc);
-    let mut rest = cache;
-    while let [first, others @ ..] = rest {
-        made.push(with_stale_at(*first, stale, slot))?;
-        rest = others;
-    }
-    Ok(made)
 }

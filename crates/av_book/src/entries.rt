@@ -1,16 +1,19 @@
 //! The entries of a book.
 
-ghost use Rattle.std.specs.Prelude.{◌≡◌, ◌^◌, ◌<◌, OnOk, option_map};
+ghost use Rattle.std.specs.Prelude.{◌≡◌, ◌^◌, ◌<◌, IfOk, OnOk, option_map};
 ghost use Rattle.av_base.specs.Words.{how_many};
 ghost use Rattle.av_plain.specs.Event.{change_entries, set_entry, without_seen};
 ghost use Rattle.av_plain.specs.Ledger.{InSlot as NamesSlot, entry, map_count, slot_entries};
+ghost use Rattle.av_plain.specs.Ledger.{walk};
 ghost use Rattle.av_plain.specs.Ledger.{names_frame as names_frame_of, names_slot as names_slot_of};
 ghost use Rattle.av_plain.specs.Reclaim.{is_referenced, names_seen as names_seen_of};
-ghost use Rattle.av_book.specs.Book.{entry_of, ledger_of, with_slot, without_seen_of};
+ghost use Rattle.av_book.specs.Book.{entry_of, ledger_of, without_entry};
 
 use crate::book::{Book, Entry};
+use crate::changes::Change;
 use av_base::Slot;
-use std::alloc::AllocError;
+use std::alloc::{AllocError, Global};
+use std::collections::BTreeMap;
 
 impl Entry {
     /// Whether it names the frame.
@@ -42,35 +45,6 @@ impl Entry {
             _ => false,
         }
     }
-
-    /// The entry, unseen where it names the frame.
-    fn without_seen(self, frame: u32) -> Entry
-        ensures { result ≡ without_seen_of frame self }
-    {
-        match self {
-            Entry::InFrame { frame: other, seen } => Entry::InFrame {
-                frame: other,
-                seen: frame != other && seen,
-            },
-            _ => self,
-        }
-    }
-
-    /// The slot in place of the frame.
-    fn with_slot(self, frame: u32, slot: Slot) -> Entry
-        ensures { result ≡ with_slot frame slot self }
-    {
-        match self {
-            Entry::InFrame { frame: other, seen } => {
-                if frame == other {
-                    Entry::InSlot(slot)
-                } else {
-                    Entry::InFrame { frame: other, seen }
-                }
-            }
-            _ => self,
-        }
-    }
 }
 
 impl Book {
@@ -78,7 +52,7 @@ impl Book {
     pub fn entry(&self, process: u16, page: u64) -> Option<Entry>
         ensures { option_map entry_of result ≡ entry (ledger_of self.now) (process, page) }
     {
-        self.entries.get(&(process, page)).copied()
+        self.pages.entries().get(&(process, page)).copied()
     }
 
     /// The page has this entry now. Without memory all stays.
@@ -86,21 +60,37 @@ impl Book {
         ensures { OnOk result (ledger_of self.new
             ≡ set_entry (process, page) (entry_of entry) (ledger_of self.old)) }
     {
-        self.entries.insert((process, page), entry)?;
-        Ok(())
+        self.pages.set(process, page, entry)
+    }
+
+    /// The entries, by process and page.
+    pub fn entries(&self) -> &BTreeMap<(u16, u64), Entry>
+        ensures { result.now.entries ≡ self.now.pages.entries }
+    {
+        self.pages.entries()
+    }
+
+    /// The entry of a page goes, if it has one.
+    pub fn remove(&mut self, process: u16, page: u64) -> Option<Entry>
+        ensures entry { option_map entry_of result ≡ entry (ledger_of self.old) (process, page) }
+        ensures others { ledger_of self.new
+            ≡ without_entry (process, page) (ledger_of self.old) }
+    {
+        self.pages.remove(process, page)
+    }
+
+    /// The keys of the entries that name a frame, by process and page.
+    pub fn keys_of_frame(&self, alloc: Global, frame: u32) -> Result<Vec<(u16, u64)>, AllocError>
+        ensures { IfOk result (λ keys. keys.items ≡ walk (ledger_of self.now) frame) }
+    {
+        self.pages.keys_of_frame(alloc, frame)
     }
 
     /// How many entries name the frame.
     pub fn maps(&self, frame: u32) -> u64
         ensures { result ≡ map_count (ledger_of self.now) frame }
     {
-        let mut n = 0u64;
-        for entry in self.entries.values() {
-            if entry.names_frame(frame) {
-                n += 1;
-            }
-        }
-        n
+        self.pages.frame_names(frame)
     }
 
     /// How many entries name the slot.
@@ -108,53 +98,29 @@ impl Book {
         ensures names { result ≡ slot_entries (ledger_of self.now) slot }
         ensures fits { result < 2 ^ 63 }
     {
-        let mut n = 0u64;
-        for entry in self.entries.values() {
-            if entry.names_slot(slot) {
-                n += 1;
-            }
-        }
-        n
-    }
-
-    /// How many entries of the frame are seen.
-    fn seen(&self, frame: u32) -> u64
-        ensures { result ≡ how_many (λ e. names_seen_of frame e.1) (ledger_of self.now).entries }
-    {
-        let mut n = 0u64;
-        for entry in self.entries.values() {
-            if entry.names_seen(frame) {
-                n += 1;
-            }
-        }
-        n
+        self.pages.slot_names(slot)
     }
 
     /// Whether an entry of the frame is seen.
     pub fn is_referenced(&self, frame: u32) -> bool
         ensures { result ≡ is_referenced (ledger_of self.now) frame }
     {
-        self.seen(frame) > 0
+        self.pages.is_seen(frame)
     }
 
-    /// The frame's entries are unseen.
-    pub fn unsee(&mut self, frame: u32)
-        ensures { ledger_of self.new ≡ change_entries frame without_seen (ledger_of self.old) }
+    /// The frame's entries are unseen. Without memory a part may be done.
+    pub fn unsee(&mut self, frame: u32) -> Result<(), AllocError>
+        ensures { OnOk result (ledger_of self.new
+            ≡ change_entries frame without_seen (ledger_of self.old)) }
     {
-        self.entries.retain(|_, entry| {
-            *entry = entry.without_seen(frame);
-            true
-        });
+        self.pages.change(self.alloc, frame, Change::Unseen)
     }
 
-    /// The frame's entries name the slot.
-    pub fn unmap(&mut self, frame: u32, slot: Slot)
-        ensures { ledger_of self.new
-            ≡ change_entries frame (λ _. NamesSlot slot) (ledger_of self.old) }
+    /// The frame's entries name the slot. Without memory a part may be done.
+    pub fn unmap(&mut self, frame: u32, slot: Slot) -> Result<(), AllocError>
+        ensures { OnOk result (ledger_of self.new
+            ≡ change_entries frame (λ _. NamesSlot slot) (ledger_of self.old)) }
     {
-        self.entries.retain(|_, entry| {
-            *entry = entry.with_slot(frame, slot);
-            true
-        });
+        self.pages.change(self.alloc, frame, Change::ToSlot(slot))
     }
 }

@@ -70,12 +70,14 @@ impl Book {
         self.to_inactive_head(frame)
     }
 
-    /// A frame has no entry any more.
-    fn follow_unmap(&mut self, frame: u32)
-        ensures { ledger_of self.new ≡ after_note (notes.Unmapped frame) (ledger_of self.old) }
+    /// A frame has no entry any more. Without memory a part may be done.
+    fn follow_unmap(&mut self, frame: u32) -> Result<(), AllocError>
+        ensures { OnOk result (ledger_of self.new
+            ≡ after_note (notes.Unmapped frame) (ledger_of self.old)) }
     {
-        if let Some(slot) = self.slot_of(frame) {
-            self.unmap(frame, slot);
+        match self.slot_of(frame) {
+            None => Ok(()),
+            Some(slot) => self.unmap(frame, slot),
         }
     }
 
@@ -128,7 +130,7 @@ impl Book {
         match cause {
             Cause::Writeback | Cause::WriteStarted => self.to_inactive_head(frame),
             Cause::Referenced => {
-                self.unsee(frame);
+                self.unsee(frame)?;
                 self.to_active(frame)
             }
             Cause::NoSlot | Cause::Locked | Cause::Ksm => self.to_active(frame),
@@ -140,7 +142,7 @@ impl Book {
         ensures { OnOk result (ledger_of self.new
             ≡ after_note (notes.Aged frame) (ledger_of self.old)) }
     {
-        self.unsee(frame);
+        self.unsee(frame)?;
         self.to_inactive_head(frame)
     }
 
@@ -196,10 +198,7 @@ impl Book {
             | Note::Joined { .. } => self.follow_page(note),
             Note::Loaded { slot, frame } => self.follow_load(slot, frame),
             Note::Put { frame, slot } => self.into_cache(slot, frame, true),
-            Note::Unmapped(frame) => {
-                self.follow_unmap(frame);
-                Ok(())
-            }
+            Note::Unmapped(frame) => self.follow_unmap(frame),
             Note::Started(slot) => self.follow_start(slot),
             Note::Written(slot) => self.follow_write(slot),
             Note::Failed(slot) => self.follow_failure(slot),

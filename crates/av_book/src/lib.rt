@@ -7,8 +7,8 @@
 //! Nothing asks that the ledger is sound. After want of memory a book may have followed a part of
 //! a note.
 //!
-//! Each count is a scan of all entries, as the definitions have it: exact, and slow where there
-//! are many.
+//! Counts are kept beside the entries and the cached pairs (`Pages`), by an invariant that says
+//! that they are right: how often a frame or a slot is named or used is a look-up.
 //!
 //! Only tested: nothing.
 #![tactic(auto)]
@@ -16,13 +16,17 @@
 mod book;
 mod cache;
 mod cause;
+mod changes;
 mod entries;
 mod follow;
+mod index;
 mod lists;
 mod machine;
 mod moves;
 mod need;
+mod pages;
 mod shortage;
+mod slot_uses;
 mod slots;
 mod spared;
 mod totals;
@@ -30,4 +34,5 @@ mod totals;
 pub use book::{Area, Book, Cached, Entry};
 pub use machine::{Head, Layout, Machine};
 pub use need::Need;
+pub use pages::Pages;
 pub use spared::{Spared, from_end};

@@ -18,12 +18,7 @@ impl Book {
     pub fn has_free(&self, machine: &Machine) -> bool
         ensures { result ≡ has_free (setting_of machine.now) (ledger_of self.now) }
     {
-        for frame in 0..machine.frames {
-            if self.is_free(frame) {
-                return true;
-            }
-        }
-        false
+        self.count_free(machine) > 0
     }
 
     /// The entries that name a slot, and one more where it is cached.
@@ -38,13 +33,7 @@ impl Book {
         ensures { result
             ≡ length (slots_in_use (setting_of machine.now) (ledger_of self.now) area) }
     {
-        let mut n = 0;
-        for page in 1..machine.size(area) {
-            if self.count(Slot { area, page }) > 0 {
-                n += 1;
-            }
-        }
-        n
+        self.pages.slots_used(area, machine.size(area))
     }
 
     /// How many slots of an area that is on are free.

@@ -74,10 +74,7 @@ pub fn from_end(alloc: Global, frames: &[u32]) -> Result<Vec<u32>, AllocError>
     ensures { IfOk result (λ made. made.items ≡ reverse frames.now) }
 {
     let mut made = Vec::new(alloc);
-    let mut rest = frames;
-    while let [first, others @ ..] = rest {
-        made.insert(0, *first)?;
-        rest = others;
-    }
+    made.extend_from_slice(frames)?;
+    made.as_mut_slice().reverse();
     Ok(made)
 }

@@ -13,13 +13,7 @@ impl Book {
     pub fn count_free(&self, machine: &Machine) -> u32
         ensures { result ≡ length (free_frames (setting_of machine.now) (ledger_of self.now)) }
     {
-        let mut n = 0;
-        for frame in 0..machine.frames {
-            if self.is_free(frame) {
-                n += 1;
-            }
-        }
-        n
+        machine.frames - self.pages.frames_used(machine.frames)
     }
 
     /// How many usable slots the swap areas have that are on.

@@ -1,29 +1,6 @@
--- Entries that are removed, filters, and the first of a list.
-use Rattle.std.proofs.Common.{◌≡◌, ℕ, ◌≤◌, ◌-◌, List, [], ◌∷◌, map, filter, length, take, drop, get_or, Bool, true, false, not, cond, None, refl, sym, ap, subst, ◌∙◌, arith}
+-- Filters, and the first of a list.
+use Rattle.std.proofs.Common.{◌≡◌, ℕ, ◌≤◌, ◌-◌, List, [], ◌∷◌, map, filter, length, take, drop, get_or, Bool, true, false, cond, refl, sym, ap, ◌∙◌, arith}
 use Rattle.std.proofs.lemmas.List.{take_all}
-use Rattle.std.specs.Map.{lookup, remove_entry}
-use Rattle.std.proofs.lemmas.Map.{NonePasses, none_passes_from_lookup}
-
--- ---- an entry that is removed
-
-module _ {K X : Type 0} (test : K → Bool) where
-  all-stay : (es : List (K × X)) → NonePasses test es → es ≡ filter (λ e. not (test e.0)) es
-  all-stay [] h = refl
-  all-stay (e ∷ es) h = ap (λ r. e ∷ r) (all-stay es h.1) ∙ ap (λ b. cond (not b) (e ∷ filter (λ e. not (test e.0)) es) (filter (λ e. not (test e.0)) es)) (sym h.0)
-
-  removed-all : (es : List (K × X)) → NonePasses test (remove_entry test es) → remove_entry test es ≡ filter (λ e. not (test e.0)) es
-  removed-all [] h = refl
-  removed-all (e ∷ es) h = by (removed-all es) (test e.0) h
-    where
-      by : (NonePasses test (remove_entry test es) → remove_entry test es ≡ filter (λ e. not (test e.0)) es)
-          → (b : Bool) → NonePasses test (cond b es (e ∷ remove_entry test es))
-          → cond b es (e ∷ remove_entry test es) ≡ cond (not b) (e ∷ filter (λ e. not (test e.0)) es) (filter (λ e. not (test e.0)) es)
-      by later true h = all-stay es h
-      by later false h = ap (λ r. e ∷ r) (later h.1)
-
-  -- where no entry passes any more, all that did have gone
-  pub removed-one : (es left : List (K × X)) → left ≡ remove_entry test es → lookup test left ≡ None → left ≡ filter (λ e. not (test e.0)) es
-  removed-one es left is none = is ∙ removed-all es (subst (NonePasses test) is (none_passes_from_lookup test left none))
 
 -- ---- filters
 
@@ -56,10 +33,6 @@ filter-both p q r same more (x ∷ xs) = by (filter-both p q r same more xs) (q 
     by rest true c e f = ap (λ b. cond b (x ∷ filter p (filter q xs)) (filter p (filter q xs))) (same x e ∙ f) ∙ ap (λ rs. cond c (x ∷ rs) rs) rest
     by rest false true e f = absurd (no (sym e ∙ more x f))
     by rest false false e f = rest
-
-pub filter-same : {X : Type 0} (p q : X → Bool) → ((x : X) → p x ≡ q x) → (xs : List X) → filter p xs ≡ filter q xs
-filter-same p q same [] = refl
-filter-same p q same (x ∷ xs) = λ i. cond (same x i) (x ∷ filter-same p q same xs i) (filter-same p q same xs i)
 
 -- the keys of those that stay
 module _ {K X : Type 0} (test : K → Bool) where

@@ -1,10 +1,9 @@
 -- Entries that go to other pages.
 use Rattle.std.proofs.Common.{◌≡◌, ℕ, ◌+◌, ◌-◌, ◌<◌, List, [], ◌∷◌, map, filter, Bool, true, false, cond, refl, ap, ◌∙◌, arith, length, not, ◌||◌, sym, subst}
 use Rattle.std.specs.Prelude.{◌&&◌, ◌==◌, ◌^◌}
-use Rattle.std.specs.BTreeMap.{is_at}
 use Rattle.std.specs.List.{AllByRecursion}
 use Rattle.std.proofs.lemmas.Bool.Decides.{nat_tests}
-use Rattle.av_base.specs.Keys.{Key, key_cmp}
+use Rattle.av_base.specs.Keys.{Key}
 use Rattle.av_base.specs.Words.{within}
 use Rattle.av_plain.specs.Event.{entries_where}
 use Rattle.av_plain.specs.Ledger.{Entry as PlainEntry, Ledger}
@@ -13,7 +12,6 @@ use Rattle.av_book.specs.declared.book.Entry.{Entry}
 use Rattle.av_book.proofs.BookLaws.{keys-are}
 use Rattle.av_events.specs.Remap.{is_among, without_keys}
 use Rattle.av_events.proofs.FilterLaws.{filter-both}
-use Rattle.av_events.proofs.ZapLaws.{same-key}
 
 in-bound : (p from to n : ℕ) (k : Key) → to + n < 2 ^ 64 → (k.0 == p && within from n k.1) ≡ true → k.1 - from + to < 2 ^ 64
 in-bound p from to n k fits h = grind (arith, nat_tests)
@@ -77,8 +75,8 @@ or-false : (b : Bool) → (b || false) ≡ b
 or-false true = refl
 or-false false = refl
 
-pub one-key : (k q : Key) → is_at (key_cmp k) q ≡ is_among (k ∷ []) q
-one-key k q = same-key k q ∙ sym (or-false (k.0 == q.0 && k.1 == q.1))
+pub one-key : (k q : Key) → (k.0 == q.0 && k.1 == q.1) ≡ is_among (k ∷ []) q
+one-key k q = sym (or-false (k.0 == q.0 && k.1 == q.1))
 
 -- one, and then the others
 pub without-then : (l now : Ledger) (e : Key × Entry) (es : List (Key × Entry)) → now ≡ without_keys (e.0 ∷ []) l

@@ -1,17 +1,11 @@
 -- Entries that go.
 use Rattle.std.proofs.Common.{◌≡◌, ◌<◌, List, [], ◌∷◌, ◌++◌, length, refl, sym, ap, ◌∙◌, append_assoc, append-nil, arith}
-use Rattle.std.specs.Prelude.{◌&&◌, ◌==◌}
-use Rattle.std.specs.BTreeMap.{is_at}
-use Rattle.std.proofs.lemmas.Bool.Decides.{nat_tests}
-use Rattle.av_base.specs.Keys.{Key, key_cmp}
+use Rattle.av_base.specs.Keys.{Key}
 use Rattle.av_trace.specs.declared.note.Note.{Note}
 use Rattle.av_plain.specs.Event.{after_all, notes_of}
 use Rattle.av_plain.specs.Ledger.{Ledger}
 use Rattle.av_plain.specs.Zap.{zap_of, zaps_of}
 use Rattle.av_plain.proofs.Access.{after_all-append, notes_of-append}
-
-pub same-key : (k q : Key) → is_at (key_cmp k) q ≡ (k.0 == q.0 && k.1 == q.1)
-same-key k q = grind (arith, nat_tests)
 
 -- ---- one, and then the others
 

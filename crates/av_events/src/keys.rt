@@ -49,8 +49,12 @@ pub fn entries_of(book: &Book, alloc: Global, process: u16) -> Result<Vec<Keyed>
         ≡ entries_where (λ k. k.0 == process) (ledger_of book.now)) }
 {
     match process.checked_add(1) {
-        None => of_process(alloc, book.entries.range((process, 0)..), process),
-        Some(next) => of_process(alloc, book.entries.range((process, 0)..(next, 0)), process),
+        None => of_process(alloc, book.entries().range((process, 0)..), process),
+        Some(next) => of_process(
+            alloc,
+            book.entries().range((process, 0)..(next, 0)),
+            process,
+        ),
     }
 }
 
@@ -69,7 +73,7 @@ pub fn entries_in(
     let end = from + n;
     of_process(
         alloc,
-        book.entries.range((process, from)..(process, end)),
+        book.entries().range((process, from)..(process, end)),
         process,
     )
 }

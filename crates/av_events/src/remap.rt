@@ -31,7 +31,7 @@ fn at_pages(alloc: Global, entries: &[Keyed], from: u64, to: u64) -> Result<Vec<
 fn remove(book: &mut Book, process: u16, page: u64)
     ensures { ledger_of book.new ≡ without_keys ((process, page) ∷ []) (ledger_of book.old) }
 {
-    book.entries.remove(&(process, page));
+    book.remove(process, page);
 }
 
 /// Some entries are gone.

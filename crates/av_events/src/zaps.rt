@@ -27,7 +27,7 @@ pub fn slot_behind(book: &Book, entry: Option<Entry>) -> Option<Slot>
 pub fn zap(book: &mut Book, process: u16, page: u64)
     ensures { ledger_of book.new ≡ after_zap (process, page) (ledger_of book.old) }
 {
-    let entry = book.entries.remove(&(process, page));
+    let entry = book.remove(process, page);
     book.settle_entry(entry);
 }
 

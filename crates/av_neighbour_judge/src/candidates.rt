@@ -22,7 +22,7 @@ pub fn all_keys(alloc: Global, book: &Book) -> Result<Vec<(u16, u64)>, AllocErro
     ensures { IfOk result (λ made. made.items ≡ map (λ e. e.0) (ledger_of book.now).entries) }
 {
     let mut made = Vec::new(alloc);
-    for key in book.entries.keys() {
+    for key in book.entries().keys() {
         made.push(*key)?;
     }
     Ok(made)
@@ -48,7 +48,7 @@ fn is_locked(book: &Book, memories: &Memories, frame: u32) -> bool
     ensures { (w : World) → IsWorld memories.now w
         → result ≡ is_locked_in w (ledger_of book.now) frame }
 {
-    for (key, entry) in book.entries.iter() {
+    for (key, entry) in book.entries().iter() {
         if entry.names_frame(frame) && memories.locks(key.0, key.1) {
             return true;
         }

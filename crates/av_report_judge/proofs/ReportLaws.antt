@@ -177,26 +177,3 @@ module _ (all made new : List Row) (ks others : List Key) (k : Key) (added : Boo
 -- none is left
 pub keys-all : (all made : List Row) (ks : List Key) → ks ≡ [] → AreLeft IsEntry all made (map key_row ks) → AreFilled IsEntry all true made
 keys-all all made ks none left = left-over IsEntry all made (subst (λ ks. AreLeft IsEntry all made (map key_row ks)) none left)
-
--- the keys of the entries that name a frame
-abbrev pub walk_of : ℕ → List (Key × Entry) → List Key
-walk_of f [] = []
-walk_of f (e ∷ es) = cond (names_frame f (entry_of e.1)) (e.0 ∷ walk_of f es) (walk_of f es)
-
-pub walk-says : (f : ℕ) (es : List (Key × Entry)) → walk_of f es ≡ map (λ e. e.0) (filter (λ e. names_frame f e.1) (entries_of es))
-walk-says f [] = refl
-walk-says f (e ∷ es) = by (names_frame f (entry_of e.1)) (walk-says f es)
-  where
-    by : (b : Bool) → walk_of f es ≡ map (λ e. e.0) (filter (λ e. names_frame f e.1) (entries_of es))
-        → cond b (e.0 ∷ walk_of f es) (walk_of f es)
-        ≡ map (λ e. e.0) (cond b ((e.0, entry_of e.1) ∷ filter (λ e. names_frame f e.1) (entries_of es)) (filter (λ e. names_frame f e.1) (entries_of es)))
-    by true rest = ap (λ ks. e.0 ∷ ks) rest
-    by false rest = rest
-
-pub walk-more : (f : ℕ) (old new all : List Key) (es rest : List (Key × Entry)) (key : Key) (entry : Entry) (named : Bool)
-    → es ≡ (key, entry) ∷ rest → new ≡ old ++ key ∷ [] → named ≡ names_frame f (entry_of entry) → named ≡ true
-    → old ++ walk_of f es ≡ all → new ++ walk_of f rest ≡ all
-walk-more f old new all es rest key entry named is made names e h =
-    ap (λ ks. ks ++ walk_of f rest) made ∙ append_assoc old (key ∷ []) (walk_of f rest)
-    ∙ sym (ap (λ b. old ++ cond b (key ∷ walk_of f rest) (walk_of f rest)) (sym names ∙ e))
-    ∙ sym (ap (λ es. old ++ walk_of f es) is) ∙ h

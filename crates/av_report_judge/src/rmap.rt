@@ -3,7 +3,7 @@
 ghost use Rattle.std.specs.Prelude.{◌≡◌, [], IfOk, None, map, option_map};
 ghost use Rattle.av_trace.specs.declared.command.Command.TheVariants as commands;
 ghost use Rattle.av_trace.specs.Row.{IsEntry};
-ghost use Rattle.av_plain.specs.Ledger.{Setting, walk};
+ghost use Rattle.av_plain.specs.Ledger.{Setting};
 ghost use Rattle.av_plain.specs.Refusal.{refusal, tests};
 ghost use Rattle.av_plain.specs.Report.{key_row};
 ghost use Rattle.av_plain.specs.World.{World};
@@ -44,7 +44,7 @@ fn walk_reply(book: &Book, alloc: Global, entry: Option<Entry>) -> Result<Option
     let mut reply = Reply::new(alloc);
     match entry {
         Some(Entry::InFrame { frame, .. }) => {
-            let keys = walk_keys(book, alloc, frame)?;
+            let keys = book.keys_of_frame(alloc, frame)?;
             if !add_keys(keys.as_slice(), &mut reply.rows)? {
                 return Ok(None);
             }
@@ -54,19 +54,6 @@ fn walk_reply(book: &Book, alloc: Global, entry: Option<Entry>) -> Result<Option
         _ => reply.answer = Answer::NoWalk,
     }
     Ok(Some(reply))
-}
-
-/// The keys of the entries that name a frame.
-fn walk_keys(book: &Book, alloc: Global, frame: u32) -> Result<Vec<(u16, u64)>, AllocError>
-    ensures { IfOk result (λ keys. keys.items ≡ walk (ledger_of book.now) frame) }
-{
-    let mut keys = Vec::new(alloc);
-    for (key, entry) in book.entries.iter() {
-        if entry.names_frame(frame) {
-            keys.push(*key)?;
-        }
-    }
-    Ok(keys)
 }
 
 /// Adds the rows of some keys, if each address is of 64 bits.

@@ -39,7 +39,7 @@ fn keys_of(book: &Book, alloc: Global, slot: Slot) -> Result<Vec<(u16, u64)>, Al
     ensures { IfOk result (λ made. made.items ≡ keys_of_slot (ledger_of book.now) slot) }
 {
     let mut made = Vec::new(alloc);
-    for (key, entry) in book.entries.iter() {
+    for (key, entry) in book.entries().iter() {
         if entry.names_slot(slot) {
             made.push(*key)?;
         }

@@ -9,5 +9,5 @@ invariant-loop-key l = record {
   can_next : (goal.iterator-loop-key).can_next l.key-iterator;
   is_finite : (goal.iterator-loop-key).is_finite l.key-iterator;
   left : (w : World) → IsWorld l.memories w
-      → l.made.items ++ locked_of w l.key-iterator ≡ locked_of w l.book.entries.entries;
+      → l.made.items ++ locked_of w l.key-iterator ≡ locked_of w l.book.pages.entries;
 }

@@ -5,7 +5,7 @@ use Rattle.std.proofs.lemmas.Bool.Decides.{nat_tests}
 use Rattle.av_plain.specs.Ledger.{SwapArea}
 use Rattle.av_book.specs.Book.{area_of, areas_of, cached_of, entries_of}
 use Rattle.av_book.proofs.MapLaws.{where-says}
-use Rattle.av_events.proofs.FilterLaws.{filter-same, removed-one}
+use Rattle.av_book.proofs.RemovalLaws.{filter-same, removed-one}
 use Rattle.av_events.proofs.areas.turn_off.Goals as goal
 
 other : (k q : ℕ) → not (is_at (nat_cmp k) q) ≡ not (q == k)
@@ -18,8 +18,8 @@ returns c =
     ∙ where-says nat_cmp area_of (λ q. not (is_at (nat_cmp c.args.number) q)) on
     ∙ filter-same (λ (a : ℕ × SwapArea). not (is_at (nat_cmp c.args.number) a.0)) (λ a. not (a.0 == c.args.number)) (λ a. other c.args.number a.0) (areas_of on) in
     λ i. record {
-      entries = entries_of c.args.book.now.entries.entries;
-      cache = map cached_of c.args.book.now.cache.items;
+      entries = entries_of c.args.book.now.pages.entries;
+      cache = map cached_of c.args.book.now.pages.cache;
       flight = c.args.book.now.flight.items;
       active = c.args.book.now.active.items;
       inactive = c.args.book.now.inactive.items;

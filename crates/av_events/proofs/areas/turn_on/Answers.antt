@@ -10,8 +10,8 @@ returns-clause-ok c =
     let same = ap areas_of c.in_ok-insert.ensures.entries
     ∙ put-says nat_cmp area_of c.args.book.now.on.entries c.args.number c.args.area in
     λ i. record {
-      entries = entries_of c.args.book.now.entries.entries;
-      cache = map cached_of c.args.book.now.cache.items;
+      entries = entries_of c.args.book.now.pages.entries;
+      cache = map cached_of c.args.book.now.pages.cache;
       flight = c.args.book.now.flight.items;
       active = c.args.book.now.active.items;
       inactive = c.args.book.now.inactive.items;

@@ -7,4 +7,4 @@ use Rattle.av_neighbour_judge.proofs.candidates.all_keys.Goals as goal
 pub returns : goal.returns
 returns c = sym (append-nil c.loop-key.made.items)
     ∙ ap (λ ks. c.loop-key.made.items ++ ks) (sym (rest_all deref c.loop-key.key-iterator _ c.next.result c.in-None.is c.next.ensures.steps))
-    ∙ c.loop-key.invariant.left ∙ sym (keys-are c.args.book.now.entries.entries)
+    ∙ c.loop-key.invariant.left ∙ sym (keys-are c.args.book.now.pages.entries)

@@ -8,5 +8,5 @@ abbrev pub invariant-loop-key : goal.invariant-loop-key
 invariant-loop-key l = record {
   can_next : (goal.iterator-loop-key).can_next l.key-iterator;
   is_finite : (goal.iterator-loop-key).is_finite l.key-iterator;
-  left : (w : World) → IsWorld l.memories w → locks_one w l.frame l.book.entries.entries ≡ locks_one w l.frame l.key-iterator;
+  left : (w : World) → IsWorld l.memories w → locks_one w l.frame l.book.pages.entries ≡ locks_one w l.frame l.key-iterator;
 }

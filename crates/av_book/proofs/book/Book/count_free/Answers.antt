@@ -1,22 +1,25 @@
-use Rattle.std.proofs.Common.{sym, ◌∙◌, arith}
-use Rattle.av_plain.specs.Ledger.{is_free}
+use Rattle.std.proofs.Common.{sym, arith, ◌∙◌, ◌+◌, ◌-◌}
+use Rattle.std.specs.Prelude.{nat_lt, ◌==◌}
+use Rattle.std.specs.List.{range_with_len}
+use Rattle.std.proofs.lemmas.List.FromFn.{length-range_with_len}
+use Rattle.av_base.specs.Words.{how_many}
+use Rattle.av_plain.specs.Ledger.{Cached, is_free, map_count}
 use Rattle.av_book.specs.Book.{ledger_of}
-use Rattle.av_book.proofs.RangeLaws.{used-else, used-then}
-use Rattle.av_book.proofs.book.Book.count_free.Goals.{else-is_free, then-is_free}
+use Rattle.av_book.proofs.UseLaws.{no-more, others-pass, used-is}
 use Rattle.av_book.proofs.book.Book.count_free.Goals as goal
 
-pub loop-frame-preserved : goal.loop-frame-preserved
-loop-frame-preserved c =
-    let p = is_free (ledger_of c.args.self.now) in
-    elim c.if-is_free.branch [
-      | then-is_free w ↦ record {
-        few = (let a = c.loop-frame.invariant.few in let e = w.n-is in omega (arith, a, e));
-        left = used-then p c.loop-frame.n c.if-is_free.n c.loop-frame.frame c.args.machine.now.frames _ c.loop-frame-test.true
-            (sym c.is_free.ensures ∙ w.if-is_free.true) w.n-is c.loop-frame.invariant.left;
-      }
-      | else-is_free w ↦ record {
-        few = (let a = c.loop-frame.invariant.few in let e = w.n-is in omega (arith, a, e));
-        left = used-else p c.loop-frame.n c.if-is_free.n c.loop-frame.frame c.args.machine.now.frames _ c.loop-frame-test.true
-            (sym c.is_free.ensures ∙ w.if-is_free.false) w.n-is c.loop-frame.invariant.left;
-      }
-    ]
+pub overflow_sub-result : goal.overflow_sub-result
+overflow_sub-result c =
+    let l = ledger_of c.args.self.now in
+    let frames = c.args.machine.now.frames in
+    let few = no-more (λ f. nat_lt 0 (map_count l f + how_many (λ (c : Cached). f == c.frame) l.cache)) (range_with_len 0 frames) in
+    let all = length-range_with_len 0 frames in
+    let used = c.frames_used.ensures in
+    omega (arith, few, all, used)
+
+pub returns : goal.returns
+returns c =
+    let l = ledger_of c.args.self.now in
+    let frames = c.args.machine.now.frames in
+    (λ i. (sym (length-range_with_len 0 frames) i) - (c.frames_used.ensures i))
+    ∙ others-pass (λ f. nat_lt 0 (map_count l f + how_many (λ (c : Cached). f == c.frame) l.cache)) (is_free l) (used-is l) (range_with_len 0 frames)

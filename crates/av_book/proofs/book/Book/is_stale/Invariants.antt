@@ -6,7 +6,7 @@ use Rattle.av_book.specs.Book.{cached_of}
 use Rattle.av_book.proofs.book.Book.is_stale.Given as goal
 
 abbrev pub invariant-loop-rest : goal.invariant-loop-rest
-invariant-loop-rest l = list_any (λ (c : PlainCached). same_slot l.slot c.slot && c.stale) (map cached_of l.self.cache.items)
+invariant-loop-rest l = list_any (λ (c : PlainCached). same_slot l.slot c.slot && c.stale) (map cached_of l.self.pages.cache)
     ≡ list_any (λ (c : PlainCached). same_slot l.slot c.slot && c.stale) (map cached_of l.rest)
 
 abbrev pub decreases-loop-rest : goal.decreases-loop-rest

@@ -1,5 +1,4 @@
-use Rattle.std.proofs.Common.{ap, map, not, refl, rules, ◌∙◌}
-use Rattle.std.proofs.lemmas.Fn.{filter_same}
+use Rattle.std.proofs.Common.{ap, map, not, refl, ◌∙◌}
 use Rattle.av_plain.specs.Ledger.{Cached as PlainCached, same_slot}
 use Rattle.av_book.specs.Book.{areas_of, cached_of, entries_of}
 use Rattle.av_book.specs.declared.book.Cached.{Cached}
@@ -8,11 +7,11 @@ use Rattle.av_book.proofs.book.Book.off_cache.Goals as goal
 
 pub returns : goal.returns
 returns c =
-    let same = ap (map cached_of) (filter_same _ (λ (t : Cached). not (same_slot c.args.slot t.slot)) _ (λ x b f' k. search rules) _ _ c.retain.ensures.filtered)
+    let same = ap (map cached_of) c.off_cache.ensures.cache
     ∙ filter-cached (λ (t : Cached). not (same_slot c.args.slot t.slot)) (λ (t : PlainCached). not (same_slot c.args.slot t.slot)) (λ t. refl)
-    c.args.self.now.cache.items in
+    c.args.self.now.pages.cache in
     λ i. record {
-      entries = entries_of c.args.self.now.entries.entries;
+      entries = entries_of (c.off_cache.ensures.entries i);
       cache = same i;
       flight = c.args.self.now.flight.items;
       active = c.args.self.now.active.items;

@@ -8,8 +8,8 @@ pub returns : goal.returns
 returns c =
     let same = filter_same _ (λ t. not (same_slot c.args.slot t)) _ (λ x b f' k. search rules) _ _ c.retain.ensures.filtered in
     λ i. record {
-      entries = entries_of c.args.self.now.entries.entries;
-      cache = map cached_of c.args.self.now.cache.items;
+      entries = entries_of c.args.self.now.pages.entries;
+      cache = map cached_of c.args.self.now.pages.cache;
       flight = same i;
       active = c.args.self.now.active.items;
       inactive = c.args.self.now.inactive.items;

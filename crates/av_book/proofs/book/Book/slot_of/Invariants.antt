@@ -4,7 +4,7 @@ use Rattle.av_book.specs.Book.{cached_of}
 use Rattle.av_book.proofs.book.Book.slot_of.Given as goal
 
 abbrev pub invariant-loop-rest : goal.invariant-loop-rest
-invariant-loop-rest l = cached_by (λ (c : PlainCached). l.frame == c.frame) (map cached_of l.self.cache.items)
+invariant-loop-rest l = cached_by (λ (c : PlainCached). l.frame == c.frame) (map cached_of l.self.pages.cache)
     ≡ cached_by (λ (c : PlainCached). l.frame == c.frame) (map cached_of l.rest)
 
 abbrev pub decreases-loop-rest : goal.decreases-loop-rest

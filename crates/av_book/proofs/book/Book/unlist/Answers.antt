@@ -8,8 +8,8 @@ returns c =
     let one = filter_same _ (λ g. not (c.args.frame == g)) _ (λ x b f' k. search rules) _ _ c.retain.ensures.filtered in
     let two = filter_same _ (λ g. not (c.args.frame == g)) _ (λ x b f' k. search rules) _ _ c.retain-2.ensures.filtered in
     λ i. record {
-      entries = entries_of c.args.self.now.entries.entries;
-      cache = map cached_of c.args.self.now.cache.items;
+      entries = entries_of c.args.self.now.pages.entries;
+      cache = map cached_of c.args.self.now.pages.cache;
       flight = c.args.self.now.flight.items;
       active = one i;
       inactive = two i;

@@ -1,5 +1,5 @@
-use Rattle.std.proofs.Common.{ap, cond, map, rules, ◌∙◌}
-use Rattle.std.proofs.lemmas.Map.Made.{map_same_pairs}
+use Rattle.std.proofs.Common.{ap, cond, map, ◌∙◌}
+use Rattle.std.proofs.lemmas.Result.{on_ok_weaker}
 use Rattle.av_plain.specs.Event.{without_seen}
 use Rattle.av_plain.specs.Ledger.{names_frame}
 use Rattle.av_book.specs.Book.{areas_of, cached_of, entries_of, without_seen_of}
@@ -7,16 +7,16 @@ use Rattle.av_book.proofs.BookLaws.{change-entries, unseen-is}
 use Rattle.av_book.proofs.book.Book.unsee.Goals as goal
 
 pub returns : goal.returns
-returns c =
-    let same = ap entries_of (map_same_pairs _ (without_seen_of c.args.frame) _ (λ k v b w f' t. search rules) _ _ c.retain.ensures.filtered)
-    ∙ change-entries (without_seen_of c.args.frame) (λ e. cond (names_frame c.args.frame e) (without_seen e) e) (unseen-is c.args.frame)
-    c.args.self.now.entries.entries in
+returns c = on_ok_weaker c.change.result
+    (λ changes. let same = ap entries_of changes
+    ∙ change-entries (without_seen_of c.args.frame) (λ e. cond (names_frame c.args.frame e) (without_seen e) e) (unseen-is c.args.frame) c.args.self.now.pages.entries in
     λ i. record {
       entries = same i;
-      cache = map cached_of c.args.self.now.cache.items;
+      cache = map cached_of (c.change.ensures.cache i);
       flight = c.args.self.now.flight.items;
       active = c.args.self.now.active.items;
       inactive = c.args.self.now.inactive.items;
       merged = c.args.self.now.merged.items;
       on = areas_of c.args.self.now.on.entries;
-    }
+    })
+    c.change.ensures.entries

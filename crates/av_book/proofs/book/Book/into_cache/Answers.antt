@@ -1,0 +1,17 @@
+use Rattle.std.proofs.Common.{map}
+use Rattle.std.proofs.lemmas.Result.{on_ok_weaker}
+use Rattle.av_book.specs.Book.{areas_of, cached_of, entries_of}
+use Rattle.av_book.proofs.book.Book.into_cache.Goals as goal
+
+pub returns : goal.returns
+returns c = on_ok_weaker c.into_cache.result
+    (λ more. λ i. record {
+      entries = entries_of (c.into_cache.ensures.entries i);
+      cache = map cached_of (more i);
+      flight = c.args.self.now.flight.items;
+      active = c.args.self.now.active.items;
+      inactive = c.args.self.now.inactive.items;
+      merged = c.args.self.now.merged.items;
+      on = areas_of c.args.self.now.on.entries;
+    })
+    c.into_cache.ensures.cache

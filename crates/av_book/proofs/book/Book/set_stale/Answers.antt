@@ -1,0 +1,22 @@
+use Rattle.std.proofs.Common.{ap, map, ◌∙◌}
+use Rattle.std.proofs.lemmas.Result.{on_ok_weaker}
+use Rattle.av_book.specs.Book.{areas_of, cached_of, entries_of, stale_at}
+use Rattle.av_book.specs.Entries.{changed_pair}
+use Rattle.av_book.specs.declared.changes.PairChange.TheVariants.{Stale}
+use Rattle.av_book.proofs.BookLaws.{change-pairs, stale-is}
+use Rattle.av_book.proofs.book.Book.set_stale.Goals as goal
+
+pub returns : goal.returns
+returns c = on_ok_weaker c.change_pairs.result
+    (λ changes. let same = ap (map cached_of) changes
+    ∙ change-pairs (changed_pair (Stale c.args.slot c.args.stale)) (stale_at c.args.stale c.args.slot) (stale-is c.args.stale c.args.slot) c.args.self.now.pages.cache in
+    λ i. record {
+      entries = entries_of (c.change_pairs.ensures.entries i);
+      cache = same i;
+      flight = c.args.self.now.flight.items;
+      active = c.args.self.now.active.items;
+      inactive = c.args.self.now.inactive.items;
+      merged = c.args.self.now.merged.items;
+      on = areas_of c.args.self.now.on.entries;
+    })
+    c.change_pairs.ensures.cache

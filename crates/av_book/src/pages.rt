@@ -1,0 +1,363 @@
+//! The entries of pages and the cached pairs, with the counts beside them.
+
+ghost use Rattle.std.specs.Prelude.{◌≡◌, ◌+◌, ◌^◌, ◌<◌, ◌==◌, List, [], ◌∷◌, IfOk, OnErr, OnOk, filter};
+ghost use Rattle.std.specs.Prelude.{None, Some, if◌then◌else◌, length, ℕ, ◌&&◌, ◌||◌, map, nat_lt, not, option_map, set, ◌-◌};
+ghost use Rattle.std.specs.List.{list_any, range_with_len};
+ghost use Rattle.std.specs.BTreeMap.{insert_entry, is_at};
+ghost use Rattle.std.specs.List.Sorted.{IsStrictlySortedBy};
+ghost use Rattle.std.specs.Map.{keys_of, lookup, remove_entry};
+ghost use Rattle.av_base.specs.Keys.{Key, key_cmp, same_key};
+ghost use Rattle.av_base.specs.Words.{how_many};
+ghost use Rattle.av_plain.specs.Ledger.{Entry as PlainEntry, names_frame, names_slot, same_slot};
+ghost use Rattle.av_book.specs.Entries.{cached_of, changed_at, changed_pair, entries_of};
+ghost use Rattle.av_book.specs.Entries.{entry_of};
+ghost use Rattle.av_plain.specs.Reclaim.{names_seen};
+ghost use Rattle.av_book.specs.Index.{Adds, Counts, HasRoom, Keeps, entry_marks};
+ghost use Rattle.av_book.specs.Pages.{names_in, seen_at};
+ghost use Rattle.av_index.specs.KeyIndex.{has_key};
+
+use crate::book::{Cached, Entry};
+use crate::changes::{Change, PairChange};
+use crate::index::Index;
+use av_base::Slot;
+use av_index::KeyIndex;
+use std::alloc::{AllocError, Global};
+use std::collections::BTreeMap;
+use std::marker::Model;
+
+/// Entries by process and page, cached pairs, and how often each frame and slot is named and used.
+#[derive(Drop)]
+pub struct Pages {
+    entries: BTreeMap<(u16, u64), Entry>,
+    cache: Vec<Cached>,
+    index: Index,
+    frame_keys: KeyIndex,
+}
+
+impl Model for Pages {
+    ghost use Rattle.av_book.specs.Pages.{Content};
+
+    ghost Value = { Content };
+
+    ghost use Rattle.av_book.specs.Pages.{IsIndexed};
+
+    ghost view = { λ a. record { entries = a.entries.entries; cache = a.cache.items } };
+
+    ghost invariant = { λ a. IsIndexed a.index a.frame_keys a.entries.entries a.cache.items };
+}
+
+impl Pages {
+    /// Nothing.
+    pub(crate) fn new(alloc: Global) -> Pages
+        ensures entries { result.entries ≡ [] }
+        ensures cache { result.cache ≡ [] }
+    {
+        Pages {
+            entries: BTreeMap::new(alloc),
+            cache: Vec::new(alloc),
+            index: Index::new(alloc),
+            frame_keys: KeyIndex::new(alloc),
+        }
+    }
+
+    /// The entries, by process and page.
+    pub(crate) fn entries(&self) -> &BTreeMap<(u16, u64), Entry>
+        ensures { result.now.entries ≡ self.now.entries }
+    {
+        &self.entries
+    }
+
+    /// The cached pairs.
+    pub(crate) fn cache(&self) -> &[Cached]
+        ensures { result.now ≡ self.now.cache }
+    {
+        self.cache.as_slice()
+    }
+
+    /// The entry of a page goes, if it has one.
+    pub(crate) fn remove(&mut self, process: u16, page: u64) -> Option<Entry>
+        ensures value { result ≡ lookup (is_at (key_cmp (process, page))) self.old.entries }
+        ensures entries { self.new.entries
+            ≡ remove_entry (is_at (key_cmp (process, page))) self.old.entries }
+        ensures gone { lookup (is_at (key_cmp (process, page))) self.new.entries ≡ None }
+        ensures cache { self.new.cache ≡ self.old.cache }
+    {
+        let entry = self.entries.remove(&(process, page));
+        self.index.take(entry);
+        unlist(&mut self.frame_keys, (process, page), entry);
+        entry
+    }
+
+    /// The page has this entry now. Without memory it may have lost the one that it had.
+    pub(crate) fn set(&mut self, process: u16, page: u64, entry: Entry) -> Result<(), AllocError>
+        ensures entries { OnOk result (self.new.entries
+            ≡ insert_entry key_cmp self.old.entries (process, page) entry) }
+        ensures at { OnOk result ((q : Key) → lookup (is_at (key_cmp q)) self.new.entries
+            ≡ if same_key (process, page) q then Some entry
+            else lookup (is_at (key_cmp q)) self.old.entries) }
+        ensures rising { IsStrictlySortedBy key_cmp (keys_of self.new.entries) }
+        ensures cache { self.new.cache ≡ self.old.cache }
+    {
+        are_few(&self.entries, self.cache.as_slice());
+        let old = self.entries.insert((process, page), entry)?;
+        self.index.take(old);
+        unlist(&mut self.frame_keys, (process, page), old);
+        match enter(
+            &mut self.index,
+            &mut self.frame_keys,
+            (process, page),
+            entry,
+        ) {
+            Ok(()) => Ok(()),
+            Err(error) => {
+                let _ = self.entries.remove(&(process, page));
+                Err(error)
+            }
+        }
+    }
+
+    /// How many entries name a frame.
+    pub(crate) fn frame_names(&self, frame: u32) -> u64
+        ensures { result ≡ how_many (λ e. names_frame frame e.1) (entries_of self.now.entries) }
+    {
+        self.index.frame_names.count(frame)
+    }
+
+    /// How many entries name a frame, and how many pairs cache at it.
+    pub(crate) fn frame_uses(&self, frame: u32) -> u64
+        ensures { result ≡ how_many (λ e. names_frame frame e.1) (entries_of self.now.entries)
+            + how_many (λ c. frame == c.frame) (map cached_of self.now.cache) }
+    {
+        self.index.frame_uses.count(frame)
+    }
+
+    /// How many entries name a slot.
+    pub(crate) fn slot_names(&self, slot: Slot) -> u64
+        ensures names { result
+            ≡ how_many (λ e. names_slot slot e.1) (entries_of self.now.entries) }
+        ensures fits { result < 2 ^ 63 }
+    {
+        are_few(&self.entries, self.cache.as_slice());
+        self.index.slot_names.count(slot)
+    }
+
+    /// How many entries name a slot, and how many pairs cache it.
+    pub(crate) fn slot_uses(&self, slot: Slot) -> u64
+        ensures { result ≡ how_many (λ e. names_slot slot e.1) (entries_of self.now.entries)
+            + how_many (λ c. same_slot slot c.slot) (map cached_of self.now.cache) }
+    {
+        self.index.slot_uses.count(slot)
+    }
+
+    /// How many of the first frames are used.
+    pub(crate) fn frames_used(&self, frames: u32) -> u32
+        ensures { result ≡ length (filter (λ f. nat_lt 0
+            (how_many (λ e. names_frame f e.1) (entries_of self.now.entries)
+            + how_many (λ c. f == c.frame) (map cached_of self.now.cache)))
+            (range_with_len 0 frames)) }
+    {
+        self.index.frame_uses.len_within(0, frames)
+    }
+
+    /// How many slots of an area are used, where it has so many pages.
+    pub(crate) fn slots_used(&self, area: u8, pages: u32) -> u32
+        ensures { result ≡ length (filter (λ page. nat_lt 0
+            (how_many (λ e. names_slot (record { area = area; page = page }) e.1)
+            (entries_of self.now.entries)
+            + how_many (λ c. same_slot (record { area = area; page = page }) c.slot)
+            (map cached_of self.now.cache)))
+            (range_with_len 1 (pages - 1))) }
+    {
+        self.index.slot_uses.len_within(area, 1, pages)
+    }
+
+    /// The keys of the entries that name a frame, rising.
+    pub(crate) fn keys_of_frame(
+        &self,
+        alloc: Global,
+        frame: u32,
+    ) -> Result<Vec<(u16, u64)>, AllocError>
+        ensures keys { IfOk result (λ keys. keys.items
+            ≡ keys_of (filter (λ e. names_frame frame (entry_of e.1)) self.now.entries)) }
+        ensures rising { IsStrictlySortedBy key_cmp (keys_of self.now.entries) }
+    {
+        self.frame_keys.keys(alloc, u64::from(frame))
+    }
+
+    /// Whether the entry of a page names a frame and is seen.
+    fn is_seen_at(&self, key: (u16, u64), frame: u32) -> bool
+        ensures { result ≡ seen_at frame self.now.entries key }
+    {
+        match self.entries.get(&key) {
+            None => false,
+            Some(entry) => entry.names_seen(frame),
+        }
+    }
+
+    /// Whether an entry of a frame is seen.
+    pub(crate) fn is_seen(&self, frame: u32) -> bool
+        ensures { result ≡ list_any (λ e. names_seen frame e.1) (entries_of self.now.entries) }
+    {
+        let Some(keys) = self.frame_keys.of(u64::from(frame)) else {
+            return false;
+        };
+        for key in keys {
+            if self.is_seen_at(*key, frame) {
+                return true;
+            }
+        }
+        false
+    }
+
+    /// The entries of a frame change. Without memory a part may have changed.
+    pub(crate) fn change(
+        &mut self,
+        alloc: Global,
+        frame: u32,
+        change: Change,
+    ) -> Result<(), AllocError>
+        ensures entries { OnOk result (self.new.entries
+            ≡ map (λ e. (e.0, changed_at frame change e.1)) self.old.entries) }
+        ensures cache { self.new.cache ≡ self.old.cache }
+    {
+        let keys = self.keys_of_frame(alloc, frame)?;
+        for key in keys.as_slice() {
+            self.change_at(*key, frame, change)?;
+        }
+        Ok(())
+    }
+
+    /// The entry of a page changes, if it has one that names the frame. Without memory it may have
+    /// lost it.
+    fn change_at(&mut self, key: (u16, u64), frame: u32, change: Change) -> Result<(), AllocError>
+        ensures at { OnOk result ((q : Key) → lookup (is_at (key_cmp q)) self.new.entries
+            ≡ if same_key key q
+            then option_map (changed_at frame change) (lookup (is_at (key_cmp q)) self.old.entries)
+            else lookup (is_at (key_cmp q)) self.old.entries) }
+        ensures rising { IsStrictlySortedBy key_cmp (keys_of self.old.entries)
+            → IsStrictlySortedBy key_cmp (keys_of self.new.entries) }
+        ensures cache { self.new.cache ≡ self.old.cache }
+    {
+        match self.entries().get(&key).copied() {
+            None => Ok(()),
+            Some(entry) => self.set(key.0, key.1, entry.changed_at(frame, change)),
+        }
+    }
+
+    /// One pair more is cached, before the others. Without memory all stays.
+    pub(crate) fn into_cache(&mut self, pair: Cached) -> Result<(), AllocError>
+        ensures cache { OnOk result (self.new.cache ≡ pair ∷ self.old.cache) }
+        ensures entries { self.new.entries ≡ self.old.entries }
+    {
+        are_few(&self.entries, self.cache.as_slice());
+        self.index.hold(pair)?;
+        match self.cache.insert(0, pair) {
+            Ok(()) => Ok(()),
+            Err(error) => {
+                self.index.drop_pair(pair);
+                Err(error.into())
+            }
+        }
+    }
+
+    /// The slot is cached no longer.
+    pub(crate) fn off_cache(&mut self, slot: Slot)
+        ensures cache { self.new.cache
+            ≡ filter (λ c. not (same_slot slot c.slot)) self.old.cache }
+        ensures entries { self.new.entries ≡ self.old.entries }
+    {
+        drop_pairs(&mut self.index, self.cache.as_slice(), slot);
+        self.cache.retain(|c| slot != c.slot);
+    }
+
+    /// Another pair stands at a place. Without memory all stays.
+    fn put_pair(&mut self, place: usize, pair: Cached) -> Result<(), AllocError>
+        requires { place < length self.old.cache }
+        ensures cache { OnOk result (self.new.cache ≡ set self.old.cache place pair) }
+        ensures entries { self.new.entries ≡ self.old.entries }
+    {
+        are_few(&self.entries, self.cache.as_slice());
+        self.index.hold(pair)?;
+        self.index.drop_pair(self.cache[place]);
+        self.cache[place] = pair;
+        Ok(())
+    }
+
+    /// Cached pairs change. Without memory a part may have changed.
+    pub(crate) fn change_pairs(&mut self, change: PairChange) -> Result<(), AllocError>
+        ensures cache { OnOk result (self.new.cache ≡ map (changed_pair change) self.old.cache) }
+        ensures entries { self.new.entries ≡ self.old.entries }
+    {
+        for place in 0..self.cache().len() {
+            if let Some(pair) = self.cache()[place].changed(change) {
+                self.put_pair(place, pair)?;
+            }
+        }
+        Ok(())
+    }
+}
+
+/// A frame's key goes, if the entry named one.
+fn unlist(keys: &mut KeyIndex, key: (u16, u64), entry: Option<Entry>)
+    ensures { (f : ℕ) (k : Key) → has_key keys.new f k
+        ≡ (not (names_in f entry && same_key key k) && has_key keys.old f k) }
+{
+    if let Some(Entry::InFrame { frame, .. }) = entry {
+        keys.take(u64::from(frame), key);
+    }
+}
+
+/// A frame has the key, if the entry names one. Without memory all stays.
+fn list(keys: &mut KeyIndex, key: (u16, u64), entry: Entry) -> Result<(), AllocError>
+    ensures ok { OnOk result ((f : ℕ) (k : Key) → has_key keys.new f k
+        ≡ ((names_frame f (entry_of entry) && same_key key k) || has_key keys.old f k)) }
+    ensures err { OnErr result (keys.new ≡ keys.old) }
+{
+    match entry {
+        Entry::InFrame { frame, .. } => keys.add(u64::from(frame), key),
+        _ => Ok(()),
+    }
+}
+
+/// The entry is counted, and its key listed. Without memory all stays.
+fn enter(
+    index: &mut Index,
+    keys: &mut KeyIndex,
+    key: (u16, u64),
+    entry: Entry,
+) -> Result<(), AllocError>
+    requires { HasRoom index.old }
+    ensures counts { OnOk result (Adds index.old index.new (entry_marks (entry_of entry))) }
+    ensures keys { OnOk result ((f : ℕ) (k : Key) → has_key keys.new f k
+        ≡ ((names_frame f (entry_of entry) && same_key key k) || has_key keys.old f k)) }
+    ensures kept { OnErr result (Keeps index.old index.new) }
+    ensures same { OnErr result (keys.new ≡ keys.old) }
+{
+    index.add(entry)?;
+    let listed = list(keys, key, entry);
+    if listed.is_err() {
+        index.take(Some(entry));
+    }
+    listed
+}
+
+/// There is memory for fewer than these.
+fn are_few(entries: &BTreeMap<(u16, u64), Entry>, cache: &[Cached])
+    ensures entries { length entries.now.entries < 2 ^ 63 }
+    ensures cache { length cache.now < 2 ^ 63 }
+{
+    let _ = (entries.len(), cache.len());
+}
+
+/// The pairs of a slot go.
+fn drop_pairs(index: &mut Index, cache: &[Cached], slot: Slot)
+    ensures { (es : List (Key × PlainEntry)) → Counts index.old es (map cached_of cache.now)
+        → Counts index.new es
+        (map cached_of (filter (λ c. not (same_slot slot c.slot)) cache.now)) }
+{
+    for pair in cache {
+        if slot == pair.slot {
+            index.drop_pair(*pair);
+        }
+    }
+}
