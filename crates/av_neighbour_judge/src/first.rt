@@ -1,7 +1,7 @@
 //! Which page tells what a frame holds: the first of those whose entries name it. The others have
 //! to hold the same.
 
-ghost use Rattle.std.specs.Prelude.{◌≡◌, ◌≤◌, ◌<◌, ℕ, IfOk, MatchOption, map, true};
+ghost use Rattle.std.specs.Prelude.{◌≡◌, ◌≤◌, ◌<◌, ℕ, IfOk, OnErr, MatchOption, map, true};
 ghost use Rattle.av_plain.specs.Merge.{FrameBytes, HoldClaims};
 ghost use Rattle.av_plain.specs.World.{World};
 ghost use Rattle.av_book.specs.Book.{ledger_of};
@@ -23,8 +23,9 @@ fn tells_frame(
     frame: u32,
     key: (u16, u64),
 ) -> Result<bool, AllocError>
-    ensures { IfOk result
+    ensures ok { IfOk result
         (λ same. TellsFrame memories.now pages.old frame key same pages.new) }
+    ensures err { OnErr result (pages.new.entries ≡ pages.old.entries) }
 {
     match pages.get(&frame).copied() {
         None => {

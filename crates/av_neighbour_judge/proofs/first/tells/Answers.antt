@@ -12,4 +12,4 @@ returns-else-is_none c = IfOk-weaker c.tells_frame.result _ _ (λ same told w at
     c.in-Some-InFrame.field-0-1 same at (sym c.entry.ensures ∙ ap (option_map entry_of) c.in-Some-InFrame.is
     ∙ ap (λ e. Some (entry_of e)) c.in-Some-InFrame.field-0-is)
     (marked-there (pages w c.args.key.0) c.args.key.1 c.page_marks.result c.is_none.result (c.page_marks.ensures w at) c.is_none.ensures c.if-is_none.false)
-    told) c.tells_frame.ensures
+    told) c.tells_frame.ensures.ok

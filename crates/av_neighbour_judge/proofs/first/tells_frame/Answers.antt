@@ -4,12 +4,12 @@ use Rattle.av_neighbour_judge.proofs.FirstLaws.{tells-again, tells-first}
 use Rattle.av_neighbour_judge.proofs.HeldLaws.{same-lists}
 use Rattle.av_neighbour_judge.proofs.first.tells_frame.Goals as goal
 
-pub returns-in_ok-insert-in-None : goal.returns-in_ok-insert-in-None
-returns-in_ok-insert-in-None c = tells-first c.args.memories.now c.args.pages.now _ c.args.frame c.args.key
+pub returns-in_ok-insert-in-None-clause-ok : goal.returns-in_ok-insert-in-None-clause-ok
+returns-in_ok-insert-in-None-clause-ok c = tells-first c.args.memories.now c.args.pages.now _ c.args.frame c.args.key
     (sym (c.copied.ensures ∙ c.get.ensures.value) ∙ c.in-None.is) c.in_ok-insert-in-None.ensures.updates.0
 
-pub returns-in-Some : goal.returns-in-Some
-returns-in-Some c = tells-again c.args.memories.now c.args.pages.now c.args.pages.now c.args.frame c.args.key c.in-Some.first c.same_bytes.result
+pub returns-in-Some-clause-ok : goal.returns-in-Some-clause-ok
+returns-in-Some-clause-ok c = tells-again c.args.memories.now c.args.pages.now c.args.pages.now c.args.frame c.args.key c.in-Some.first c.same_bytes.result
     (sym (c.copied.ensures ∙ c.get.ensures.value) ∙ c.in-Some.is) refl
     (c.same_bytes.ensures ∙ same-lists 4096 c.page_bytes-one.result.now c.page_bytes-other.result.now
     (bytes_of_page c.args.memories.now c.in-Some.first) (bytes_of_page c.args.memories.now c.args.key) c.page_bytes-one.ensures c.page_bytes-other.ensures)
