@@ -23,14 +23,11 @@ use crate::lengths::pages_met;
 use av_access_judge::{End, Stop, accesses};
 use av_base::PAGE_SIZE;
 use av_book::{Book, Machine};
-use av_judge::{cut, is_answer};
+use av_judge::{ADDRESS_PAGES, cut, is_answer};
 use av_text::Bytes;
 use av_trace::{Answer, Errno};
 use av_world::Memories;
 use std::alloc::{AllocError, Global};
-
-/// The first page that has no address of 64 bits.
-const NO_PAGE: u64 = 1 << 52;
 
 /// The first line of a unit, with its newline, and what is behind it.
 pub fn first_line(unit: &[u8]) -> Option<(&[u8], &[u8])>
@@ -51,7 +48,7 @@ fn turns(alloc: Global, write: bool, from: u64, n: u64) -> Result<Vec<(bool, u64
     ensures below { IfOk result (λ made. AllByRecursion (λ page. page.1 < 2 ^ 52) made.items) }
 {
     let mut made = Vec::new(alloc);
-    for page in from..(from + n).min(NO_PAGE) {
+    for page in from..(from + n).min(ADDRESS_PAGES) {
         made.push((write, page))?;
     }
     Ok(made)
@@ -64,9 +61,9 @@ fn stops_below(found: Option<End>, end: u64) -> Option<End>
 {
     match found {
         Some(End::Whole) => {
-            if end > NO_PAGE {
+            if end > ADDRESS_PAGES {
                 Some(End::Stopped {
-                    page: NO_PAGE,
+                    page: ADDRESS_PAGES,
                     stop: Stop::Denied,
                 })
             } else {

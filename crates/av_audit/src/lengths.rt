@@ -5,9 +5,7 @@ ghost use Rattle.av_base.specs.Page as bytes;
 ghost use Rattle.av_plain.specs.Refusal as refusals;
 
 use av_base::PAGE_SIZE;
-
-/// How many pages addresses of 64 bits have.
-const ADDRESS_PAGES: u64 = 1 << 52;
+use av_judge::ADDRESS_PAGES;
 
 /// A length rounded up to whole pages.
 pub fn pages_of(length: u64) -> u64

@@ -13,12 +13,9 @@ ghost use Rattle.av_swapoff_judge.specs.Users.{IsFirst};
 
 use av_base::{PAGE_SIZE, Slot};
 use av_book::{Book, Machine};
-use av_judge::{Unit, reads};
+use av_judge::{ADDRESS_PAGES, Unit, reads};
 use av_trace::Note;
 use std::alloc::{AllocError, Global};
-
-/// The first page that has no address of 64 bits.
-const NO_PAGE: u64 = 1 << 52;
 
 /// The least slot of an area in use, if one is.
 pub fn least_in_use(book: &Book, machine: &Machine, area: u8) -> Option<Slot>
@@ -59,7 +56,7 @@ fn maps(
         (λ ns. ns ≡ notes.Mapped process (address_of page) frame ∷ []) (ledger_of book.old)
         unit.old.rest.now read (ledger_of book.new) unit.new.rest.now) }
 {
-    if page >= NO_PAGE {
+    if page >= ADDRESS_PAGES {
         return Ok(false);
     }
     let address = page * PAGE_SIZE;
