@@ -8,7 +8,7 @@ ghost use Rattle.av_book.specs.Book.{ledger_of};
 use av_book::{Book, Entry};
 use std::alloc::AllocError;
 
-/// A page's frame is seen. Without memory all stays.
+/// A page's frame is seen. Without memory a part may be done.
 fn see(book: &mut Book, process: u16, page: u64, frame: u32) -> Result<(), AllocError>
     ensures { OnOk result (ledger_of book.new
         ≡ set_entry (process, page) (NamesFrame frame true) (ledger_of book.old)) }
@@ -16,7 +16,7 @@ fn see(book: &mut Book, process: u16, page: u64, frame: u32) -> Result<(), Alloc
     book.set(process, page, Entry::InFrame { frame, seen: true })
 }
 
-/// The slot at which a frame is cached is stale. Without memory all stays.
+/// The slot at which a frame is cached is stale. Without memory a part may be done.
 fn write(book: &mut Book, frame: u32) -> Result<(), AllocError>
     ensures { OnOk result (ledger_of book.new
         ≡ if_some (slot_of (ledger_of book.old) frame) (with_stale true) (ledger_of book.old)) }
