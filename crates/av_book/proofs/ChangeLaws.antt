@@ -1,5 +1,6 @@
 -- Entries that change, one key after another.
-use Rattle.std.proofs.Common.{◌≡◌, ℕ, List, [], ◌∷◌, map, filter, Bool, true, false, cond, not, Option, Some, None, refl, sym, ap, ◌∙◌, ◌++◌, append_assoc, arith}
+use Rattle.std.proofs.Common.{◌≡◌, ℕ, List, [], ◌∷◌, map, filter, Bool, true, false, cond}
+use Rattle.std.proofs.Common.{not, Option, Some, None, refl, sym, ap, ◌∙◌, ◌++◌, append_assoc, arith}
 use Rattle.std.specs.Prelude.{option_map, ◌||◌, ◌==◌, ◌&&◌}
 use Rattle.std.specs.BTreeMap.{is_at}
 use Rattle.std.specs.declared.cmp.Ordering.TheVariants.{Less}

@@ -1,6 +1,7 @@
 -- The counts beside the entries and the cached pairs stay right as these change.
 use Prim.Native.Nat.{zero}
-use Rattle.std.proofs.Common.{◌≡◌, ℕ, suc, get_or, ◌+◌, ◌-◌, ◌<◌, ◌≤◌, List, [], ◌∷◌, map, filter, Bool, true, false, cond, not, ◌++◌, Option, Some, None, length, refl, sym, ap, ◌∙◌, arith}
+use Rattle.std.proofs.Common.{◌≡◌, ℕ, suc, get_or, ◌+◌, ◌-◌, ◌<◌, ◌≤◌, List, [], ◌∷◌, map, filter, Bool}
+use Rattle.std.proofs.Common.{true, false, cond, not, ◌++◌, Option, Some, None, length, refl, sym, ap, ◌∙◌, arith}
 use Rattle.std.specs.Prelude.{option_map, unwrap_or, ◌==◌, ◌^◌, set, sum_by}
 use Rattle.std.specs.BTreeMap.{insert_entry, is_at}
 use Rattle.std.specs.List.Sorted.{IsStrictlySortedBy}
@@ -234,9 +235,11 @@ pub pair-put : (i j k : Index) (es : List (Key × PlainEntry)) (cs : List Cached
     → Takes j k (cached_marks (cached_of x)) → Counts k es (map cached_of (set cs n y))
 pair-put i j k es cs n x y is below at a t = record {
   frame_names = λ f. alone _ _ _ _ (t.frame_names f) (a.frame_names f) (is.frame_names f);
-  frame_uses = λ f. both _ _ _ _ _ _ _ _ (t.frame_uses f) (a.frame_uses f) (is.frame_uses f) (put-one cached_of (λ (c : PlainCached). f == c.frame) cs n x y below at);
+  frame_uses = λ f. both _ _ _ _ _ _ _ _ (t.frame_uses f) (a.frame_uses f) (is.frame_uses f)
+      (put-one cached_of (λ (c : PlainCached). f == c.frame) cs n x y below at);
   slot_names = λ s. alone _ _ _ _ (t.slot_names s) (a.slot_names s) (is.slot_names s);
-  slot_uses = λ s. both _ _ _ _ _ _ _ _ (t.slot_uses s) (a.slot_uses s) (is.slot_uses s) (put-one cached_of (λ (c : PlainCached). same_slot s c.slot) cs n x y below at);
+  slot_uses = λ s. both _ _ _ _ _ _ _ _ (t.slot_uses s) (a.slot_uses s) (is.slot_uses s)
+      (put-one cached_of (λ (c : PlainCached). same_slot s c.slot) cs n x y below at);
 }
   where
     alone : (a b d e : ℕ) → a ≡ b - 0 → b ≡ d + 0 → d ≡ e → a ≡ e
@@ -274,7 +277,8 @@ pub split-counts : (i : Index) (es : List (Key × PlainEntry)) (cs : List PlainC
     → Counts i es (of_slot s cs ++ off_slot s cs)
 split-counts i es cs s c = record {
   frame_names = c.frame_names;
-  frame_uses = λ f. same _ _ _ _ _ _ (c.frame_uses f) (all (λ (c : PlainCached). f == c.frame)) (more-many (λ (c : PlainCached). f == c.frame) (of_slot s cs) (off_slot s cs));
+  frame_uses = λ f. same _ _ _ _ _ _ (c.frame_uses f) (all (λ (c : PlainCached). f == c.frame))
+      (more-many (λ (c : PlainCached). f == c.frame) (of_slot s cs) (off_slot s cs));
   slot_names = c.slot_names;
   slot_uses = λ t. same _ _ _ _ _ _ (c.slot_uses t) (all (λ (c : PlainCached). same_slot t c.slot))
       (more-many (λ (c : PlainCached). same_slot t c.slot) (of_slot s cs) (off_slot s cs));

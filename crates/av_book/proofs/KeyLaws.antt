@@ -102,7 +102,8 @@ filter-rises p (e ∷ es) h = by (p e) (filter-rises p es h.1)
 -- no later entry has the key of the first
 past-first : (k : Key) (e : Key × Entry) (es : List (Key × Entry)) → IsStrictlySortedBy key_cmp (keys_of (e ∷ es)) → same_key k e.0 ≡ true
     → lookup (is_at (key_cmp k)) es ≡ None
-past-first k e es h same = lookup-none (is_at (key_cmp k)) es (none_past_head (eq_by_cmp_equiv keys_total) k e es (IsDistinct-from_sorted key_cmp (keys_of (e ∷ es)) h) same)
+past-first k e es h same = lookup-none (is_at (key_cmp k)) es
+    (none_past_head (eq_by_cmp_equiv keys_total) k e es (IsDistinct-from_sorted key_cmp (keys_of (e ∷ es)) h) same)
 
 -- a key is listed where its entry names the frame
 listed-is : (f : ℕ) (es : List (Key × Entry)) (k : Key) → IsStrictlySortedBy key_cmp (keys_of es)
@@ -155,7 +156,8 @@ module _ (f : ℕ) where
   all-there (e ∷ es) h = (ap (λ b. cond b (Some e.1) (lookup (is_at (key_cmp e.0)) es)) (same_key-itself e.0), lifted e es es h.0 (all-there es h.1))
 
   listed-seen : (all es : List (Key × Entry)) → AllByRecursion (λ g. lookup (is_at (key_cmp g.0)) all ≡ Some g.1) es
-      → list_any (seen_at f all) (keys_of (filter (λ e. names_frame f (entry_of e.1)) es)) ≡ list_any (λ (e : Key × PlainEntry). names_seen f e.1) (entries_of es)
+      → list_any (seen_at f all) (keys_of (filter (λ e. names_frame f (entry_of e.1)) es))
+      ≡ list_any (λ (e : Key × PlainEntry). names_seen f e.1) (entries_of es)
   listed-seen all [] h = refl
   listed-seen all (e ∷ es) h = by (names_frame f (entry_of e.1)) refl (listed-seen all es h.1)
     where

@@ -15,7 +15,8 @@ use Rattle.av_book.proofs.MapLaws.{where-says}
 module _ {K X : Type 0} (test : K → Bool) where
   all-stay : (es : List (K × X)) → NonePasses test es → es ≡ filter (λ e. not (test e.0)) es
   all-stay [] h = refl
-  all-stay (e ∷ es) h = ap (λ r. e ∷ r) (all-stay es h.1) ∙ ap (λ b. cond (not b) (e ∷ filter (λ e. not (test e.0)) es) (filter (λ e. not (test e.0)) es)) (sym h.0)
+  all-stay (e ∷ es) h = ap (λ r. e ∷ r) (all-stay es h.1)
+      ∙ ap (λ b. cond (not b) (e ∷ filter (λ e. not (test e.0)) es) (filter (λ e. not (test e.0)) es)) (sym h.0)
 
   removed-all : (es : List (K × X)) → NonePasses test (remove_entry test es) → remove_entry test es ≡ filter (λ e. not (test e.0)) es
   removed-all [] h = refl
@@ -44,4 +45,5 @@ pub removed-key : (es left : List (Key × Entry)) (k : Key) → left ≡ remove_
     → entries_of left ≡ where_key key_cmp (λ q. not (k.0 == q.0 && k.1 == q.1)) (entries_of es)
 removed-key es left k is gone = ap entries_of (removed-one (is_at (key_cmp k)) es left is gone)
     ∙ where-says key_cmp entry_of (λ q. not (is_at (key_cmp k) q)) es
-    ∙ filter-same (λ (e : Key × PlainEntry). not (is_at (key_cmp k) e.0)) (λ e. not (k.0 == e.0.0 && k.1 == e.0.1)) (λ e. ap not (same-key k e.0)) (entries_of es)
+    ∙ filter-same (λ (e : Key × PlainEntry). not (is_at (key_cmp k) e.0)) (λ e. not (k.0 == e.0.0 && k.1 == e.0.1))
+    (λ e. ap not (same-key k e.0)) (entries_of es)

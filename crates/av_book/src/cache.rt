@@ -110,7 +110,7 @@ impl Book {
         }
     }
 
-    /// The cached slot is stale, or is not. Without memory all stays.
+    /// The cached slot is stale, or is not. Without memory a part may be done.
     pub fn set_stale(&mut self, stale: bool, slot: Slot) -> Result<(), AllocError>
         ensures { OnOk result (ledger_of self.new ≡ with_stale_of stale slot (ledger_of self.old)) }
     {

@@ -55,7 +55,7 @@ impl Book {
         self.pages.entries().get(&(process, page)).copied()
     }
 
-    /// The page has this entry now. Without memory all stays.
+    /// The page has this entry now. Without memory it may have lost the one that it had.
     pub fn set(&mut self, process: u16, page: u64, entry: Entry) -> Result<(), AllocError>
         ensures { OnOk result (ledger_of self.new
             ≡ set_entry (process, page) (entry_of entry) (ledger_of self.old)) }

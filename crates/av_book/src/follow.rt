@@ -14,7 +14,7 @@ use av_trace::{Cause, Note};
 use std::alloc::AllocError;
 
 impl Book {
-    /// A page's entry is a frame. Without memory all stays.
+    /// A page's entry is a frame. Without memory it may have none.
     fn map(&mut self, process: u16, page: u64, frame: u32) -> Result<(), AllocError>
         ensures { OnOk result (ledger_of self.new
             ≡ set_entry (process, page) (NamesFrame frame false) (ledger_of self.old)) }

@@ -23,7 +23,7 @@ fn frames_at(alloc: Global, frames: &[u32], from: u32, to: u32) -> Result<Vec<u3
 }
 
 impl Book {
-    /// All that is said of a frame is said of another. Without memory all stays.
+    /// All that is said of a frame is said of another. Without memory a part may be done.
     pub fn replace(&mut self, from: u32, to: u32) -> Result<(), AllocError>
         ensures { OnOk result (ledger_of self.new
             ≡ with_places (renamed from to) (ledger_of self.old)) }

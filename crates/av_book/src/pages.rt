@@ -1,20 +1,20 @@
 //! The entries of pages and the cached pairs, with the counts beside them.
 
-ghost use Rattle.std.specs.Prelude.{◌≡◌, ◌+◌, ◌^◌, ◌<◌, ◌==◌, List, [], ◌∷◌, IfOk, OnErr, OnOk, filter};
-ghost use Rattle.std.specs.Prelude.{None, Some, if◌then◌else◌, length, ℕ, ◌&&◌, ◌||◌, map, nat_lt, not, option_map, set, ◌-◌};
-ghost use Rattle.std.specs.List.{list_any, range_with_len};
+ghost use Rattle.std.specs.Prelude.{◌≡◌, ◌+◌, ◌-◌, ◌^◌, ◌<◌, ◌==◌, ◌&&◌, ◌||◌, ℕ, List, [], ◌∷◌};
+ghost use Rattle.std.specs.Prelude.{IfOk, OnErr, OnOk, None, Some, if◌then◌else◌, filter, length};
+ghost use Rattle.std.specs.Prelude.{map, nat_lt, not, option_map, set};
 ghost use Rattle.std.specs.BTreeMap.{insert_entry, is_at};
+ghost use Rattle.std.specs.List.{list_any, range_with_len};
 ghost use Rattle.std.specs.List.Sorted.{IsStrictlySortedBy};
 ghost use Rattle.std.specs.Map.{keys_of, lookup, remove_entry};
 ghost use Rattle.av_base.specs.Keys.{Key, key_cmp, same_key};
 ghost use Rattle.av_base.specs.Words.{how_many};
+ghost use Rattle.av_index.specs.KeyIndex.{has_key};
 ghost use Rattle.av_plain.specs.Ledger.{Entry as PlainEntry, names_frame, names_slot, same_slot};
-ghost use Rattle.av_book.specs.Entries.{cached_of, changed_at, changed_pair, entries_of};
-ghost use Rattle.av_book.specs.Entries.{entry_of};
 ghost use Rattle.av_plain.specs.Reclaim.{names_seen};
+ghost use Rattle.av_book.specs.Entries.{cached_of, changed_at, changed_pair, entries_of, entry_of};
 ghost use Rattle.av_book.specs.Index.{Adds, Counts, HasRoom, Keeps, entry_marks};
 ghost use Rattle.av_book.specs.Pages.{names_in, seen_at};
-ghost use Rattle.av_index.specs.KeyIndex.{has_key};
 
 use crate::book::{Cached, Entry};
 use crate::changes::{Change, PairChange};

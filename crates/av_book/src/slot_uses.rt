@@ -69,8 +69,8 @@ impl SlotUses {
 
     /// How many slots of an area are used, from page `from` on and below `end`.
     pub(crate) fn len_within(&self, area: u8, from: u32, end: u32) -> u32
-        ensures { result
-            ≡ length (filter (λ n. nat_lt 0 (slot_uses_at self.now (record { area = area; page = n })))
+        ensures { result ≡ length (filter (λ n. nat_lt 0
+            (slot_uses_at self.now (record { area = area; page = n })))
             (range_with_len from (end - from))) }
     {
         match self.areas.get(&area) {

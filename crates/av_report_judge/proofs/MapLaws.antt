@@ -5,7 +5,6 @@ use Rattle.std.specs.BTreeMap.{get}
 use Rattle.std.specs.Ordering.{nat_cmp}
 use Rattle.std.specs.List.{AllByRecursion}
 use Rattle.av_text.specs.Number.{IsWide}
-use Rattle.av_trace.specs.Reply.{IsReply}
 use Rattle.av_trace.specs.Row.{IsRun}
 use Rattle.av_trace.specs.declared.reply.Reply.{Reply}
 use Rattle.av_trace.specs.declared.row.Row.{Row}

@@ -1,5 +1,5 @@
 -- Reports of the ledger leave no choice: there is one answer, and nothing else.
-use Rattle.std.proofs.Common.{◌≡◌, ℕ, Bool, true, false, cond, List, [], ◌∷◌, ◌++◌, append-nil, filter, length, map, Option, Some, None, refl, sym, ap, subst, ◌∙◌}
+use Rattle.std.proofs.Common.{◌≡◌, ℕ, Bool, true, false, cond, List, [], ◌∷◌, ◌++◌, append-nil, length, map, Option, Some, None, refl, sym, ap, subst, ◌∙◌}
 use Rattle.std.specs.List.{AllByRecursion}
 use Rattle.std.proofs.lemmas.List.{append_assoc}
 use Rattle.av_base.specs.Page.{page_of}
@@ -14,18 +14,16 @@ use Rattle.av_base.specs.Keys.{Key}
 use Rattle.av_trace.specs.Row.{IsEntry}
 use Rattle.av_trace.specs.declared.reply.Totals.{Totals}
 use Rattle.av_trace.specs.Reply.{AreTotals, Follow, IsAnswer, IsReply, answer_only}
-use Rattle.av_plain.specs.Ledger.{Entry as PlainEntry, InFrame, InSlot, Ledger, Setting, Zero, entry, is_usable, names_frame}
+use Rattle.av_plain.specs.Ledger.{Entry as PlainEntry, InFrame, InSlot, Ledger, Setting, Zero, entry, is_usable}
 use Rattle.av_plain.specs.Refusal.{refusal, tests}
 use Rattle.std.specs.Prelude.{MatchOption}
 use Rattle.av_plain.specs.Event.{Event, notes_of}
 use Rattle.av_plain.specs.Refusal.{Refuses}
 use Rattle.av_plain.specs.Step.{Follows, IsLegal}
 use Rattle.av_plain.specs.Report.{AreMaps, count_answer, entry_answer, key_row, slot_answer, totals}
-use Rattle.av_plain.specs.World.{Process, World, pages}
+use Rattle.av_plain.specs.World.{World, pages}
 use Rattle.av_command_laws.proofs.OneRuns.{one-answer}
-use Rattle.av_book.specs.Book.{entries_of, entry_of}
 use Rattle.av_book.specs.Machine.{setting_of}
-use Rattle.av_book.specs.declared.book.Entry.{Entry}
 use Rattle.av_book.specs.declared.machine.Machine.{Machine}
 use Rattle.av_judge.specs.Says.{SaysOnly, SaysReply}
 use Rattle.av_judge.specs.Verdict.{IsVerdict}

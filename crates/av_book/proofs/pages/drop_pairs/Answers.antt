@@ -17,4 +17,5 @@ returns c = λ es counts.
     let left = subst (λ (rest : List Cached). Counts c.loop-pair.index es
     (of_slot c.args.slot (map cached_of rest) ++ off_slot c.args.slot (map cached_of c.args.cache.now))) ended (c.loop-pair.invariant es counts) in
     subst (Counts c.loop-pair.index es)
-    (sym (filter-cached (λ (t : Cached). not (same_slot c.args.slot t.slot)) (λ (t : PlainCached). not (same_slot c.args.slot t.slot)) (λ t. refl) c.args.cache.now)) left
+    (sym (filter-cached (λ (t : Cached). not (same_slot c.args.slot t.slot)) (λ (t : PlainCached). not (same_slot c.args.slot t.slot))
+    (λ t. refl) c.args.cache.now)) left

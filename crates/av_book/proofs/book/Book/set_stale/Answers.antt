@@ -9,7 +9,8 @@ use Rattle.av_book.proofs.book.Book.set_stale.Goals as goal
 pub returns : goal.returns
 returns c = on_ok_weaker c.change_pairs.result
     (λ changes. let same = ap (map cached_of) changes
-    ∙ change-pairs (changed_pair (Stale c.args.slot c.args.stale)) (stale_at c.args.stale c.args.slot) (stale-is c.args.stale c.args.slot) c.args.self.now.pages.cache in
+    ∙ change-pairs (changed_pair (Stale c.args.slot c.args.stale)) (stale_at c.args.stale c.args.slot)
+    (stale-is c.args.stale c.args.slot) c.args.self.now.pages.cache in
     λ i. record {
       entries = entries_of (c.change_pairs.ensures.entries i);
       cache = same i;

@@ -8,7 +8,8 @@ use Rattle.av_book.proofs.book.Book.unmap.Goals as goal
 pub returns : goal.returns
 returns c = on_ok_weaker c.change.result
     (λ changes. let same = ap entries_of changes
-    ∙ change-entries (with_slot c.args.frame c.args.slot) (λ e. cond (names_frame c.args.frame e) (PlainInSlot c.args.slot) e) (slot-is c.args.frame c.args.slot) c.args.self.now.pages.entries in
+    ∙ change-entries (with_slot c.args.frame c.args.slot) (λ e. cond (names_frame c.args.frame e) (PlainInSlot c.args.slot) e)
+    (slot-is c.args.frame c.args.slot) c.args.self.now.pages.entries in
     λ i. record {
       entries = same i;
       cache = map cached_of (c.change.ensures.cache i);

@@ -9,7 +9,8 @@ use Rattle.av_book.proofs.book.Book.unsee.Goals as goal
 pub returns : goal.returns
 returns c = on_ok_weaker c.change.result
     (λ changes. let same = ap entries_of changes
-    ∙ change-entries (without_seen_of c.args.frame) (λ e. cond (names_frame c.args.frame e) (without_seen e) e) (unseen-is c.args.frame) c.args.self.now.pages.entries in
+    ∙ change-entries (without_seen_of c.args.frame) (λ e. cond (names_frame c.args.frame e) (without_seen e) e)
+    (unseen-is c.args.frame) c.args.self.now.pages.entries in
     λ i. record {
       entries = same i;
       cache = map cached_of (c.change.ensures.cache i);

@@ -13,4 +13,5 @@ pub returns-in-None : goal.returns-in-None
 returns-in-None c =
     let pages = range_with_len c.args.from (c.args.end - c.args.from) in
     none pages
-    ∙ ap (λ (o : Option (List (ℕ × ℕ))). length (filter (λ n. nat_lt 0 (option_map_or (λ (uses : List (ℕ × ℕ)). uses_at uses n) o 0)) pages)) c.in-None.ensures.value
+    ∙ ap (λ (o : Option (List (ℕ × ℕ))). length
+    (filter (λ n. nat_lt 0 (option_map_or (λ (uses : List (ℕ × ℕ)). uses_at uses n) o 0)) pages)) c.in-None.ensures.value
