@@ -83,6 +83,7 @@ CARRIERS = {
     "av_ports": "Ports Pending read_on read_line write_all",
     "av_replay": "run good_traces_are_done done_runs_write_their_transcript bad_lines_end_runs "
     "lines_are_done_up_to_the_most replies_are_out_before_a_read failed_writes_cut_the_last_reply",
+    "av_round_laws": "done_runs_are_found_legal",
     "avsim": "text_for exit_number Failure",
     "av_sample": "ask",
 }
