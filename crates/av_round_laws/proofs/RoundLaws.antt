@@ -145,7 +145,6 @@ module _ (frames : ℕ) (trace transcript : List ℕ) (device : Device) (run : I
   audit-ends statuses.TooLong m old new same read ends =
       audit-stops (lines_of trace) run.es transcript run.lines run.few run.did input.TooLong m old new read ends.0
   audit-ends statuses.Done m old new same read ends = tt
-  audit-ends (statuses.Unjudged n) m old new same read ends = tt
   audit-ends statuses.ReadFault m old new same read ends = tt
   audit-ends statuses.WriteFault m old new same read ends = tt
   audit-ends statuses.Memory m old new same read ends = tt

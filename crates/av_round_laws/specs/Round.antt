@@ -59,5 +59,4 @@ FindsNoneIllegal statuses.Memory transcript = Unit {0}
 FindsNoneIllegal statuses.ReadFault transcript = Unit {0}
 FindsNoneIllegal statuses.WriteFault transcript = Unit {0}
 FindsNoneIllegal statuses.TooLong transcript = most_bytes < length transcript
-FindsNoneIllegal (statuses.Unjudged number) transcript = Unit {0}
 FindsNoneIllegal status transcript = ⊥

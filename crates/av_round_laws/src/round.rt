@@ -8,8 +8,8 @@ ghost use Rattle.av_round_laws.specs.Round.{input_of};
 
 /// What a run that is done wrote is a legal transcript of its trace to an audit with as many frames
 /// over such a device: no reply is found illegal, and no line of the trace bad. So the audit says
-/// that it is legal, unless memory is wanting, a call of its source or sink fails, the transcript
-/// has more than 2^32 bytes, or a reply is that of `areas`, which isn't judged.
+/// that it is legal, unless memory is wanting, a call of its source or sink fails, or the
+/// transcript has more than 2^32 bytes.
 ///
 /// This is so where the run's source told the trace, its sink what was written, and its device the
 /// pages. The devices are compared as they are after the calls: page 0 of an area stays as it was
