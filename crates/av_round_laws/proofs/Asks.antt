@@ -1,9 +1,9 @@
 -- Words ask for one thing.
-use Rattle.std.proofs.Common.{◌≡◌, ◌∙◌, ℕ, ◌<◌, ◌^◌, refl, sym, ap, arith, List, [], ◌∷◌, ◌++◌, codes, get_or}
+use Rattle.std.proofs.Common.{◌≡◌, ◌∙◌, ℕ, ◌<◌, ◌^◌, refl, sym, ap, arith, List, [], codes, get_or}
 use Rattle.std.specs.Fmt.{decimal}
 use Rattle.std.proofs.lemmas.Option.{same_Some}
 use Rattle.av_trace.proofs.PlainWords.{number-named, number_of}
-use Rattle.av_words.specs.Words.{IsForm, words_of}
+use Rattle.av_words.specs.Words.{IsForm}
 use Rattle.av_words.specs.declared.words.Asked.{Asked}
 use Rattle.av_words.specs.declared.words.Asked.TheVariants as asked
 use Rattle.av_words.proofs.Places.{other_verb}

@@ -1,5 +1,5 @@
 -- A run, and an audit of what it wrote, from the words on.
-use Rattle.std.proofs.Common.{◌≡◌, ◌∙◌, ℕ, zero, suc, ◌<◌, ◌≤◌, ◌^◌, true, false, refl, sym}
+use Rattle.std.proofs.Common.{◌≡◌, ◌∙◌, ℕ, zero, suc, ◌<◌, ◌≤◌, ◌^◌, true, false, sym}
 use Rattle.std.proofs.Common.{ap, subst, arith, List, [], ◌∷◌, ◌++◌, length, Option, Some, None, inl, inr}
 use Rattle.std.specs.Prelude.{IfSome, is_some, option_map, slice_get}
 use Rattle.std.specs.List.{AllByRecursion}
@@ -9,7 +9,7 @@ use Rattle.std.proofs.lemmas.Option.{same_Some}
 use Rattle.av_text.specs.Number.{IsWide}
 use Rattle.av_plain.specs.Device.{Device, setting_of}
 use Rattle.av_plain.specs.Ledger.{Setting}
-use Rattle.av_plain.specs.Transcript.{Exchange, text_of_run}
+use Rattle.av_plain.specs.Transcript.{Exchange}
 use Rattle.av_kernel.specs.Machine.{Machine}
 use Rattle.av_machine.specs.Heads.{IsSettingOf}
 use Rattle.av_mem.proofs.ServesLaws.{same-setting}
@@ -21,10 +21,9 @@ use Rattle.av_audit_input.specs.Unit.{units_of}
 use Rattle.av_audit_input.specs.declared.input_err.InputErr.TheVariants as input
 use Rattle.av_audit_run.specs.Transcript.{AreLegal}
 use Rattle.av_words.specs.declared.words.Asked.{Asked}
-use Rattle.av_words.specs.declared.words.Asked.TheVariants as asked
-use Rattle.av_replay.specs.Audit.{DoesAudit, EndsAudit}
+use Rattle.av_replay.specs.Audit.{EndsAudit}
 use Rattle.av_replay.specs.Over.{AuditsOver, DoesOver, ReplaysOver}
-use Rattle.av_replay.specs.Replay.{Transcribes, done_lines}
+use Rattle.av_replay.specs.Replay.{Transcribes}
 use Rattle.av_replay.specs.TopCall.{DoesAsked}
 use Rattle.av_replay.specs.Trace.{lines_of}
 use Rattle.av_replay.specs.declared.status.Status.{Status}
