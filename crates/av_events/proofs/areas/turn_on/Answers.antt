@@ -24,8 +24,8 @@ returns-in_err-insert-clause-err c =
     let same = ap areas_of c.in_err-insert.ensures.err in
     MatchResult-from_err c.from_residual.result (λ _. Unit {0}) _ c.from_residual.ensures.0
     (λ _ i. record {
-      entries = entries_of c.args.book.now.entries.entries;
-      cache = map cached_of c.args.book.now.cache.items;
+      entries = entries_of c.args.book.now.pages.entries;
+      cache = map cached_of c.args.book.now.pages.cache;
       flight = c.args.book.now.flight.items;
       active = c.args.book.now.active.items;
       inactive = c.args.book.now.inactive.items;
