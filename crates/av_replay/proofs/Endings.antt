@@ -538,7 +538,8 @@ module _ (n : ℕ) (old now : PortsView) (kernel : Machine) (sink : SinkView) wh
   replayed statuses.Done last (inl f) h was memory so none =
       named statuses.Done last f.0 (served was so statuses.Done f.1 h h.ends (unfailed was so f.1) (handed_on old now sink so f.1))
   replayed statuses.Done last (inr f) h was memory so none =
-      named statuses.WriteFault last f.0 (unflushed was so statuses.Done h.run h.rest h.written h.replays (only_told h.told (λ e. cc)) h.handed_back h.ends.0 h.ends.1 f.1)
+      named statuses.WriteFault last f.0 (unflushed was so statuses.Done h.run h.rest h.written h.replays
+      (only_told h.told (λ e. cc)) h.handed_back h.ends.0 h.ends.1 f.1)
   replayed (statuses.BadLine number) last (inl f) h was memory so none = named (statuses.BadLine number) last f.0
       (served was so (statuses.BadLine number) f.1 h h.ends (unfailed was so f.1) (handed_on old now sink so f.1))
   replayed (statuses.BadLine number) last (inr f) h was memory so none =
@@ -547,7 +548,8 @@ module _ (n : ℕ) (old now : PortsView) (kernel : Machine) (sink : SinkView) wh
   replayed statuses.TooMany last (inl f) h was memory so none =
       named statuses.TooMany last f.0 (served was so statuses.TooMany f.1 h h.ends (unfailed was so f.1) (handed_on old now sink so f.1))
   replayed statuses.TooMany last (inr f) h was memory so none =
-      named statuses.WriteFault last f.0 (unflushed was so statuses.TooMany h.run h.rest h.written h.replays (only_told h.told (λ e. cc)) h.handed_back h.ends.0 h.ends.1 f.1)
+      named statuses.WriteFault last f.0 (unflushed was so statuses.TooMany h.run h.rest h.written h.replays
+      (only_told h.told (λ e. cc)) h.handed_back h.ends.0 h.ends.1 f.1)
   replayed statuses.Usage last f h was memory so none = absurd h.ends.0
   replayed statuses.AttachFault last f h was memory so none = absurd h.ends.0
   replayed (statuses.Illegal number) last f h was memory so none = absurd h.ends.0

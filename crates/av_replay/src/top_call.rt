@@ -63,6 +63,13 @@ fn refuse_words(error: WordsErr) -> Outcome
 /// what failed is what the status tells of; and that no text was kept back while a read was waited
 /// for, nor is in the end, unless the sink failed, or memory was wanting before its first call, or
 /// for the words.
+///
+/// The other clauses: for a load nothing is read (`unread`). Bad words, and they alone, are a usage
+/// error, unless memory was wanting for them (`usage`); then nothing is attached, read or written
+/// (`nothing`). An area can't be attached only where the device failed, or, for an audit, its page
+/// 0 can't be read (`fault`); then those are attached whose names stand before the first that
+/// failed (`fewer`). A kernel is handed back exactly where there is one to go on with (`kernel`),
+/// and none after an audit (`none`).
 pub fn run<S: Source, K: Sink, D: SwapDev, P: Progress>(
     alloc: Global,
     words: &[String],
@@ -76,16 +83,10 @@ pub fn run<S: Source, K: Sink, D: SwapDev, P: Progress>(
         result.status ≢ Status.Usage → result.status ≢ Status.AttachFault
         → DoesAsked (map string_bytes words.now) result.status
         (at source.old sink.old dev.old) (at source.new sink.new dev.new) result.kernel }
-    // For a load nothing is read.
     ensures unread { AskForLoad (map string_bytes words.now) → source.new ≡ source.old }
-    // Bad words, and they alone, are a usage error, unless memory was wanting for them; and then
-    // nothing is attached, read or written.
     ensures usage { RefusesWords result.status (map string_bytes words.now) }
     ensures nothing { result.status ≡ Status.Usage
         → (source.new ≡ source.old) × (sink.new ≡ sink.old) × (dev.new ≡ dev.old) }
-    // An area can't be attached only where the device failed; then those are whose names stand
-    // before the first that failed, and nothing is read or written. An audit ends so, too, where
-    // page 0 of an area can't be read.
     ensures fault { result.status ≡ Status.AttachFault →
         Rose (D.failures dev.old) (D.failures dev.new)
         × (source.new ≡ source.old) × (sink.new ≡ sink.old) }
@@ -93,7 +94,6 @@ pub fn run<S: Source, K: Sink, D: SwapDev, P: Progress>(
         → AttachesFewerAsked (map string_bytes words.now)
         (seen_by D.sizes D.pages D.failures D.history dev.old)
         (seen_by D.sizes D.pages D.failures D.history dev.new) }
-    // A kernel is handed back exactly where there is one to go on with, and none after an audit.
     ensures kernel { (AskForAudit (map string_bytes words.now) → ⊥)
         → is_some result.kernel ≡ can_go_on result.status }
     ensures none { AskForAudit (map string_bytes words.now) → result.kernel ≡ None }

@@ -21,7 +21,10 @@ returns-in-Run-clause-usage g c =
     let names = map (λ name. name.now) c.deref.result.now in
     let form = form-of (map string_bytes c.args.words.now) _ (asked.Run c.in-Run.frames) _ c.deref.result.now c.in-Run.is c.deref.ensures.value
     c.in-Ok.ensures.found in
-    record { only = λ usage. absurd (c.run_over.ensures.begun usage); always = λ memory none. absurd (none (asked.Run c.in-Run.frames) names form) }
+    record {
+      only = λ usage. absurd (c.run_over.ensures.begun usage);
+      always = λ memory none. absurd (none (asked.Run c.in-Run.frames) names form);
+    }
 
 pub returns-in-Run-clause-nothing : goal.returns-in-Run-clause-nothing
 returns-in-Run-clause-nothing g c =
@@ -59,16 +62,21 @@ returns-in-Run-clause-unread g c =
 pub returns-in-Work-clause-does : goal.returns-in-Work-clause-does
 returns-in-Work-clause-does g c =
     let names = map (λ name. name.now) c.deref-in-Work.result.now in
-    let form = form-of (map string_bytes c.args.words.now) _ (asked.Work c.in-Work.seed c.in-Work.lines c.in-Work.frames) _ c.deref-in-Work.result.now c.in-Work.is c.deref-in-Work.ensures.value
-    c.in-Ok.ensures.found in
+    let form = form-of (map string_bytes c.args.words.now) _
+    (asked.Work c.in-Work.seed c.in-Work.lines c.in-Work.frames) _ c.deref-in-Work.result.now c.in-Work.is
+    c.deref-in-Work.ensures.value c.in-Ok.ensures.found in
     λ usage other. inr (asked.Work c.in-Work.seed c.in-Work.lines c.in-Work.frames, names, form, (refl, c.work_over.ensures.worked other))
 
 pub returns-in-Work-clause-usage : goal.returns-in-Work-clause-usage
 returns-in-Work-clause-usage g c =
     let names = map (λ name. name.now) c.deref-in-Work.result.now in
-    let form = form-of (map string_bytes c.args.words.now) _ (asked.Work c.in-Work.seed c.in-Work.lines c.in-Work.frames) _ c.deref-in-Work.result.now c.in-Work.is c.deref-in-Work.ensures.value
-    c.in-Ok.ensures.found in
-    record { only = λ usage. absurd (c.work_over.ensures.begun usage); always = λ memory none. absurd (none (asked.Work c.in-Work.seed c.in-Work.lines c.in-Work.frames) names form) }
+    let form = form-of (map string_bytes c.args.words.now) _
+    (asked.Work c.in-Work.seed c.in-Work.lines c.in-Work.frames) _ c.deref-in-Work.result.now c.in-Work.is
+    c.deref-in-Work.ensures.value c.in-Ok.ensures.found in
+    record {
+      only = λ usage. absurd (c.work_over.ensures.begun usage);
+      always = λ memory none. absurd (none (asked.Work c.in-Work.seed c.in-Work.lines c.in-Work.frames) names form);
+    }
 
 pub returns-in-Work-clause-nothing : goal.returns-in-Work-clause-nothing
 returns-in-Work-clause-nothing g c =
@@ -81,8 +89,9 @@ returns-in-Work-clause-fault g c =
 pub returns-in-Work-clause-fewer : goal.returns-in-Work-clause-fewer
 returns-in-Work-clause-fewer g c =
     let names = map (λ name. name.now) c.deref-in-Work.result.now in
-    let form = form-of (map string_bytes c.args.words.now) _ (asked.Work c.in-Work.seed c.in-Work.lines c.in-Work.frames) _ c.deref-in-Work.result.now c.in-Work.is c.deref-in-Work.ensures.value
-    c.in-Ok.ensures.found in
+    let form = form-of (map string_bytes c.args.words.now) _
+    (asked.Work c.in-Work.seed c.in-Work.lines c.in-Work.frames) _ c.deref-in-Work.result.now c.in-Work.is
+    c.deref-in-Work.ensures.value c.in-Ok.ensures.found in
     λ fault. (asked.Work c.in-Work.seed c.in-Work.lines c.in-Work.frames, names, form, inl (c.work_over.ensures.fewer fault))
 
 pub returns-in-Work-clause-kernel : goal.returns-in-Work-clause-kernel
@@ -92,8 +101,9 @@ returns-in-Work-clause-kernel g c =
 pub returns-in-Work-clause-none : goal.returns-in-Work-clause-none
 returns-in-Work-clause-none g c =
     let names = map (λ name. name.now) c.deref-in-Work.result.now in
-    let form = form-of (map string_bytes c.args.words.now) _ (asked.Work c.in-Work.seed c.in-Work.lines c.in-Work.frames) _ c.deref-in-Work.result.now c.in-Work.is c.deref-in-Work.ensures.value
-    c.in-Ok.ensures.found in
+    let form = form-of (map string_bytes c.args.words.now) _
+    (asked.Work c.in-Work.seed c.in-Work.lines c.in-Work.frames) _ c.deref-in-Work.result.now c.in-Work.is
+    c.deref-in-Work.ensures.value c.in-Ok.ensures.found in
     λ asks. absurd (load-no-audit (map string_bytes c.args.words.now) c.in-Work.seed c.in-Work.lines c.in-Work.frames names form asks)
 
 pub returns-in-Work-clause-unread : goal.returns-in-Work-clause-unread
@@ -103,16 +113,19 @@ returns-in-Work-clause-unread g c =
 pub returns-clause-does : goal.returns-clause-does
 returns-clause-does g c =
     let names = map (λ name. name.now) c.deref-in-Audit.result.now in
-    let form = form-of (map string_bytes c.args.words.now) _ (asked.Audit c.in-Audit.frames) _ c.deref-in-Audit.result.now c.in-Audit.is c.deref-in-Audit.ensures.value
-    c.in-Ok.ensures.found in
+    let form = form-of (map string_bytes c.args.words.now) _ (asked.Audit c.in-Audit.frames) _
+    c.deref-in-Audit.result.now c.in-Audit.is c.deref-in-Audit.ensures.value c.in-Ok.ensures.found in
     λ usage other. inr (asked.Audit c.in-Audit.frames, names, form, (c.audit_over.ensures.kernel, c.audit_over.ensures.audited other))
 
 pub returns-clause-usage : goal.returns-clause-usage
 returns-clause-usage g c =
     let names = map (λ name. name.now) c.deref-in-Audit.result.now in
-    let form = form-of (map string_bytes c.args.words.now) _ (asked.Audit c.in-Audit.frames) _ c.deref-in-Audit.result.now c.in-Audit.is c.deref-in-Audit.ensures.value
-    c.in-Ok.ensures.found in
-    record { only = λ usage. absurd (c.audit_over.ensures.begun usage); always = λ memory none. absurd (none (asked.Audit c.in-Audit.frames) names form) }
+    let form = form-of (map string_bytes c.args.words.now) _ (asked.Audit c.in-Audit.frames) _
+    c.deref-in-Audit.result.now c.in-Audit.is c.deref-in-Audit.ensures.value c.in-Ok.ensures.found in
+    record {
+      only = λ usage. absurd (c.audit_over.ensures.begun usage);
+      always = λ memory none. absurd (none (asked.Audit c.in-Audit.frames) names form);
+    }
 
 pub returns-clause-nothing : goal.returns-clause-nothing
 returns-clause-nothing g c =
@@ -125,8 +138,8 @@ returns-clause-fault g c =
 pub returns-clause-fewer : goal.returns-clause-fewer
 returns-clause-fewer g c =
     let names = map (λ name. name.now) c.deref-in-Audit.result.now in
-    let form = form-of (map string_bytes c.args.words.now) _ (asked.Audit c.in-Audit.frames) _ c.deref-in-Audit.result.now c.in-Audit.is c.deref-in-Audit.ensures.value
-    c.in-Ok.ensures.found in
+    let form = form-of (map string_bytes c.args.words.now) _ (asked.Audit c.in-Audit.frames) _
+    c.deref-in-Audit.result.now c.in-Audit.is c.deref-in-Audit.ensures.value c.in-Ok.ensures.found in
     λ fault. (
       asked.Audit c.in-Audit.frames,
       names,
@@ -140,8 +153,8 @@ returns-clause-fewer g c =
 pub returns-clause-kernel : goal.returns-clause-kernel
 returns-clause-kernel g c =
     let names = map (λ name. name.now) c.deref-in-Audit.result.now in
-    let form = form-of (map string_bytes c.args.words.now) _ (asked.Audit c.in-Audit.frames) _ c.deref-in-Audit.result.now c.in-Audit.is c.deref-in-Audit.ensures.value
-    c.in-Ok.ensures.found in
+    let form = form-of (map string_bytes c.args.words.now) _ (asked.Audit c.in-Audit.frames) _
+    c.deref-in-Audit.result.now c.in-Audit.is c.deref-in-Audit.ensures.value c.in-Ok.ensures.found in
     λ no. absurd (no (c.in-Audit.frames, names, form))
 
 pub returns-clause-none : goal.returns-clause-none
@@ -151,6 +164,6 @@ returns-clause-none g c =
 pub returns-clause-unread : goal.returns-clause-unread
 returns-clause-unread g c =
     let names = map (λ name. name.now) c.deref-in-Audit.result.now in
-    let form = form-of (map string_bytes c.args.words.now) _ (asked.Audit c.in-Audit.frames) _ c.deref-in-Audit.result.now c.in-Audit.is c.deref-in-Audit.ensures.value
-    c.in-Ok.ensures.found in
+    let form = form-of (map string_bytes c.args.words.now) _ (asked.Audit c.in-Audit.frames) _
+    c.deref-in-Audit.result.now c.in-Audit.is c.deref-in-Audit.ensures.value c.in-Ok.ensures.found in
     λ asks. absurd (audit-no-load (map string_bytes c.args.words.now) c.in-Audit.frames names form asks)
