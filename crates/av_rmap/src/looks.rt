@@ -38,6 +38,8 @@ impl Looks {
     }
 
     /// The next area.
+    // Each look begins with this, so it and `give` stand in the walk's loop, and `refill` doesn't.
+    #[inline(always)]
     pub(crate) fn next<K: Look<L>, L: Ledger>(&mut self, look: &K) -> Option<u64>
         ensures some { IfSome result (λ area. ahead self.old (K.view look.now)
             ≡ area ∷ ahead self.new (K.view look.now)) }
@@ -69,6 +71,7 @@ impl Looks {
     }
 
     /// The next area of the batch.
+    #[inline(always)]
     fn give(&mut self) -> Option<u64>
         ensures some { IfSome result (λ area. areas_of (drop self.old.given self.old.places.items)
             ≡ area ∷ areas_of (drop self.new.given self.new.places.items)) }

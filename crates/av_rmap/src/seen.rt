@@ -110,6 +110,7 @@ fn clear_seen_from<K: LookMut<L>, L: Ledger>(
 
 /// One look: the entry of the area's page with this index loses its seen bit where it names the
 /// frame. Answers what the bit was, where it does.
+#[inline(always)]
 fn clear_in<K: LookMut<L>, L: Ledger>(
     look: &mut K,
     frame: u32,

@@ -51,6 +51,7 @@ pub fn unmap<K: LookMut<L>, L: Ledger>(
 
 /// One look: the entry of the area's page with this index becomes the slot where it names the
 /// frame. Answers whether it named it.
+#[inline(always)]
 fn unmap_in<K: LookMut<L>, L: Ledger>(
     look: &mut K,
     frame: u32,

@@ -74,6 +74,7 @@ pub fn walks_are_equally_long()
 {}
 
 /// One look: the page of the area with this index, where its entry names the target.
+#[inline(always)]
 fn look_at<K: Look<L>, L: Ledger>(
     look: &K,
     target: Target,
