@@ -18,8 +18,8 @@ pub trait Look<L: Ledger> {
     // The areas with their chains, the spans of each anon_vma, and the entries.
     ghost view: { Self → View };
 
-    /// Fills a batch anew: first index and area of the next spans past `after` that overlap `index`,
-    /// of the areas that are linked to an anon_vma, as many as it has room for.
+    /// Fills a batch anew: first index and area of the next spans past `after` that overlap
+    /// `index`, of the areas that are linked to an anon_vma, as many as it has room for.
     fn next(&self, anon: u64, index: u64, after: Option<(u64, u64)>, found: &mut Batch)
         ensures found { found.new.items ≡ take BATCH
             (overlaps_past after index ((view self.now).spans anon)) }
