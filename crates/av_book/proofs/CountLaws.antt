@@ -68,17 +68,13 @@ undone p es k v rising is =
     same : (n d v r w : ℕ) → n ≡ d + v → r + w ≡ n → w ≡ v → r ≡ d
     same n d v r w e f g = omega (arith, e, f, g)
 
-frame_weight : (f : ℕ) (o : Option Entry) → weight_of (names_frame f) o ≡ one ((marks_of (option_map entry_of o)).frame_names f)
-frame_weight f None = refl
-frame_weight f (Some e) = refl
-
 slot_weight : (s : Slot) (o : Option Entry) → weight_of (names_slot s) o ≡ one ((marks_of (option_map entry_of o)).slot_names s)
 slot_weight s None = refl
 slot_weight s (Some e) = refl
 
-frame_weight' : (f : ℕ) (o : Option Entry) → weight_of (names_frame f) o ≡ one ((marks_of (option_map entry_of o)).frame_uses f)
-frame_weight' f None = refl
-frame_weight' f (Some e) = refl
+frame_weight : (f : ℕ) (o : Option Entry) → weight_of (names_frame f) o ≡ one ((marks_of (option_map entry_of o)).frame_uses f)
+frame_weight f None = refl
+frame_weight f (Some e) = refl
 
 slot_weight' : (s : Slot) (o : Option Entry) → weight_of (names_slot s) o ≡ one ((marks_of (option_map entry_of o)).slot_uses s)
 slot_weight' s None = refl
@@ -88,7 +84,6 @@ slot_weight' s (Some e) = refl
 
 pub counts-kept : (i j : Index) (es : List (Key × PlainEntry)) (cs : List PlainCached) → Counts i es cs → Keeps i j → Counts j es cs
 counts-kept i j es cs c k = record {
-  frame_names = λ f. k.frame_names f ∙ c.frame_names f;
   frame_uses = λ f. k.frame_uses f ∙ c.frame_uses f;
   slot_names = λ s. k.slot_names s ∙ c.slot_names s;
   slot_uses = λ s. k.slot_uses s ∙ c.slot_uses s;
@@ -107,8 +102,7 @@ pub entry-gone : (i j : Index) (es : List (Key × Entry)) (cs : List PlainCached
 entry-gone i j es cs k c t =
     let o = lookup (is_at (key_cmp k)) es in
     record {
-      frame_names = λ f. minus' _ _ _ _ _ _ (t.frame_names f) (c.frame_names f) (less (names_frame f) es k) (frame_weight f o);
-      frame_uses = λ f. minus _ _ _ _ _ _ _ (t.frame_uses f) (c.frame_uses f) (less (names_frame f) es k) (frame_weight' f o);
+      frame_uses = λ f. minus _ _ _ _ _ _ _ (t.frame_uses f) (c.frame_uses f) (less (names_frame f) es k) (frame_weight f o);
       slot_names = λ s. minus' _ _ _ _ _ _ (t.slot_names s) (c.slot_names s) (less (names_slot s) es k) (slot_weight s o);
       slot_uses = λ s. minus _ _ _ _ _ _ _ (t.slot_uses s) (c.slot_uses s) (less (names_slot s) es k) (slot_weight' s o);
     }
@@ -124,7 +118,6 @@ pub entry-put : (i j : Index) (es : List (Key × Entry)) (cs : List PlainCached)
     → IsStrictlySortedBy key_cmp (keys_of es) → Counts i (entries_of (remove_entry (is_at (key_cmp k)) es)) cs
     → Adds i j (entry_marks (entry_of v)) → Counts j (entries_of (insert_entry key_cmp es k v)) cs
 entry-put i j es cs k v rising c a = record {
-  frame_names = λ f. plus' _ _ _ _ _ (a.frame_names f) (c.frame_names f) (more (names_frame f) es k v rising);
   frame_uses = λ f. plus _ _ _ _ _ _ (a.frame_uses f) (c.frame_uses f) (more (names_frame f) es k v rising);
   slot_names = λ s. plus' _ _ _ _ _ (a.slot_names s) (c.slot_names s) (more (names_slot s) es k v rising);
   slot_uses = λ s. plus _ _ _ _ _ _ (a.slot_uses s) (c.slot_uses s) (more (names_slot s) es k v rising);
@@ -136,7 +129,6 @@ pub entry-undone : (i : Index) (es : List (Key × Entry)) (cs : List PlainCached
     → Counts i (entries_of (remove_entry (is_at (key_cmp k)) es)) cs
     → Counts i (entries_of (remove_entry (is_at (key_cmp k)) (insert_entry key_cmp es k v))) cs
 entry-undone i es cs k v rising is c = record {
-  frame_names = λ f. c.frame_names f ∙ sym (undone (names_frame f) es k v rising is);
   frame_uses = λ f. c.frame_uses f ∙ ap (λ n. n + how_many (λ (c : PlainCached). f == c.frame) cs) (sym (undone (names_frame f) es k v rising is));
   slot_names = λ s. c.slot_names s ∙ sym (undone (names_slot s) es k v rising is);
   slot_uses = λ s. c.slot_uses s ∙ ap (λ n. n + how_many (λ (c : PlainCached). same_slot s c.slot) cs) (sym (undone (names_slot s) es k v rising is));
@@ -148,7 +140,6 @@ entry-undone i es cs k v rising is c = record {
 pub pair-more : (i j : Index) (es : List (Key × PlainEntry)) (cs : List PlainCached) (c : PlainCached) → Counts i es cs
     → Adds i j (cached_marks c) → Counts j es (c ∷ cs)
 pair-more i j es cs c is a = record {
-  frame_names = λ f. more0 _ _ _ (a.frame_names f) (is.frame_names f);
   frame_uses = λ f. more1 _ _ _ _ _ (a.frame_uses f) (is.frame_uses f);
   slot_names = λ s. more0 _ _ _ (a.slot_names s) (is.slot_names s);
   slot_uses = λ s. more1 _ _ _ _ _ (a.slot_uses s) (is.slot_uses s);
@@ -164,7 +155,6 @@ pair-more i j es cs c is a = record {
 pub pair-less : (i j : Index) (es : List (Key × PlainEntry)) (cs : List PlainCached) (c : PlainCached) → Counts i es (c ∷ cs)
     → Takes i j (cached_marks c) → Counts j es cs
 pair-less i j es cs c is t = record {
-  frame_names = λ f. less0 _ _ _ (t.frame_names f) (is.frame_names f);
   frame_uses = λ f. less1 _ _ _ _ _ (t.frame_uses f) (is.frame_uses f);
   slot_names = λ s. less0 _ _ _ (t.slot_names s) (is.slot_names s);
   slot_uses = λ s. less1 _ _ _ _ _ (t.slot_uses s) (is.slot_uses s);
@@ -189,7 +179,6 @@ few p (x ∷ xs) = by (p x) (few p xs)
 pub room : (i : Index) (es : List (Key × PlainEntry)) (cs : List PlainCached) → Counts i es cs → length es < 2 ^ 63 → length cs < 2 ^ 63
     → HasRoom i
 room i es cs c g h = record {
-  frame_names = λ f. alone _ _ (c.frame_names f) (few (λ (e : Key × PlainEntry). names_frame f e.1) es);
   frame_uses = λ f. both _ _ _ (c.frame_uses f) (few (λ (e : Key × PlainEntry). names_frame f e.1) es) (few (λ (c : PlainCached). f == c.frame) cs);
   slot_names = λ s. alone _ _ (c.slot_names s) (few (λ (e : Key × PlainEntry). names_slot s e.1) es);
   slot_uses = λ s. both _ _ _ (c.slot_uses s) (few (λ (e : Key × PlainEntry). names_slot s e.1) es) (few (λ (c : PlainCached). same_slot s c.slot) cs);
@@ -234,7 +223,6 @@ pub pair-put : (i j k : Index) (es : List (Key × PlainEntry)) (cs : List Cached
     → Counts i es (map cached_of cs) → n < length cs → x ≡ get_or cs n x → Adds i j (cached_marks (cached_of y))
     → Takes j k (cached_marks (cached_of x)) → Counts k es (map cached_of (set cs n y))
 pair-put i j k es cs n x y is below at a t = record {
-  frame_names = λ f. alone _ _ _ _ (t.frame_names f) (a.frame_names f) (is.frame_names f);
   frame_uses = λ f. both _ _ _ _ _ _ _ _ (t.frame_uses f) (a.frame_uses f) (is.frame_uses f)
       (put-one cached_of (λ (c : PlainCached). f == c.frame) cs n x y below at);
   slot_names = λ s. alone _ _ _ _ (t.slot_names s) (a.slot_names s) (is.slot_names s);
@@ -276,7 +264,6 @@ more-many p (x ∷ xs) ys = let h = more-many p xs ys in omega (arith, h)
 pub split-counts : (i : Index) (es : List (Key × PlainEntry)) (cs : List PlainCached) (s : Slot) → Counts i es cs
     → Counts i es (of_slot s cs ++ off_slot s cs)
 split-counts i es cs s c = record {
-  frame_names = c.frame_names;
   frame_uses = λ f. same _ _ _ _ _ _ (c.frame_uses f) (all (λ (c : PlainCached). f == c.frame))
       (more-many (λ (c : PlainCached). f == c.frame) (of_slot s cs) (off_slot s cs));
   slot_names = c.slot_names;

@@ -1,5 +1,5 @@
 -- The keys that are kept of a frame are those of its entries.
-use Rattle.std.proofs.Common.{◌≡◌, ℕ, List, [], ◌∷◌, filter, Bool, true, false, cond, not, Option, Some, None, refl, sym, ap, ◌∙◌}
+use Rattle.std.proofs.Common.{◌≡◌, ℕ, ◌+◌, length, arith, List, [], ◌∷◌, filter, Bool, true, false, cond, not, Option, Some, None, refl, sym, ap, ◌∙◌}
 use Rattle.std.specs.Prelude.{◌&&◌, ◌||◌}
 use Rattle.std.specs.BTreeMap.{is_at}
 use Rattle.std.specs.Cmp.{eq_by_cmp_equiv}
@@ -14,6 +14,7 @@ use Rattle.std.proofs.lemmas.Map.Entries.{none_past_head}
 use Rattle.std.proofs.lemmas.Map.Keys.{IsDistinct-from_sorted}
 use Rattle.av_base.proofs.Keys.{keys_total, same_key-is, same_key-itself}
 use Rattle.av_base.specs.Keys.{Key, key_cmp, same_key}
+use Rattle.av_base.specs.Words.{how_many}
 use Rattle.av_index.proofs.Rising.{rising-keys}
 use Rattle.av_plain.specs.Ledger.{Entry as PlainEntry, names_frame}
 use Rattle.av_plain.specs.Reclaim.{names_seen}
@@ -175,3 +176,20 @@ module _ (f : ℕ) where
       → ((k : Key) → list_any (same_key k) ks ≡ names_at f k es)
       → list_any (seen_at f es) ks ≡ list_any (λ (e : Key × PlainEntry). names_seen f e.1) (entries_of es)
   seen-is es ks rise rises has = ap (list_any (seen_at f es)) (keys-are-listed f es ks rise rises has) ∙ listed-seen es es (all-there es rise)
+
+-- ---- how many keys a frame has
+
+pub names-counted : (f : ℕ) (es : List (Key × Entry))
+    → length (keys_of (filter (λ (e : Key × Entry). names_frame f (entry_of e.1)) es))
+    ≡ how_many (λ (e : Key × PlainEntry). names_frame f e.1) (entries_of es)
+names-counted f [] = refl
+names-counted f (e ∷ es) = by (names_frame f (entry_of e.1)) (names-counted f es)
+  where
+    rest : List (Key × Entry)
+    rest = filter (λ (e : Key × Entry). names_frame f (entry_of e.1)) es
+
+    by : (b : Bool) → length (keys_of rest) ≡ how_many (λ (e : Key × PlainEntry). names_frame f e.1) (entries_of es)
+        → length (keys_of (cond b (e ∷ rest) rest))
+        ≡ cond b 1 0 + how_many (λ (e : Key × PlainEntry). names_frame f e.1) (entries_of es)
+    by true h = omega (arith, h)
+    by false h = omega (arith, h)

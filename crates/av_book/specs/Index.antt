@@ -11,7 +11,6 @@ use Rattle.av_book.specs.declared.index.Index.{Index}
 
 -- what an entry or a cached pair names and uses
 pub record Marks : Type 0 where
-  pub frame_names : ℕ → Bool
   pub frame_uses : ℕ → Bool
   pub slot_names : Slot → Bool
   pub slot_uses : Slot → Bool
@@ -19,7 +18,6 @@ pub record Marks : Type 0 where
 -- an entry names and uses its frame or its slot
 abbrev pub entry_marks : Entry → Marks
 entry_marks e = record {
-  frame_names = λ f. names_frame f e;
   frame_uses = λ f. names_frame f e;
   slot_names = λ s. names_slot s e;
   slot_uses = λ s. names_slot s e;
@@ -28,7 +26,6 @@ entry_marks e = record {
 -- an entry that there may be
 abbrev pub marks_of : Option Entry → Marks
 marks_of None = record {
-  frame_names = λ f. false;
   frame_uses = λ f. false;
   slot_names = λ s. false;
   slot_uses = λ s. false;
@@ -38,7 +35,6 @@ marks_of (Some e) = entry_marks e
 -- a cached pair uses its frame and its slot
 abbrev pub cached_marks : Cached → Marks
 cached_marks c = record {
-  frame_names = λ f. false;
   frame_uses = λ f. f == c.frame;
   slot_names = λ s. false;
   slot_uses = λ s. same_slot s c.slot;
@@ -46,29 +42,24 @@ cached_marks c = record {
 
 -- each count is 0
 pub record IsEmpty (i : Index) : Type 0 where
-  pub frame_names : (f : ℕ) → uses_at i.frame_names f ≡ 0
   pub frame_uses : (f : ℕ) → uses_at i.frame_uses f ≡ 0
   pub slot_names : (s : Slot) → slot_uses_at i.slot_names s ≡ 0
   pub slot_uses : (s : Slot) → slot_uses_at i.slot_uses s ≡ 0
 
 -- each count can go up
 pub record HasRoom (i : Index) : Type 0 where
-  pub frame_names : (f : ℕ) → uses_at i.frame_names f < 2 ^ 64 - 1
   pub frame_uses : (f : ℕ) → uses_at i.frame_uses f < 2 ^ 64 - 1
   pub slot_names : (s : Slot) → slot_uses_at i.slot_names s < 2 ^ 64 - 1
   pub slot_uses : (s : Slot) → slot_uses_at i.slot_uses s < 2 ^ 64 - 1
 
 -- each count stays
 pub record Keeps (i j : Index) : Type 0 where
-  pub frame_names : (f : ℕ) → uses_at j.frame_names f ≡ uses_at i.frame_names f
   pub frame_uses : (f : ℕ) → uses_at j.frame_uses f ≡ uses_at i.frame_uses f
   pub slot_names : (s : Slot) → slot_uses_at j.slot_names s ≡ slot_uses_at i.slot_names s
   pub slot_uses : (s : Slot) → slot_uses_at j.slot_uses s ≡ slot_uses_at i.slot_uses s
 
 -- each count goes up by what is named and used
 pub record Adds (i j : Index) (m : Marks) : Type 0 where
-  pub frame_names : (f : ℕ)
-      → uses_at j.frame_names f ≡ uses_at i.frame_names f + one (m.frame_names f)
   pub frame_uses : (f : ℕ)
       → uses_at j.frame_uses f ≡ uses_at i.frame_uses f + one (m.frame_uses f)
   pub slot_names : (s : Slot)
@@ -78,8 +69,6 @@ pub record Adds (i j : Index) (m : Marks) : Type 0 where
 
 -- and down
 pub record Takes (i j : Index) (m : Marks) : Type 0 where
-  pub frame_names : (f : ℕ)
-      → uses_at j.frame_names f ≡ uses_at i.frame_names f - one (m.frame_names f)
   pub frame_uses : (f : ℕ)
       → uses_at j.frame_uses f ≡ uses_at i.frame_uses f - one (m.frame_uses f)
   pub slot_names : (s : Slot)
@@ -89,8 +78,6 @@ pub record Takes (i j : Index) (m : Marks) : Type 0 where
 
 -- each count is how many entries name, and how many pairs cache
 pub record Counts (i : Index) (es : List (Key × Entry)) (cs : List Cached) : Type 0 where
-  pub frame_names : (f : ℕ)
-      → uses_at i.frame_names f ≡ how_many (λ (e : Key × Entry). names_frame f e.1) es
   pub frame_uses : (f : ℕ)
       → uses_at i.frame_uses f ≡ how_many (λ (e : Key × Entry). names_frame f e.1) es
       + how_many (λ (c : Cached). f == c.frame) cs

@@ -17,6 +17,9 @@ impl Book {
     pub fn slot_of(&self, frame: u32) -> Option<Slot>
         ensures { result ≡ slot_of (ledger_of self.now) frame }
     {
+        if self.pages.cache().is_empty() {
+            return None;
+        }
         if self.pages.frame_uses(frame) == self.pages.frame_names(frame) {
             return None;
         }

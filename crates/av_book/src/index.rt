@@ -1,4 +1,4 @@
-//! How often frames and slots are named and used.
+//! How often frames and slots are used, and slots named.
 
 ghost use Rattle.std.specs.Prelude.{OnErr, OnOk, false, option_map};
 ghost use Rattle.av_plain.specs.Ledger.{InFrame as NamesFrame, InSlot as NamesSlot};
@@ -12,11 +12,10 @@ use av_base::Slot;
 use av_index::Uses;
 use std::alloc::{AllocError, Global};
 
-/// How often each frame and each slot is named by an entry, and how often it is used: named, or
-/// cached.
+/// How often each frame and each slot is used: named by an entry, or cached; and how often each slot
+/// is named. (How often a frame is named, its keys say.)
 #[derive(Drop)]
 pub(crate) struct Index {
-    pub(crate) frame_names: Uses,
     pub(crate) frame_uses: Uses,
     pub(crate) slot_names: SlotUses,
     pub(crate) slot_uses: SlotUses,
@@ -28,7 +27,6 @@ impl Index {
         ensures { IsEmpty result }
     {
         Index {
-            frame_names: Uses::new(alloc),
             frame_uses: Uses::new(alloc),
             slot_names: SlotUses::new(alloc),
             slot_uses: SlotUses::new(alloc),
@@ -41,12 +39,7 @@ impl Index {
         ensures ok { OnOk result (Adds self.old self.new (entry_marks (NamesFrame frame false))) }
         ensures err { OnErr result (Keeps self.old self.new) }
     {
-        self.frame_uses.add(frame)?;
-        let added = self.frame_names.add(frame);
-        if added.is_err() {
-            self.frame_uses.take(frame);
-        }
-        added
+        self.frame_uses.add(frame)
     }
 
     /// One entry more names the slot. Without memory all stays.
@@ -81,10 +74,7 @@ impl Index {
         ensures { Takes self.old self.new (marks_of (option_map entry_of entry)) }
     {
         match entry {
-            Some(Entry::InFrame { frame, .. }) => {
-                self.frame_names.take(frame);
-                self.frame_uses.take(frame);
-            }
+            Some(Entry::InFrame { frame, .. }) => self.frame_uses.take(frame),
             Some(Entry::InSlot(slot)) => {
                 self.slot_names.take(slot);
                 self.slot_uses.take(slot);

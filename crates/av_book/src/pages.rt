@@ -120,7 +120,10 @@ impl Pages {
     pub(crate) fn frame_names(&self, frame: u32) -> u64
         ensures { result ≡ how_many (λ e. names_frame frame e.1) (entries_of self.now.entries) }
     {
-        self.index.frame_names.count(frame)
+        match self.frame_keys.of(u64::from(frame)) {
+            None => 0,
+            Some(keys) => keys.len() as u64,
+        }
     }
 
     /// How many entries name a frame, and how many pairs cache at it.

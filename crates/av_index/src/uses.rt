@@ -56,8 +56,11 @@ impl Uses {
             ≡ with_at n (uses_at self.old n + 1) (uses_at self.old) k) }
         ensures err { OnErr result (self.new ≡ self.old) }
     {
-        let count = self.count(n);
-        self.counts.insert(n, count + 1)?;
+        if let Some(count) = self.counts.get_mut(&n) {
+            *count += 1;
+            return Ok(());
+        }
+        self.counts.insert(n, 1)?;
         Ok(())
     }
 
