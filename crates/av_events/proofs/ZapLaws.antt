@@ -1,10 +1,11 @@
 -- Entries that go.
-use Rattle.std.proofs.Common.{◌≡◌, ◌<◌, List, [], ◌∷◌, ◌++◌, length, refl, sym, ap, ◌∙◌, append_assoc, append-nil, arith}
+use Rattle.std.proofs.Common.{◌≡◌, ◌<◌, Option, Some, None, List, [], ◌∷◌, ◌++◌, length, refl, sym, ap, ◌∙◌, append_assoc, append-nil, arith}
 use Rattle.av_base.specs.Keys.{Key}
 use Rattle.av_trace.specs.declared.note.Note.{Note}
 use Rattle.av_plain.specs.Event.{after_all, notes_of}
-use Rattle.av_plain.specs.Ledger.{Ledger}
-use Rattle.av_plain.specs.Zap.{zap_of, zaps_of}
+use Rattle.av_plain.specs.Ledger.{Entry, InFrame, InSlot, Ledger, Zero}
+use Rattle.av_plain.specs.Zap.{slot_behind_key, zap_of, zaps_of}
+use Rattle.av_book.specs.Book.{without_entry}
 use Rattle.av_plain.proofs.Access.{after_all-append, notes_of-append}
 
 -- ---- one, and then the others
@@ -30,3 +31,10 @@ zaps-over l (k ∷ ks) h = absurd (omega (arith, h))
 pub notes-over : (l : Ledger) (ks : List Key) (told : List Note) → length ks < 1 → told ≡ told ++ notes_of (zaps_of l ks)
 notes-over l [] told h = sym (append-nil told)
 notes-over l (k ∷ ks) told h = absurd (omega (arith, h))
+
+-- what an entry leaves behind lies in the cache, which stays where an entry goes
+pub behind-stays : (l : Ledger) (k : Key) (o : Option Entry) → slot_behind_key (without_entry k l) o ≡ slot_behind_key l o
+behind-stays l k None = refl
+behind-stays l k (Some Zero) = refl
+behind-stays l k (Some (InFrame f seen)) = refl
+behind-stays l k (Some (InSlot s)) = refl

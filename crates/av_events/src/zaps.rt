@@ -2,6 +2,7 @@
 
 ghost use Rattle.std.specs.Prelude.{◌≡◌, ◌++◌, ◌+◌, ◌<◌, ◌^◌, OnOk, Some, option_map};
 ghost use Rattle.av_plain.specs.Event.{after_all, after_zap, notes_of};
+ghost use Rattle.av_plain.specs.Ledger.{entry as entry_in};
 ghost use Rattle.av_plain.specs.Zap.{keys_in as keys_in_of, keys_of_process, orphan_drop};
 ghost use Rattle.av_plain.specs.Zap.{slot_behind_key, zap_of, zaps_of};
 ghost use Rattle.av_book.specs.Book.{entry_of, ledger_of};
@@ -23,12 +24,16 @@ pub fn slot_behind(book: &Book, entry: Option<Entry>) -> Option<Slot>
     }
 }
 
-/// The entry of a page goes.
-pub fn zap(book: &mut Book, process: u16, page: u64)
-    ensures { ledger_of book.new ≡ after_zap (process, page) (ledger_of book.old) }
+/// The entry of a page goes. Answers the slot that it named, or at which its frame is cached.
+pub fn zap(book: &mut Book, process: u16, page: u64) -> Option<Slot>
+    ensures ledger { ledger_of book.new ≡ after_zap (process, page) (ledger_of book.old) }
+    ensures behind { result ≡ slot_behind_key (ledger_of book.old)
+        (entry_in (ledger_of book.old) (process, page)) }
 {
     let entry = book.remove(process, page);
+    let slot = slot_behind(book, entry);
     book.settle_entry(entry);
+    slot
 }
 
 /// A slot that is an orphan is dropped, and the note of that added. Without memory a part may be
@@ -68,9 +73,7 @@ fn zap_one(book: &mut Book, process: u16, page: u64, notes: &mut Notes) -> Resul
     ensures notes { OnOk result (notes.new
         ≡ notes.old ++ notes_of (zap_of (ledger_of book.old) (process, page))) }
 {
-    let entry = book.entry(process, page);
-    let slot = slot_behind(book, entry);
-    zap(book, process, page);
+    let slot = zap(book, process, page);
     drop_behind(book, slot, notes)
 }
 
