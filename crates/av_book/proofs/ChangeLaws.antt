@@ -80,27 +80,29 @@ key-next p made more k e es rest all grown first passes left =
 
 -- ---- lists of entries whose keys rise
 
-below : (x : Key) (es : List (Key × Entry)) → AllByRecursion (λ y. key_cmp x y ≡ Less) (keys_of es) → T (below_all key_cmp x es)
-below x [] h = tt
-below x (e ∷ es) h = subst (λ o. T (is_lt o && below_all key_cmp x es)) (sym h.0) (below x es h.1)
+module _ {X : Type 0} where
+  below : (x : Key) (es : List (Key × X)) → AllByRecursion (λ y. key_cmp x y ≡ Less) (keys_of es) → T (below_all key_cmp x es)
+  below x [] h = tt
+  below x (e ∷ es) h = subst (λ o. T (is_lt o && below_all key_cmp x es)) (sym h.0) (below x es h.1)
 
-sorted : (es : List (Key × Entry)) → IsStrictlySortedBy key_cmp (keys_of es) → T (is_sorted key_cmp es)
-unfolding IsStrictlySortedBy
-sorted [] h = tt
-sorted (e ∷ es) h = both (below_all key_cmp e.0 es) (is_sorted key_cmp es) (below e.0 es h.0) (sorted es h.1)
-  where
-    both : (a b : Bool) → T a → T b → T (a && b)
-    both true b p q = q
-    both false b p q = p
+  sorted : (es : List (Key × X)) → IsStrictlySortedBy key_cmp (keys_of es) → T (is_sorted key_cmp es)
+  unfolding IsStrictlySortedBy
+  sorted [] h = tt
+  sorted (e ∷ es) h = both (below_all key_cmp e.0 es) (is_sorted key_cmp es) (below e.0 es h.0) (sorted es h.1)
+    where
+      both : (a b : Bool) → T a → T b → T (a && b)
+      both true b p q = q
+      both false b p q = p
 
-found-so : (es : List (Key × Entry)) (q : Key) → find key_cmp q es ≡ lookup (is_at (key_cmp q)) es
-found-so [] q = refl
-found-so (e ∷ es) q = ap (cond (same_key q e.0) (Some e.1)) (found-so es q)
+  found-so : (es : List (Key × X)) (q : Key) → find key_cmp q es ≡ lookup (is_at (key_cmp q)) es
+  found-so [] q = refl
+  found-so (e ∷ es) q = ap (cond (same_key q e.0) (Some e.1)) (found-so es q)
 
-pub same-entries : (es fs : List (Key × Entry)) → IsStrictlySortedBy key_cmp (keys_of es) → IsStrictlySortedBy key_cmp (keys_of fs)
-    → ((q : Key) → lookup (is_at (key_cmp q)) es ≡ lookup (is_at (key_cmp q)) fs) → es ≡ fs
-same-entries es fs rise rises same = same_entries key_cmp keys_total keys-exact es fs (sorted es rise) (sorted fs rises)
-    (λ q. found-so es q ∙ same q ∙ sym (found-so fs q))
+  -- two with the same values are one
+  pub same-entries : (es fs : List (Key × X)) → IsStrictlySortedBy key_cmp (keys_of es) → IsStrictlySortedBy key_cmp (keys_of fs)
+      → ((q : Key) → lookup (is_at (key_cmp q)) es ≡ lookup (is_at (key_cmp q)) fs) → es ≡ fs
+  same-entries es fs rise rises same = same_entries key_cmp keys_total keys-exact es fs (sorted es rise) (sorted fs rises)
+      (λ q. found-so es q ∙ same q ∙ sym (found-so fs q))
 
 module _ (f : ℕ) (ch : Change) where
   -- an entry, if there is one, as it will be
