@@ -18,7 +18,9 @@ use Rattle.av_base.specs.Keys.{Key, key_cmp, same_key}
 use Rattle.av_base.specs.Words.{renamed}
 use Rattle.av_index.proofs.Rising.{keys-exact}
 use Rattle.av_plain.specs.Ledger.{names_frame}
-use Rattle.av_book.specs.Entries.{changed_at, entry_of}
+use Rattle.av_plain.specs.Ledger.{Entry as PlainEntry}
+use Rattle.av_plain.specs.Reclaim.{names_seen}
+use Rattle.av_book.specs.Entries.{changed_at, entries_of, entry_of, without_seen_of}
 use Rattle.av_book.specs.declared.book.Entry.{Entry}
 use Rattle.av_book.specs.declared.book.Entry.TheVariants.{Zero, InFrame, InSlot}
 use Rattle.av_book.specs.declared.changes.Change.{Change}
@@ -182,3 +184,27 @@ module _ (f : ℕ) (ch : Change) where
           let none = is ∙ ap (λ k. lookup (is_at (key_cmp k)) es) (same_key-is k q same) in
           sym none ∙ ap ends_as none
       by false same = refl
+
+-- where no entry of a frame is seen, all are unseen as they are
+pub unseen-stay : (f : ℕ) (es : List (Key × Entry)) → list_any (λ (e : Key × PlainEntry). names_seen f e.1) (entries_of es) ≡ false
+    → es ≡ map (λ e. (e.0, without_seen_of f e.1)) es
+unseen-stay f [] none = refl
+unseen-stay f (e ∷ es) none =
+    λ i. (e.0, first e.1 (left (names_seen f (entry_of e.1)) _ none) i) ∷ unseen-stay f es (right (names_seen f (entry_of e.1)) _ none) i
+  where
+    left : (a b : Bool) → (a || b) ≡ false → a ≡ false
+    left true b e = e
+    left false b e = refl
+
+    right : (a b : Bool) → (a || b) ≡ false → b ≡ false
+    right true b e = cc
+    right false b e = e
+
+    first : (e : Entry) → names_seen f (entry_of e) ≡ false → e ≡ without_seen_of f e
+    first Zero is = refl
+    first (InFrame g seen) is = ap (InFrame g) (by (f == g) seen is)
+      where
+        by : (b c : Bool) → (b && c) ≡ false → c ≡ (not b && c)
+        by true c is = is
+        by false c is = refl
+    first (InSlot s) is = refl

@@ -1,6 +1,7 @@
 -- What the index has of a key is what its entry says, and what it has of all keys is what the entries say.
-use Rattle.std.proofs.Common.{◌≡◌, ℕ, ◌+◌, ◌-◌, ◌∷◌, [], List, filter, length, map, Bool, true, false, cond, ◌&&◌, Option, Some, None, refl, sym, ap, subst, ◌∙◌}
+use Rattle.std.proofs.Common.{◌≡◌, ℕ, ◌+◌, ◌-◌, List, filter, length, map, Bool, true, false, cond, Option, Some, None, refl, sym, ap, subst, rules, ◌∙◌}
 use Rattle.std.specs.Prelude.{◌==◌, nat_lt, option_map}
+use Rattle.std.specs.Option.{IsSome}
 use Rattle.std.specs.List.{range_with_len}
 use Rattle.std.specs.BTreeMap.{is_at}
 use Rattle.std.specs.Map.{keys_of, lookup}
@@ -14,7 +15,7 @@ use Rattle.av_index.specs.Holding.{Holding}
 use Rattle.av_plain.specs.Ledger.{Cached as PlainCached, Entry as PlainEntry, names_frame, names_slot, same_slot}
 use Rattle.av_plain.specs.Reclaim.{names_seen}
 use Rattle.av_book.specs.Entries.{cached_of, entries_of, entry_of}
-use Rattle.av_book.specs.Index.{KeepsKeys, KeepsOthers, KeepsPairs, Tells}
+use Rattle.av_book.specs.Index.{KeepsKeys, KeepsOthers, Tells}
 use Rattle.av_book.specs.Pages.{Content, IsIndexed, used_pages}
 use Rattle.av_book.specs.SlotHolders.{area_at, slot_keys_at, slot_pairs_at, slot_seen_at}
 use Rattle.av_book.specs.declared.book.Cached.{Cached}
@@ -23,40 +24,7 @@ use Rattle.av_book.specs.declared.index.Index.{Index}
 use Rattle.av_book.specs.declared.slot_holders.SlotHolders.{SlotHolders}
 use Rattle.av_book.proofs.KeyLaws.{keys-told, keys_told, passing, told-are, told-count}
 
--- ---- a key more, or less
-
--- one key of one frame or slot is said to be so: what is there then of the key
-pub put-here : {X : Type 0} (b s : Bool) (x was now : Option X) → s ≡ true → was ≡ cond b now None → cond (b && s) x was ≡ cond b x None
-put-here true s x was now same is = ap (λ s. cond s x was) same
-put-here false s x was now same is = is
-
--- and of another
-pub put-there : {X : Type 0} (b s : Bool) (x was : Option X) → s ≡ false → cond (b && s) x was ≡ was
-put-there true s x was other = ap (λ s. cond s x was) other
-put-there false s x was other = refl
-
--- none is none
-pub none-here : {X : Type 0} (b : Bool) (was : Option X) → was ≡ None → was ≡ cond b None None
-none-here true was is = is
-none-here false was is = is
-
-pub no-more : {X : Type 0} (b : Bool) (was : Option X) → was ≡ cond b None None → was ≡ None
-no-more true was is = is
-no-more false was is = is
-
 -- ---- one change after another
-
-pub others-twice : (i j k : Index) (key : Key) → KeepsOthers i j key → KeepsOthers j k key → KeepsOthers i k key
-others-twice i j k key one two = record {
-  frames = λ f q other. two.frames f q other ∙ one.frames f q other;
-  slots = λ s q other. two.slots s q other ∙ one.slots s q other;
-}
-
-pub pairs-twice : (i j k : Index) → KeepsPairs i j → KeepsPairs j k → KeepsPairs i k
-pairs-twice i j k one two = record {
-  frames = λ f. two.frames f ∙ one.frames f;
-  slots = λ s. two.slots s ∙ one.slots s;
-}
 
 -- all keys stay
 pub keys-kept : (i j : Index) (k : Key) (o : Option PlainEntry) → KeepsKeys i j → Tells i k o → Tells j k o
@@ -86,6 +54,10 @@ tells-all i j es fs key o tells looks others here k =
       frames = λ f. others.frames f k other ∙ (tells k).frames f;
       slots = λ s. others.slots s k other ∙ (tells k).slots s;
     }
+
+-- an entry that is there is some
+pub some-is : (e : Entry) (o : Option Entry) → Some e ≡ o → IsSome o
+some-is e o is = subst IsSome is (search rules)
 
 -- what has gone is not there, whatever was put before
 pub gone-again : {X : Type 0} (b : Bool) (x y : Option X) → cond b None (cond b x y) ≡ cond b None y

@@ -1,3 +1,4 @@
+pub mod AreaHolders
 pub mod AreaLaws
 pub mod BookLaws
 pub mod ChangeLaws

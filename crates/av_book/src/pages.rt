@@ -12,6 +12,7 @@ ghost use Rattle.av_base.specs.Words.{how_many};
 ghost use Rattle.av_plain.specs.Ledger.{names_frame, names_slot, same_slot};
 ghost use Rattle.av_plain.specs.Reclaim.{names_seen};
 ghost use Rattle.av_book.specs.Entries.{cached_of, changed_at, changed_pair, entries_of, entry_of};
+ghost use Rattle.av_book.specs.Entries.{without_seen_of};
 ghost use Rattle.av_book.specs.Index.{CountsPairs, KeepsKeys};
 ghost use Rattle.av_book.specs.Pages.{used_pages};
 
@@ -214,6 +215,18 @@ impl Pages {
             self.change_at(*key, frame, change)?;
         }
         Ok(())
+    }
+
+    /// The entries of a frame are unseen. Without memory a part may have changed.
+    pub(crate) fn unsee(&mut self, alloc: Global, frame: u32) -> Result<(), AllocError>
+        ensures entries { OnOk result (self.new.entries
+            ≡ map (λ e. (e.0, without_seen_of frame e.1)) self.old.entries) }
+        ensures cache { self.new.cache ≡ self.old.cache }
+    {
+        if !self.is_seen(frame) {
+            return Ok(());
+        }
+        self.change(alloc, frame, Change::Unseen)
     }
 
     /// The entry of a page changes, if it has one that names the frame. Without memory it may have

@@ -7,7 +7,8 @@ ghost use Rattle.av_base.specs.Keys.{Key, same_key};
 ghost use Rattle.av_base.specs.declared.slot.Slot.{Slot as SlotOf};
 ghost use Rattle.av_index.specs.Holders.{KeysRise, used_within};
 ghost use Rattle.av_plain.specs.Ledger.{same_slot};
-ghost use Rattle.av_book.specs.SlotHolders.{area_at, one, slot_keys_at, slot_pairs_at, slot_seen_at};
+ghost use Rattle.av_book.specs.SlotHolders.{area_at, one, slot_keys_at, slot_pairs_at};
+ghost use Rattle.av_book.specs.SlotHolders.{slot_seen_at};
 
 use av_base::Slot;
 use av_index::Holders;

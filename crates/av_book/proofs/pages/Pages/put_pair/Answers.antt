@@ -15,5 +15,6 @@ invariant_of-self-2 c = record {
   rising = c.self.invariant.rising;
   tells = λ k. keys-kept _ _ k _ (keys-twice _ _ _ c.hold.ensures.keys c.drop_pair.ensures.keys) (c.self.invariant.tells k);
   pairs = pair-put _ _ _ c.self.inside.cache.items c.args.place c.index.result.now c.args.pair c.self.invariant.pairs
-      (subst (λ (p : Content). c.args.place < length p.cache) (sym c.self.view_is) c.requires) c.index.ensures c.in_ok-hold.ensures.ok c.drop_pair.ensures.pairs;
+      (subst (λ (p : Content). c.args.place < length p.cache) (sym c.self.view_is) c.requires)
+      c.index.ensures c.in_ok-hold.ensures.ok c.drop_pair.ensures.pairs;
 }
