@@ -48,8 +48,11 @@ module _ (names seen : PlainEntry → Bool) where
   abbrev pub passing : List (Key × Entry) → List (Key × Entry)
   passing es = filter (λ e. names (entry_of e.1)) es
 
+  abbrev pub tell : Key × Entry → Key × Bool
+  tell e = (e.0, seen (entry_of e.1))
+
   abbrev pub keys_told : List (Key × Entry) → List (Key × Bool)
-  keys_told es = map (λ e. (e.0, seen (entry_of e.1))) (passing es)
+  keys_told es = map tell (passing es)
 
   told-by : (o : Option Entry)
       → option_map (λ e. seen (entry_of e)) (option_filter (λ e. names (entry_of e)) o) ≡ told names seen (option_map entry_of o)
@@ -80,7 +83,7 @@ module _ (names seen : PlainEntry → Bool) where
   told-count (e ∷ es) = by (names (entry_of e.1)) (told-count es)
     where
       by : (b : Bool) → length (keys_told es) ≡ how_many (λ (e : Key × PlainEntry). names e.1) (entries_of es)
-          → length (map (λ e. (e.0, seen (entry_of e.1))) (cond b (e ∷ passing es) (passing es)))
+          → length (map tell (cond b (e ∷ passing es) (passing es)))
           ≡ cond b 1 0 + how_many (λ (e : Key × PlainEntry). names e.1) (entries_of es)
       by true h = omega (arith, h)
       by false h = omega (arith, h)
@@ -93,11 +96,11 @@ module _ (names seen : PlainEntry → Bool) where
     where
       by : (b : Bool) → (b ≡ false → seen (entry_of e.1) ≡ false)
           → how_many is_seen (keys_told es) ≡ how_many (λ (e : Key × PlainEntry). seen e.1) (entries_of es)
-          → how_many is_seen (map (λ e. (e.0, seen (entry_of e.1))) (cond b (e ∷ passing es) (passing es)))
+          → how_many is_seen (map tell (cond b (e ∷ passing es) (passing es)))
           ≡ cond (seen (entry_of e.1)) 1 0 + how_many (λ (e : Key × PlainEntry). seen e.1) (entries_of es)
-      by true not-it h = ap (λ n. cond (seen (entry_of e.1)) 1 0 + n) h
+      by true not-it h = ap {B = ℕ} (λ n. cond (seen (entry_of e.1)) 1 0 + n) h
       by false not-it h =
-          let none = ap (λ b. cond b 1 0) (not-it refl) in
+          let none = ap {B = ℕ} (λ b. cond b 1 0) (not-it refl) in
           omega (arith, h, none)
 
 -- ---- an entry of a frame that is seen

@@ -117,9 +117,9 @@ impl Index {
         ensures others { KeepsOthers self.old self.new key }
         ensures pairs { KeepsPairs self.old self.new }
     {
-        if let (Some(Entry::InFrame { frame: at, .. }), Entry::InFrame { frame, seen }) =
-            (old, entry)
-        {
+        if let (Some(Entry::InFrame { frame: at, .. }), Entry::InFrame { frame, seen }) = (
+            old, entry,
+        ) {
             if at == frame {
                 return self.see(key, frame, seen);
             }

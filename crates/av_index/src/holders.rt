@@ -174,7 +174,10 @@ impl Holders {
         ensures { result
             ≡ list_all (λ n. nat_le from n && nat_lt n end) (keys_of self.now) }
     {
-        match (self.numbers.first_key_value(), self.numbers.last_key_value()) {
+        match (
+            self.numbers.first_key_value(),
+            self.numbers.last_key_value(),
+        ) {
             (Some((first, _)), Some((last, _))) => from <= *first && *last < end,
             _ => true,
         }
