@@ -4,11 +4,9 @@ use Rattle.std.specs.Prelude.{nat_lt, unwrap_or}
 use Rattle.std.specs.BTreeMap.{is_at}
 use Rattle.std.specs.List.{range_with_len}
 use Rattle.std.specs.List.Sorted.{IsStrictlySortedBy}
-use Rattle.std.specs.Map.{keys_of, lookup}
+use Rattle.std.specs.Map.{lookup}
 use Rattle.std.specs.Ordering.{nat_cmp}
-use Rattle.av_base.specs.Keys.{key_cmp}
-use Rattle.av_index.specs.Holders.{KeysRise, keys_at, used_within, uses_at}
-use Rattle.av_index.specs.Holding.{Holding}
+use Rattle.av_index.specs.Holders.{KeysRise, used_within, uses_at}
 use Rattle.av_book.specs.SlotHolders.{area_at}
 use Rattle.av_book.specs.declared.slot_holders.SlotHolders.{SlotHolders}
 

@@ -1,9 +1,8 @@
 -- What a book keeps of entries is the ledger's.
-use Rattle.std.proofs.Common.{◌≡◌, ℕ, ◌+◌, List, [], ◌∷◌, map, filter, Bool, true, false, not, cond, ◌||◌, ◌==◌, Some, is_some, refl, ap, ◌∙◌, arith}
+use Rattle.std.proofs.Common.{◌≡◌, ℕ, List, [], ◌∷◌, map, filter, Bool, true, false, not, cond, ◌||◌, ◌==◌, Some, is_some, refl, ap, ◌∙◌}
 use Rattle.std.specs.Prelude.{option_map}
 use Rattle.std.specs.List.{list_any}
 use Rattle.std.specs.Map.{keys_of}
-use Rattle.av_base.specs.Words.{how_many}
 use Rattle.av_base.specs.declared.slot.Slot.{Slot}
 use Rattle.av_base.specs.Keys.{Key}
 use Rattle.av_plain.specs.Ledger.{Cached as PlainCached, Entry as PlainEntry, cached_by, names_frame, same_slot}

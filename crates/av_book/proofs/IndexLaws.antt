@@ -8,7 +8,6 @@ use Rattle.std.specs.Map.{keys_of, lookup}
 use Rattle.av_base.proofs.Keys.{same_key-is}
 use Rattle.av_base.specs.Keys.{Key, key_cmp, same_key}
 use Rattle.av_base.specs.Words.{how_many}
-use Rattle.av_base.specs.declared.slot.Slot.{Slot}
 use Rattle.av_index.proofs.UsedLaws.{uses-split}
 use Rattle.av_index.specs.Holders.{KeysRise, keys_at, pairs_at, seen_at, used_within, uses_at}
 use Rattle.av_index.specs.Holding.{Holding}
@@ -17,7 +16,7 @@ use Rattle.av_plain.specs.Reclaim.{names_seen}
 use Rattle.av_book.specs.Entries.{cached_of, entries_of, entry_of}
 use Rattle.av_book.specs.Index.{KeepsKeys, KeepsOthers, Tells}
 use Rattle.av_book.specs.Pages.{Content, IsIndexed, used_pages}
-use Rattle.av_book.specs.SlotHolders.{area_at, slot_keys_at, slot_pairs_at, slot_seen_at}
+use Rattle.av_book.specs.SlotHolders.{area_at, slot_pairs_at, slot_seen_at}
 use Rattle.av_book.specs.declared.book.Cached.{Cached}
 use Rattle.av_book.specs.declared.book.Entry.{Entry}
 use Rattle.av_book.specs.declared.index.Index.{Index}

@@ -33,14 +33,14 @@ impl Index {
         }
     }
 
-    /// The frames' side.
+    /// What holds each frame.
     pub(crate) fn frames(&self) -> &Holders
         ensures { result.now ≡ self.now.frames }
     {
         &self.frames
     }
 
-    /// The slots' side.
+    /// What holds each slot.
     pub(crate) fn slots(&self) -> &SlotHolders
         ensures { result.now ≡ self.now.slots }
     {
@@ -117,9 +117,8 @@ impl Index {
         ensures others { KeepsOthers self.old self.new key }
         ensures pairs { KeepsPairs self.old self.new }
     {
-        if let (Some(Entry::InFrame { frame: at, .. }), Entry::InFrame { frame, seen }) = (
-            old, entry,
-        ) {
+        let both = (old, entry);
+        if let (Some(Entry::InFrame { frame: at, .. }), Entry::InFrame { frame, seen }) = both {
             if at == frame {
                 return self.see(key, frame, seen);
             }

@@ -1,7 +1,7 @@
 //! The entries of pages and the cached pairs, with what is kept beside them.
 
-ghost use Rattle.std.specs.Prelude.{◌≡◌, ◌+◌, ◌-◌, ◌^◌, ◌<◌, ◌==◌, ℕ, List, [], ◌∷◌};
-ghost use Rattle.std.specs.Prelude.{IfOk, OnErr, OnOk, None, Some, if◌then◌else◌, filter, length};
+ghost use Rattle.std.specs.Prelude.{◌≡◌, ◌+◌, ◌-◌, ◌^◌, ◌<◌, ◌==◌, [], ◌∷◌};
+ghost use Rattle.std.specs.Prelude.{IfOk, OnOk, None, Some, if◌then◌else◌, filter, length};
 ghost use Rattle.std.specs.Prelude.{map, nat_lt, not, option_map, set, slice_get};
 ghost use Rattle.std.specs.BTreeMap.{insert_entry, is_at};
 ghost use Rattle.std.specs.List.{list_any, range_with_len};

@@ -1,4 +1,4 @@
-use Rattle.std.proofs.Common.{ap, subst, ◌∙◌}
+use Rattle.std.proofs.Common.{ap, ◌∙◌}
 use Rattle.av_base.specs.Keys.{Key}
 use Rattle.av_base.specs.Words.{how_many}
 use Rattle.av_plain.specs.Ledger.{Entry as PlainEntry, names_frame}

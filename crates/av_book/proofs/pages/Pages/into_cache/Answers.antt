@@ -1,4 +1,4 @@
-use Rattle.std.proofs.Common.{ap, length, subst, sym, ◌<◌}
+use Rattle.std.proofs.Common.{ap, length, subst, ◌<◌}
 use Rattle.std.specs.Prelude.{◌^◌}
 use Rattle.av_book.specs.declared.book.Cached.{Cached}
 use Rattle.av_book.proofs.PairLaws.{room}
