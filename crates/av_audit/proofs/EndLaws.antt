@@ -1,5 +1,6 @@
 -- Units of a first line and notes, of a command that is answered by where its accesses end.
-use Rattle.std.proofs.Common.{◌≡◌, ℕ, Bool, true, false, not, List, [], ◌∷◌, ◌++◌, length, Some, None, is_some, take, refl, sym, ap, subst, ◌∙◌, append-nil, append_assoc}
+use Rattle.std.proofs.Common.{◌≡◌, ℕ, Bool, true, false, not, List, [], ◌∷◌, ◌++◌, length, Some, None, is_some, take, refl, sym, ap, subst}
+use Rattle.std.proofs.Common.{◌∙◌, append-nil, append_assoc}
 use Rattle.std.specs.Prelude.{MatchOption, codes}
 use Rattle.std.specs.List.{AllByRecursion}
 use Rattle.av_trace.specs.declared.command.Command.{Command}
@@ -187,12 +188,12 @@ tells-left m w l command Lawful Answers unit memories book false told ending non
 -- a read that ends so answers the bytes that were served
 abbrev pub ReadsTo : World → ℕ → ℕ → ℕ → End → Answer → Type 0
 ReadsTo w p a n end answer =
-    (shown : List ℕ) × Reads (pages w p) a (bytes_served a n end) shown × (answer ≡ read_answer a end shown)
+    (shown : List ℕ) × Reads (pages w p) a (bytes_served a n end) shown × (answer ≡ read_answer a end bytes)
 
 abbrev pub WritesTo : ℕ → End → Answer → Type 0
 WritesTo a end answer = answer ≡ write_answer a end
 
-read-notes : (a : ℕ) (end : End) (shown : List ℕ) → HasNotes (read_answer a end shown)
+read-notes : (a : ℕ) (end : End) (shown : List ℕ) → HasNotes (read_answer a end bytes)
 read-notes a Whole shown notes rows = (λ h. h, λ h. h)
 read-notes a (Stopped page Denied) shown notes rows = (λ h. h, λ h. h)
 read-notes a (Stopped page (Starved out)) shown notes rows = (λ h. h, λ h. h)

@@ -155,10 +155,10 @@ seen-left m w command unit true memories book h = h
 seen-left m w command unit false memories book h = h
 
 -- what is said of one command is said of the same
-pub right-is : (m : Setting) (w : World) (l : Ledger) (command other : Command) (unit : List ℕ) (verdict said : Verdict) (new : Auditor)
-    → other ≡ command → said ≡ verdict → IsRight m w l command unit verdict new → IsRight m w l other unit said new
-right-is m w l command other unit verdict said new c v h =
-    subst (λ c. IsRight m w l c unit said new) (sym c) (subst (λ v. IsRight m w l command unit v new) (sym v) h)
+pub right-is : (m : Setting) (w : World) (l : Ledger) (command other : Command) (unit : List ℕ) (verdict answer : Verdict) (new : Auditor)
+    → other ≡ command → answer ≡ verdict → IsRight m w l command unit verdict new → IsRight m w l other unit answer new
+right-is m w l command other unit verdict answer new c v h =
+    subst (λ c. IsRight m w l c unit answer new) (sym c) (subst (λ v. IsRight m w l command unit v new) (sym v) h)
 
 -- a refusal leaves all
 pub refused-left : (m : Setting) (w : World) (book : Book) (command : Command) (unit : List ℕ) (error : Errno) (legal : Bool)

@@ -40,7 +40,7 @@ pub struct Auditor {
 }
 
 /// What is said of a unit.
-fn said(legal: bool) -> Verdict
+fn to_verdict(legal: bool) -> Verdict
     ensures { result ≡ verdict_of legal }
 {
     if legal {
@@ -76,7 +76,7 @@ impl Auditor {
     {
         let (memories, book) = (&mut self.memories, &mut self.book);
         let legal = is_legal(self.alloc, &self.machine, memories, book, command, unit)?;
-        Ok(said(legal))
+        Ok(to_verdict(legal))
     }
 
     /// What is said of a unit for a command.

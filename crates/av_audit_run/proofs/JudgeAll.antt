@@ -21,7 +21,7 @@ use Rattle.av_audit_input.specs.declared.input_err.InputErr.{InputErr}
 use Rattle.av_audit_input.specs.declared.input_err.InputErr.TheVariants as input
 use Rattle.av_audit_input.proofs.UnitLaws.{bytes-more, cut-more, cut-none}
 use Rattle.av_audit_run.specs.declared.transcript.Finding.{Finding}
-use Rattle.av_audit_run.specs.Transcript.{found_of, BreaksOff, IsWrong, Judges, StopsAt, StopsReading}
+use Rattle.av_audit_run.specs.Transcript.{finding_of, BreaksOff, IsWrong, Judges, StopsAt, StopsReading}
 use Rattle.av_audit_run.specs.declared.transcript.Finding.TheVariants as findings
 
 units-more : (m : Setting) (w : World) (l : Ledger) (cs : List Command) (us : List (List ℕ)) (w' w'' : World) (l' l'' : Ledger) (c : Command)
@@ -234,17 +234,17 @@ reading-breaks m commands number before left auditor error unit ahead ahead' old
 pub verdict-ends : (m : Setting) (commands others : List Command) (number : ℕ) (before now after : Option (List ℕ)) (left left' : ℕ)
     (auditor auditor' : Auditor) (command : Command) (unit : List ℕ) (Ended : Type 0) (verdict : Verdict) (finding : Finding)
     → (h : Judged m commands number before now left auditor) → Taken m commands number before after left' h.units unit
-    → drop number commands ≡ command ∷ others → found_of verdict (number + 1) ≡ Some finding
+    → drop number commands ≡ command ∷ others → finding_of verdict (number + 1) ≡ Some finding
     → IsRight m h.world h.ledger command unit verdict auditor' → Judges finding m commands before after Ended
-verdict-ends m commands others number before now after left left' auditor auditor' command unit Ended verdicts.Legal finding h t is found right = cc
-verdict-ends m commands others number before now after left left' auditor auditor' command unit Ended verdicts.Illegal finding h t is found right =
-    let same : findings.Illegal (number + 1) ≡ finding = ap (λ o. unwrap_or o finding) found in
+verdict-ends m commands others number before now after left left' auditor auditor' command unit Ended verdicts.Legal finding h t is ends right = cc
+verdict-ends m commands others number before now after left left' auditor auditor' command unit Ended verdicts.Illegal finding h t is ends right =
+    let same : findings.Illegal (number + 1) ≡ finding = ap (λ o. unwrap_or o finding) ends in
     subst (λ f. Judges f m commands before after Ended) same
     (wrong m commands number before now left auditor h after left' unit t Ended
     (subst (λ cs. IsWrong m h.world h.ledger cs (unit ∷ [])) (sym is) right))
 
 -- it goes on, since the unit is legal
-pub verdict-legal : (verdict : Verdict) (number : ℕ) → found_of verdict number ≡ None → verdict ≡ verdicts.Legal
+pub verdict-legal : (verdict : Verdict) (number : ℕ) → finding_of verdict number ≡ None → verdict ≡ verdicts.Legal
 verdict-legal verdicts.Legal number e = refl
 verdict-legal verdicts.Illegal number e = cc
 
@@ -267,11 +267,11 @@ too-many m commands number before now after left left' auditor unit Ended h t is
     (subst (λ cs. IsWrong m h.world h.ledger cs (unit ∷ [])) (sym is) tt)
 
 -- a trace has no more commands than lines
-pub said-few : (lines : List (List ℕ)) (cs : List Command) → AreSaid lines cs → length cs ≤ length lines
-said-few [] cs h = omega (arith, ap length h)
-said-few (line ∷ lines) cs h = by h.0 (ap length h.2 ∙ length-append (option_to_list h.0) h.1) (said-few lines h.1 h.4)
+pub commands-few : (lines : List (List ℕ)) (cs : List Command) → AreSaid lines cs → length cs ≤ length lines
+commands-few [] cs h = omega (arith, ap length h)
+commands-few (line ∷ lines) cs h = by h.0 (ap length h.2 ∙ length-append (option_to_list h.0) h.1) (commands-few lines h.1 h.4)
   where
-    by : (said : Option Command) → length cs ≡ length (option_to_list said) + length h.1 → length h.1 ≤ length lines → length cs ≤ length (line ∷ lines)
+    by : (command : Option Command) → length cs ≡ length (option_to_list command) + length h.1 → length h.1 ≤ length lines → length cs ≤ length (line ∷ lines)
     by None e few = omega (arith, e, few)
     by (Some c) e few = omega (arith, e, few)
 

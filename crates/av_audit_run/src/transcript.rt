@@ -10,7 +10,7 @@ ghost use Rattle.av_audit.specs.declared.auditor.Phase.TheVariants.{Going};
 ghost use Rattle.av_audit_input.specs.Input.{FailsOnly, IsEnded, IsNoPortErr, OnlyReads};
 ghost use Rattle.av_audit_input.specs.Trace.{most_lines};
 ghost use Rattle.av_audit_input.specs.Unit.{most_bytes};
-ghost use Rattle.av_audit_run.specs.Transcript.{AuditStops, Audits, BreaksOff, Judges, found_of};
+ghost use Rattle.av_audit_run.specs.Transcript.{AuditStops, Audits, BreaksOff, Judges, finding_of};
 
 use av_audit::{Auditor, Verdict};
 use av_audit_input::{Extent, InputErr, read_trace, read_unit};
@@ -26,9 +26,9 @@ pub enum Finding {
     Illegal(u32),
 }
 
-/// What was found of a unit, if the audit ends with it.
-fn found(verdict: Verdict, number: u32) -> Option<Finding>
-    ensures { result ≡ found_of verdict number }
+/// What is found at the unit of this number, if the audit ends there.
+fn finding_at(verdict: Verdict, number: u32) -> Option<Finding>
+    ensures { result ≡ finding_of verdict number }
 {
     match verdict {
         Verdict::Legal => None,
@@ -67,7 +67,7 @@ fn judge_all<P: Ports>(
             return Ok(Finding::Illegal(number));
         }
         let verdict = auditor.judge(command, unit.as_slice())?;
-        match found(verdict, number) {
+        match finding_at(verdict, number) {
             Some(finding) => return Ok(finding),
             None => {}
         }

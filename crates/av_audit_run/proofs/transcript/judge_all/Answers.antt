@@ -110,7 +110,7 @@ returns-in-Some-clause-judged g c =
     (subst (λ u. IsRight (setting_of auditor.machine) h.world h.ledger command u verdict auditor') c.as_slice.ensures.value
     (c.in_ok-verdict.ensures.going inv.going h.world h.ledger h.is_at)) in
     verdict-ends m cs others k before was after left left' auditor auditor' command unit (IsEnded ahead new) verdict c.in-Some.finding h t is
-    (sym c.found.ensures ∙ c.in-Some.is) right
+    (sym c.finding_at.ensures ∙ c.in-Some.is) right
 
 pub returns-in-Some-clause-only : goal.returns-in-Some-clause-only
 returns-in-Some-clause-only g c = only-then _ _ _ c.loop-index.invariant.only c.read_unit.ensures.only
@@ -143,7 +143,7 @@ loop-index-preserved g c =
     let right = subst (λ mm. IsRight (setting_of mm) h.world h.ledger command unit verdict auditor') inv.machine
     (subst (λ u. IsRight (setting_of auditor.machine) h.world h.ledger command u verdict auditor') c.as_slice.ensures.value
     (c.in_ok-verdict.ensures.going inv.going h.world h.ledger h.is_at)) in
-    let legal = verdict-legal verdict (k + 1) (sym c.found.ensures ∙ c.in-None.is) in
+    let legal = verdict-legal verdict (k + 1) (sym c.finding_at.ensures ∙ c.in-None.is) in
     record {
       machine = c.judge.ensures.machine ∙ inv.machine;
       going = c.in_ok-verdict.ensures.goes_on legal;
