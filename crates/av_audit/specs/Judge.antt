@@ -8,11 +8,21 @@ use Rattle.av_audit_laws.specs.Unit.{IsUnit, Leaves}
 use Rattle.av_book.specs.Book.{ledger_of}
 use Rattle.av_book.specs.Machine.{setting_of}
 use Rattle.av_book.specs.declared.book.Book.{Book}
+use Rattle.av_book.specs.declared.machine.Machine.{Machine}
 use Rattle.av_world.specs.Memories.{IsWorld}
 use Rattle.av_world.specs.declared.memories.Memories.{Memories}
 use Rattle.av_audit.specs.declared.auditor.Auditor.{Auditor}
+use Rattle.av_audit.specs.declared.auditor.Phase.{Phase}
 use Rattle.av_audit.specs.declared.auditor.Verdict.{Verdict}
 use Rattle.av_audit.specs.declared.auditor.Verdict.TheVariants.{Legal, Illegal}
+
+-- the frames and swap areas for which the auditor judges
+abbrev pub machine_of : Auditor → Machine
+machine_of a = a.machine
+
+-- whether it goes on
+abbrev pub phase_of : Auditor → Phase
+phase_of a = a.phase
 
 -- the auditor keeps these memories and this ledger, and they are sound
 pub record IsAt (a : Auditor) (w : World) (l : Ledger) : Type 0 where
