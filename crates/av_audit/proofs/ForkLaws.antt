@@ -12,7 +12,7 @@ use Rattle.av_plain.specs.World.{Process, World, child_of, pages, set_process}
 use Rattle.av_judge.specs.Says.{SaysOnly}
 use Rattle.av_world.specs.Memories.{IsWorld}
 use Rattle.av_world.specs.declared.memories.Memories.{Memories}
-use Rattle.av_audit.proofs.KnownUnits.{IsSaid, known-said}
+use Rattle.av_audit.proofs.KnownUnits.{IsLeftAt, known-said}
 
 -- the pages of those keys whose entries go over
 abbrev pub heir_pages : Process → List Key → List ℕ
@@ -43,7 +43,7 @@ pub fork-said : (m : Setting) (w : World) (l l' : Ledger) (p q : ℕ) (unit : Li
     → is_some m.headers ≡ true → refusal (tests m w l (Fork p q)) ≡ None → SaysOnly legal unit Done
     → (legal ≡ true → l' ≡ after_fork p q (inheritance (pages w p) l p) l)
     → (legal ≡ true → IsWorld memories (set_process w q (child_of (pages w p))))
-    → IsSaid m w l (Fork p q) unit legal l' memories
+    → IsLeftAt m w l (Fork p q) unit legal l' memories
 fork-said m w l l' p q unit true memories told none says after at =
     known-said m w l (Fork p q) Done (Forked p q (inheritance (pages w p) l p) ∷ []) unit true l' memories told
     (record { no_test = none; only = λ es answer rows h. h; does = (refl, refl, refl); notes = refl })

@@ -29,7 +29,7 @@ use Rattle.av_judge.specs.Says.{SaysOnly}
 use Rattle.av_judge.specs.Verdict.{IsVerdict}
 use Rattle.av_world.specs.Memories.{IsWorld}
 use Rattle.av_world.specs.declared.memories.Memories.{Memories}
-use Rattle.av_audit.specs.Judge.{IsLeft, IsRight, IsSeen, verdict_of}
+use Rattle.av_audit.specs.Judge.{IsLeft, IsRight, LeavesLedger, verdict_of}
 use Rattle.av_audit.specs.declared.auditor.Verdict.{Verdict}
 use Rattle.av_audit.specs.declared.auditor.Auditor.{Auditor}
 
@@ -44,17 +44,17 @@ pub record IsPlain (m : Setting) (w : World) (l : Ledger) (command : Command) (a
       → reply ≡ answer_only answer
 
 -- where these are the next memories, this is what is said
-pub plain-seen : (m : Setting) (w : World) (l : Ledger) (command : Command) (unit : List ℕ) (answer : Answer)
+pub plain-leaves : (m : Setting) (w : World) (l : Ledger) (command : Command) (unit : List ℕ) (answer : Answer)
     (legal : Bool) (new : Memories) → IsPlain m w l command answer → SaysOnly legal unit answer
     → IsReply (answer_only answer)
     → (legal ≡ true → IsWorld new (next_world m w l [] command answer))
-    → IsSeen m w l command unit legal new
-plain-seen m w l command unit answer true new h says form at = (
+    → LeavesLedger m w l command unit legal new
+plain-leaves m w l command unit answer true new h says form at = (
   next_world m w l [] command answer,
   (answer_only answer, [], record { form = form; text = says; legal = h.legal }, refl, refl),
   at refl,
 )
-plain-seen m w l command unit answer false new h says form at = λ u.
+plain-leaves m w l command unit answer false new h says form at = λ u.
     says (u.2.text ∙ ap text_of (h.only u.0 u.1 u.2.legal))
 
 same-reply : (reply : Reply) (answer : Answer) → reply.answer ≡ answer → reply.notes ≡ [] → reply.rows ≡ []
@@ -80,13 +80,13 @@ refused-plain m w l command error is = record {
         → Refuses error events reply.answer reply.rows → reply ≡ answer_only (Refused error)
     only reply events notes h = same-reply reply (Refused error) h.0 (notes ∙ ap notes_of h.1) h.2
 
-pub refused-seen : (m : Setting) (w : World) (l : Ledger) (command : Command) (unit : List ℕ) (error : Errno) (legal : Bool)
+pub refused-leaves : (m : Setting) (w : World) (l : Ledger) (command : Command) (unit : List ℕ) (error : Errno) (legal : Bool)
     (memories : Memories) → is_some m.headers ≡ true → refusal (tests m w l command) ≡ Some error
-    → SaysOnly legal unit (Refused error) → IsWorld memories w → IsSeen m w l command unit legal memories
-refused-seen m w l command unit error legal memories told is says at =
+    → SaysOnly legal unit (Refused error) → IsWorld memories w → LeavesLedger m w l command unit legal memories
+refused-leaves m w l command unit error legal memories told is says at =
     let stays : next_world m w l [] command (Refused error) ≡ w =
     ap (λ v. next v command (Refused error)) (loads-told m w l [] told) ∙ refused-next m w w l command error is in
-    plain-seen m w l command unit (Refused error) legal memories (refused-plain m w l command error is) says
+    plain-leaves m w l command unit (Refused error) legal memories (refused-plain m w l command error is) says
     (record { answer = tt; rest = (tt, refl) }) (λ _. subst (IsWorld memories) (sym stays) at)
 
 -- ---- a command that isn't refused, and has one answer without events
@@ -113,11 +113,11 @@ followed-plain m w l command answer is does one = record {
         let same = one events reply.answer reply.rows h in
         same-reply reply answer same.0 (notes ∙ ap notes_of same.1) same.2
 
-pub spawn-seen : (m : Setting) (w : World) (l : Ledger) (p : ℕ) (unit : List ℕ) (legal : Bool) (new : Memories)
+pub spawn-leaves : (m : Setting) (w : World) (l : Ledger) (p : ℕ) (unit : List ℕ) (legal : Bool) (new : Memories)
     → is_some m.headers ≡ true → refusal (tests m w l (Spawn p)) ≡ None → SaysOnly legal unit Done
-    → (legal ≡ true → IsWorld new (set_process w p no_pages)) → IsSeen m w l (Spawn p) unit legal new
-spawn-seen m w l p unit legal new told is says now =
-    plain-seen m w l (Spawn p) unit Done legal new
+    → (legal ≡ true → IsWorld new (set_process w p no_pages)) → LeavesLedger m w l (Spawn p) unit legal new
+spawn-leaves m w l p unit legal new told is says now =
+    plain-leaves m w l (Spawn p) unit Done legal new
     (followed-plain m w l (Spawn p) Done is (refl, refl, refl) (λ events other rows h. h)) says
     (record { answer = tt; rest = (tt, refl) })
     (λ yes. subst (λ v. IsWorld new (set_process v p no_pages)) (sym (loads-told m w l [] told)) (now yes))
@@ -149,10 +149,10 @@ left-right m w l command unit true new same sound h = (
 left-right m w l command unit false new same sound h = h
 
 -- a command that changes no entry
-pub seen-left : (m : Setting) (w : World) (command : Command) (unit : List ℕ) (legal : Bool) (memories : Memories) (book : Book)
-    → IsSeen m w (ledger_of book) command unit legal memories → IsLeft m w (ledger_of book) command unit legal memories book
-seen-left m w command unit true memories book h = h
-seen-left m w command unit false memories book h = h
+pub ledger-left : (m : Setting) (w : World) (command : Command) (unit : List ℕ) (legal : Bool) (memories : Memories) (book : Book)
+    → LeavesLedger m w (ledger_of book) command unit legal memories → IsLeft m w (ledger_of book) command unit legal memories book
+ledger-left m w command unit true memories book h = h
+ledger-left m w command unit false memories book h = h
 
 -- what is said of one command is said of the same
 pub right-is : (m : Setting) (w : World) (l : Ledger) (command other : Command) (unit : List ℕ) (verdict answer : Verdict) (new : Auditor)
@@ -165,9 +165,9 @@ pub refused-left : (m : Setting) (w : World) (book : Book) (command : Command) (
     (memories : Memories) → is_some m.headers ≡ true → refusal (tests m w (ledger_of book) command) ≡ Some error
     → SaysOnly legal unit (Refused error) → IsWorld memories w → IsLeft m w (ledger_of book) command unit legal memories book
 refused-left m w book command unit error true memories told is says at =
-    refused-seen m w (ledger_of book) command unit error true memories told is says at
+    refused-leaves m w (ledger_of book) command unit error true memories told is says at
 refused-left m w book command unit error false memories told is says at =
-    refused-seen m w (ledger_of book) command unit error false memories told is says at
+    refused-leaves m w (ledger_of book) command unit error false memories told is says at
 
 -- a command that answers ok alone
 pub done-left : (m : Setting) (w next' : World) (l : Ledger) (command : Command) (unit : List ℕ) (memories : Memories) (book : Book)

@@ -46,8 +46,9 @@ IsLeft m w l command unit legal memories book = MatchBool legal
     ((w' : World) × Leaves m w l command unit w' (ledger_of book) × IsWorld memories w')
     (IsUnit m w l command unit → ⊥)
 
--- the unit is legal, leaves the ledger, and these are the memories that it leaves; or it isn't
-abbrev pub IsSeen : Setting → World → Ledger → Command → List ℕ → Bool → Memories → Type 0
-IsSeen m w l command unit legal new = MatchBool legal
+-- the unit is legal, leaves the ledger as it is, and these are the memories that it leaves; or it
+-- isn't
+abbrev pub LeavesLedger : Setting → World → Ledger → Command → List ℕ → Bool → Memories → Type 0
+LeavesLedger m w l command unit legal new = MatchBool legal
     ((w' : World) × Leaves m w l command unit w' l × IsWorld new w')
     (IsUnit m w l command unit → ⊥)

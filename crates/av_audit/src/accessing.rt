@@ -16,7 +16,7 @@ ghost use Rattle.av_judge.specs.Says.{SaysOnly};
 ghost use Rattle.av_world.specs.Memories.{IsWorld};
 ghost use Rattle.av_access_judge.specs.Access.{Ends, end_of};
 ghost use Rattle.av_access_judge.specs.Come.{stop_of};
-ghost use Rattle.av_audit.specs.Access.{IsFirst, end_below, turns_of};
+ghost use Rattle.av_audit.specs.Access.{IsFirstLine, end_below, turns_of};
 ghost use Rattle.av_audit.specs.Judge.{IsLeft};
 
 use crate::lengths::pages_met;
@@ -31,7 +31,7 @@ use std::alloc::{AllocError, Global};
 
 /// The first line of a unit, with its newline, and what is behind it.
 pub fn first_line(unit: &[u8]) -> Option<(&[u8], &[u8])>
-    ensures some { IfSome result (λ x. IsFirst unit.now x.0.now x.1.now) }
+    ensures some { IfSome result (λ x. IsFirstLine unit.now x.0.now x.1.now) }
     ensures none { IfNone result (lacks 10 unit.now ≡ true) }
 {
     match cut(b'\n', unit) {

@@ -15,7 +15,7 @@ use Rattle.av_audit_input.specs.Trace.{EndsTrace}
 use Rattle.av_audit_input.specs.Unit.{bytes_of, units_of}
 use Rattle.av_audit_run.specs.declared.transcript.Finding.{Finding}
 use Rattle.av_audit_run.specs.declared.transcript.Finding.TheVariants as findings
-use Rattle.av_audit_run.specs.Transcript.{AreLegal, Audits, Finds, IsAuditOf, IsFinding, IsFront, IsWrong, StopsAt}
+use Rattle.av_audit_run.specs.Transcript.{AreLegal, Audits, FindsIn, IsAuditOf, IsFinding, IsFront, IsWrong, StopsAt}
 
 -- what the others are legal from
 behind : (m : Setting) (w : World) (l : Ledger) (done others : List Command) (legal rest : List (List ℕ)) (w1 w' : World) (l1 l' : Ledger)
@@ -136,7 +136,7 @@ wrong-longer m more w l [] u us h = h
 wrong-longer m more w l (c ∷ others) u us h = h
 
 finds-all : (finding : Finding) (m : Setting) (commands : List Command) (units more : List (List ℕ)) (Ended : Type 0) → (Ended → more ≡ [])
-    → Finds finding m commands units Ended → IsFinding finding m commands (units ++ more)
+    → FindsIn finding m commands units Ended → IsFinding finding m commands (units ++ more)
 finds-all findings.Legal m commands units more Ended none h =
     subst (AreLegal m commands) (sym (append-nil units) ∙ ap (λ us. units ++ us) (sym (none h.1))) h.0
 finds-all (findings.Illegal n) m commands units more Ended none h =

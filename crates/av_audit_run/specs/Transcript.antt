@@ -48,10 +48,10 @@ abbrev pub AreLegal : Setting → List Command → List (List ℕ) → Type 0
 AreLegal m commands units =
     (w : World) × (l : Ledger) × AreUnits m [] first_ledger commands units w l
 
--- what is found of units, which are all where the input has ended
-abbrev pub Finds : Finding → Setting → List Command → List (List ℕ) → Type 0 → Type 0
-Finds findings.Legal m commands units Ended = AreLegal m commands units × Ended
-Finds (findings.Illegal n) m commands units Ended =
+-- what is found in units, which are all where the input has ended
+abbrev pub FindsIn : Finding → Setting → List Command → List (List ℕ) → Type 0 → Type 0
+FindsIn findings.Legal m commands units Ended = AreLegal m commands units × Ended
+FindsIn (findings.Illegal n) m commands units Ended =
     StopsAt m commands units n IsWrong × ((n ≡ length units) ⊎ Ended)
 
 -- ---- a transcript that is read
@@ -64,7 +64,7 @@ pub record Judges (finding : Finding) (m : Setting) (commands : List Command)
   pub each : AllByRecursion IsOne units
   pub cuts : Cuts units before now
   pub few : length (bytes_of units) ≤ most_bytes
-  pub finds : Finds finding m commands units Ended
+  pub finds : FindsIn finding m commands units Ended
 
 -- behind so many bytes a unit has more than there may be
 abbrev pub IsOver : ℕ → Option (List ℕ) → Type 0

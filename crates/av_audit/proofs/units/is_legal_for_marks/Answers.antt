@@ -3,7 +3,7 @@ use Rattle.std.proofs.lemmas.Result.{IfOk-weaker}
 use Rattle.av_trace.specs.declared.command.Command.TheVariants as commands
 use Rattle.av_book.specs.Book.{ledger_of}
 use Rattle.av_book.specs.Machine.{setting_of}
-use Rattle.av_audit.proofs.JudgeLaws.{left-is, seen-left}
+use Rattle.av_audit.proofs.JudgeLaws.{left-is, ledger-left}
 use Rattle.av_audit.proofs.units.is_legal_for_marks.Goals as goal
 
 pub returns-in-Mprotect : goal.returns-in-Mprotect
@@ -11,7 +11,7 @@ returns-in-Mprotect c = IfOk-weaker c.audits_mprotect.result _ _ (λ legal h mac
     left-is (setting_of machine) w (ledger_of c.args.book.now)
     (commands.Mprotect c.in-Mprotect.process c.in-Mprotect.address c.in-Mprotect.len c.in-Mprotect.prot)
     c.args.command.now c.args.unit.now legal c.audits_mprotect.new.memories c.args.book.now c.in-Mprotect.is
-    (seen-left (setting_of machine) w (commands.Mprotect c.in-Mprotect.process c.in-Mprotect.address c.in-Mprotect.len c.in-Mprotect.prot)
+    (ledger-left (setting_of machine) w (commands.Mprotect c.in-Mprotect.process c.in-Mprotect.address c.in-Mprotect.len c.in-Mprotect.prot)
     c.args.unit.now legal c.audits_mprotect.new.memories c.args.book.now
     (h (setting_of machine) w (ledger_of c.args.book.now) at refl)))
     c.audits_mprotect.ensures
@@ -29,7 +29,7 @@ returns-in-Munlock c = IfOk-weaker c.audits_munlock.result _ _ (λ legal h machi
     left-is (setting_of machine) w (ledger_of c.args.book.now)
     (commands.Munlock c.in-Munlock.process c.in-Munlock.address c.in-Munlock.len)
     c.args.command.now c.args.unit.now legal c.audits_munlock.new.memories c.args.book.now c.in-Munlock.is
-    (seen-left (setting_of machine) w (commands.Munlock c.in-Munlock.process c.in-Munlock.address c.in-Munlock.len)
+    (ledger-left (setting_of machine) w (commands.Munlock c.in-Munlock.process c.in-Munlock.address c.in-Munlock.len)
     c.args.unit.now legal c.audits_munlock.new.memories c.args.book.now
     (h (setting_of machine) w (ledger_of c.args.book.now) at refl)))
     c.audits_munlock.ensures

@@ -3,7 +3,7 @@ use Rattle.std.proofs.lemmas.Result.{IfOk-weaker}
 use Rattle.av_trace.specs.declared.command.Command.TheVariants as commands
 use Rattle.av_book.specs.Book.{ledger_of}
 use Rattle.av_book.specs.Machine.{setting_of}
-use Rattle.av_audit.proofs.JudgeLaws.{left-is, seen-left}
+use Rattle.av_audit.proofs.JudgeLaws.{left-is, ledger-left}
 use Rattle.av_audit.proofs.units.is_legal_for_process.Goals as goal
 
 pub returns-in-Spawn : goal.returns-in-Spawn
@@ -11,7 +11,7 @@ returns-in-Spawn c = IfOk-weaker c.audits_spawn.result _ _ (λ legal h machine w
     left-is (setting_of machine) w (ledger_of c.args.book.now)
     (commands.Spawn c.in-Spawn.process)
     c.args.command.now c.args.unit.now legal c.audits_spawn.new.memories c.args.book.now c.in-Spawn.is
-    (seen-left (setting_of machine) w (commands.Spawn c.in-Spawn.process)
+    (ledger-left (setting_of machine) w (commands.Spawn c.in-Spawn.process)
     c.args.unit.now legal c.audits_spawn.new.memories c.args.book.now
     (h (setting_of machine) w (ledger_of c.args.book.now) at refl)))
     c.audits_spawn.ensures
