@@ -12,7 +12,8 @@ use Rattle.av_plain.specs.World.{Process, World, child_of, pages, set_process}
 use Rattle.av_judge.specs.Says.{SaysOnly}
 use Rattle.av_world.specs.Memories.{IsWorld}
 use Rattle.av_world.specs.declared.memories.Memories.{Memories}
-use Rattle.av_audit.proofs.KnownUnits.{IsLeftAt, known-said}
+use Rattle.av_audit.specs.Judge.{IsLeftAt}
+use Rattle.av_audit.proofs.KnownUnits.{known-said}
 
 -- the pages of those keys whose entries go over
 abbrev pub heir_pages : Process → List Key → List ℕ

@@ -29,7 +29,7 @@ use Rattle.av_judge.specs.Says.{SaysOnly}
 use Rattle.av_judge.specs.Verdict.{IsVerdict}
 use Rattle.av_world.specs.Memories.{IsWorld}
 use Rattle.av_world.specs.declared.memories.Memories.{Memories}
-use Rattle.av_audit.specs.Judge.{IsLeft, IsRight, LeavesLedger, verdict_of}
+use Rattle.av_audit.specs.Judge.{IsLeft, IsLeftAt, IsRight, LeavesLedger, verdict_of}
 use Rattle.av_audit.specs.declared.auditor.Verdict.{Verdict}
 use Rattle.av_audit.specs.declared.auditor.Auditor.{Auditor}
 
@@ -148,12 +148,6 @@ left-right m w l command unit true new same sound h = (
 )
 left-right m w l command unit false new same sound h = h
 
--- a command that changes no entry
-pub ledger-left : (m : Setting) (w : World) (command : Command) (unit : List ℕ) (legal : Bool) (memories : Memories) (book : Book)
-    → LeavesLedger m w (ledger_of book) command unit legal memories → IsLeft m w (ledger_of book) command unit legal memories book
-ledger-left m w command unit true memories book h = h
-ledger-left m w command unit false memories book h = h
-
 -- what is said of one command is said of the same
 pub right-is : (m : Setting) (w : World) (l : Ledger) (command other : Command) (unit : List ℕ) (verdict answer : Verdict) (new : Auditor)
     → other ≡ command → answer ≡ verdict → IsRight m w l command unit verdict new → IsRight m w l other unit answer new
@@ -164,10 +158,8 @@ right-is m w l command other unit verdict answer new c v h =
 pub refused-left : (m : Setting) (w : World) (book : Book) (command : Command) (unit : List ℕ) (error : Errno) (legal : Bool)
     (memories : Memories) → is_some m.headers ≡ true → refusal (tests m w (ledger_of book) command) ≡ Some error
     → SaysOnly legal unit (Refused error) → IsWorld memories w → IsLeft m w (ledger_of book) command unit legal memories book
-refused-left m w book command unit error true memories told is says at =
-    refused-leaves m w (ledger_of book) command unit error true memories told is says at
-refused-left m w book command unit error false memories told is says at =
-    refused-leaves m w (ledger_of book) command unit error false memories told is says at
+refused-left m w book command unit error legal memories told is says at =
+    refused-leaves m w (ledger_of book) command unit error legal memories told is says at
 
 -- a command that answers ok alone
 pub done-left : (m : Setting) (w next' : World) (l : Ledger) (command : Command) (unit : List ℕ) (memories : Memories) (book : Book)
@@ -190,6 +182,23 @@ pub not-left : (m : Setting) (w : World) (l l' : Ledger) (command : Command) (un
     → IsVerdict m w l command unit false l' → IsLeft m w l command unit false memories book
 not-left m w l l' command unit memories book h = λ u. h u.0 u.1 u.2.form u.2.text u.2.legal
 
+-- a command that changes no memories
+pub book-left : (m : Setting) (w : World) (l : Ledger) (command : Command) (unit : List ℕ) (legal : Bool) (memories : Memories)
+    (book : Book) → is_some m.headers ≡ true → ((v : World) (answer : Answer) → next v command answer ≡ v)
+    → IsVerdict m w l command unit legal (ledger_of book) → IsWorld memories w → IsLeft m w l command unit legal memories book
+book-left m w l command unit true memories book told stays h at = (
+  w,
+  (
+    h.reply,
+    h.events,
+    record { form = h.form; text = h.text; legal = h.legal },
+    sym (stays (with_loads m w l h.events) h.reply.answer ∙ loads-told m w l h.events told),
+    h.after,
+  ),
+  at,
+)
+book-left m w l command unit false memories book told stays h at = λ u. h u.0 u.1 u.2.form u.2.text u.2.legal
+
 -- what isn't refused is asked of a process that lives
 pub alive : (m : Setting) (w : World) (l : Ledger) (p a len : ℕ) → refusal (tests m w l (Munmap p a len)) ≡ None → lives w p ≡ true
 alive m w l p a len h = by (lives w p) h
@@ -199,6 +208,7 @@ alive m w l p a len h = by (lives w p) h
     by false e = cc
 
 -- what is left by one command is left by the same
-pub left-is : (m : Setting) (w : World) (l : Ledger) (command other : Command) (unit : List ℕ) (legal : Bool) (memories : Memories) (book : Book)
-    → other ≡ command → IsLeft m w l command unit legal memories book → IsLeft m w l other unit legal memories book
-left-is m w l command other unit legal memories book same h = subst (λ c. IsLeft m w l c unit legal memories book) (sym same) h
+pub left-is : {m : Setting} {w : World} {l l' : Ledger} {command other : Command} {unit : List ℕ} {legal : Bool} {memories : Memories}
+    → other ≡ command → IsLeftAt m w l command unit legal l' memories → IsLeftAt m w l other unit legal l' memories
+left-is {m} {w} {l} {l'} {command} {other} {unit} {legal} {memories} same h =
+    subst (λ c. IsLeftAt m w l c unit legal l' memories) (sym same) h

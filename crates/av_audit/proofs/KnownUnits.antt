@@ -30,20 +30,13 @@ use Rattle.av_plain.specs.Refusal.{Refuses, Tests, ends_too_high, is_bad_range, 
 use Rattle.av_plain.specs.Step.{Follows, next, next_world}
 use Rattle.av_plain.specs.World.{Process, World, is_mapped, lives, pages, pages_to_hole, pages_to_locked, set_process, with_prot_on}
 use Rattle.av_plain.specs.Zap.{keys_in, zaps_of}
-use Rattle.av_audit_laws.specs.Unit.{IsUnit, Leaves}
 use Rattle.av_judge.specs.Says.{SaysOnly}
 use Rattle.av_judge.proofs.KnownLaws.{AnswersOnly, known-verdict}
 use Rattle.av_world.specs.Memories.{IsWorld}
 use Rattle.av_world.specs.declared.memories.Memories.{Memories}
 use Rattle.av_audit.specs.Known.{SaysEvents, map_answer, reply_of}
-use Rattle.av_audit.specs.Judge.{LeavesLedger}
+use Rattle.av_audit.specs.Judge.{IsLeftAt, LeavesLedger}
 use Rattle.av_audit.proofs.JudgeLaws.{loads-told}
-
--- the unit is legal, leaves this ledger, and these are the memories that it leaves; or it isn't
-abbrev pub IsLeftAt : Setting → World → Ledger → Command → List ℕ → Bool → Ledger → Memories → Type 0
-IsLeftAt m w l command unit legal l' memories = MatchBool legal
-    ((w' : World) × Leaves m w l command unit w' l' × IsWorld memories w')
-    (IsUnit m w l command unit → ⊥)
 
 -- a command that has one reply, by these events
 pub known-said : (m : Setting) (w : World) (l : Ledger) (command : Command) (answer : Answer) (events : List Event) (unit : List ℕ)

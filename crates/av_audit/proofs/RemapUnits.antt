@@ -27,7 +27,8 @@ use Rattle.av_world.specs.Remap.{IsBelowTop}
 use Rattle.av_world.specs.declared.memories.Memories.{Memories}
 use Rattle.av_world.proofs.WorldLaws.{world-top}
 use Rattle.av_audit.specs.Known.{SaysEvents, map_answer, reply_of}
-use Rattle.av_audit.proofs.KnownUnits.{IsLeftAt, differ, first-lives, gap-one, is-map, known-said, map-is, no-first, page-again}
+use Rattle.av_audit.specs.Judge.{IsLeftAt}
+use Rattle.av_audit.proofs.KnownUnits.{differ, first-lives, gap-one, is-map, known-said, map-is, no-first, page-again}
 
 -- ---- tests
 

@@ -40,15 +40,18 @@ IsRight m w l command unit Legal new =
     (w' : World) × (l' : Ledger) × Leaves m w l command unit w' l' × IsAt new w' l'
 IsRight m w l command unit Illegal new = IsUnit m w l command unit → ⊥
 
--- the unit is legal, and leaves what these keep; or it isn't
-abbrev pub IsLeft : Setting → World → Ledger → Command → List ℕ → Bool → Memories → Book → Type 0
-IsLeft m w l command unit legal memories book = MatchBool legal
-    ((w' : World) × Leaves m w l command unit w' (ledger_of book) × IsWorld memories w')
+-- the unit is legal, and leaves this ledger and what these memories keep; or it isn't
+abbrev pub IsLeftAt : Setting → World → Ledger → Command → List ℕ → Bool → Ledger → Memories
+    → Type 0
+IsLeftAt m w l command unit legal l' memories = MatchBool legal
+    ((w' : World) × Leaves m w l command unit w' l' × IsWorld memories w')
     (IsUnit m w l command unit → ⊥)
 
--- the unit is legal, leaves the ledger as it is, and these are the memories that it leaves; or it
--- isn't
+-- the ledger is that of this book
+abbrev pub IsLeft : Setting → World → Ledger → Command → List ℕ → Bool → Memories → Book → Type 0
+IsLeft m w l command unit legal memories book =
+    IsLeftAt m w l command unit legal (ledger_of book) memories
+
+-- the ledger is as it was
 abbrev pub LeavesLedger : Setting → World → Ledger → Command → List ℕ → Bool → Memories → Type 0
-LeavesLedger m w l command unit legal new = MatchBool legal
-    ((w' : World) × Leaves m w l command unit w' l × IsWorld new w')
-    (IsUnit m w l command unit → ⊥)
+LeavesLedger m w l command unit legal memories = IsLeftAt m w l command unit legal l memories
