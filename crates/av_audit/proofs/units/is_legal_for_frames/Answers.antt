@@ -12,13 +12,15 @@ returns-in-Reclaim c = IfOk-weaker c.audits_reclaim.result _ _ (λ legal h w at 
 pub returns-in-Age : goal.returns-in-Age
 returns-in-Age c = IfOk-weaker c.judges_age.result _ _
     (λ legal h w at sound. left-is c.in-Age.is (book-left (setting_of c.args.machine.now) w (ledger_of c.args.book.now)
-    (commands.Age c.in-Age.frames) c.args.unit.now legal c.args.memories.now c.judges_age.new.book refl (λ v answer. refl) (h (setting_of c.args.machine.now) w) at))
+    (commands.Age c.in-Age.frames) c.args.unit.now legal c.args.memories.now c.judges_age.new.book refl (λ v answer. refl)
+    (h (setting_of c.args.machine.now) w) at))
     c.judges_age.ensures
 
 pub returns-in-Complete : goal.returns-in-Complete
 returns-in-Complete c = IfOk-weaker c.judges_complete.result _ _
     (λ legal h w at sound. left-is c.in-Complete.is (book-left (setting_of c.args.machine.now) w (ledger_of c.args.book.now)
-    (commands.Complete c.in-Complete.slots) c.args.unit.now legal c.args.memories.now c.judges_complete.new.book refl (λ v answer. refl) (h (setting_of c.args.machine.now) w) at))
+    (commands.Complete c.in-Complete.slots) c.args.unit.now legal c.args.memories.now c.judges_complete.new.book refl (λ v answer. refl)
+    (h (setting_of c.args.machine.now) w) at))
     c.judges_complete.ensures
 
 pub returns-in-Swapon : goal.returns-in-Swapon
