@@ -44,7 +44,7 @@ pub take-more : (cs : List Command) (k : ℕ) (c : Command) (others : List Comma
 take-more cs k c others is = take-add k 1 cs ∙ ap (λ l. take k cs ++ take 1 l) is
 
 -- so many units were judged, and are legal
-pub record Judged (m : Setting) (commands : List Command) (number : ℕ) (before now : Option (List ℕ)) (left : ℕ) (auditor : Auditor)
+pub record LegalSoFar (m : Setting) (commands : List Command) (number : ℕ) (before now : Option (List ℕ)) (left : ℕ) (auditor : Auditor)
     : Type 0 where
   pub units : List (List ℕ)
   pub each : AllByRecursion IsOne units
@@ -56,9 +56,9 @@ pub record Judged (m : Setting) (commands : List Command) (number : ℕ) (before
   pub many : length units ≡ number
   pub counts : most_bytes ≡ left + length (bytes_of units)
 
-pub judged-none : (m : Setting) (commands : List Command) (now : Option (List ℕ)) (left : ℕ) (auditor : Auditor) → left ≡ most_bytes
-    → IsAt auditor [] first_ledger → Judged m commands 0 now now left auditor
-judged-none m commands now left auditor all is_at = record {
+pub legal-none : (m : Setting) (commands : List Command) (now : Option (List ℕ)) (left : ℕ) (auditor : Auditor) → left ≡ most_bytes
+    → IsAt auditor [] first_ledger → LegalSoFar m commands 0 now now left auditor
+legal-none m commands now left auditor all is_at = record {
   units = [];
   each = tt;
   cuts = cut-none now;
@@ -71,18 +71,18 @@ judged-none m commands now left auditor all is_at = record {
 }
 
 -- the units with one more, which was taken
-pub record Taken (m : Setting) (commands : List Command) (number : ℕ) (before now : Option (List ℕ)) (left : ℕ) (units : List (List ℕ))
+pub record OneMore (m : Setting) (commands : List Command) (number : ℕ) (before now : Option (List ℕ)) (left : ℕ) (units : List (List ℕ))
     (unit : List ℕ) : Type 0 where
   pub each : AllByRecursion IsOne (units ++ unit ∷ [])
   pub cuts : Cuts (units ++ unit ∷ []) before now
   pub many : length (units ++ unit ∷ []) ≡ number + 1
   pub counts : most_bytes ≡ left + length (bytes_of (units ++ unit ∷ []))
 
-pub taken : {m : Setting} {commands : List Command} {number : ℕ} {before now after : Option (List ℕ)} {left left' : ℕ} {auditor : Auditor} {unit : List ℕ}
-    → (h : Judged m commands number before now left auditor)
+pub one-more : {m : Setting} {commands : List Command} {number : ℕ} {before now after : Option (List ℕ)} {left left' : ℕ} {auditor : Auditor} {unit : List ℕ}
+    → (h : LegalSoFar m commands number before now left auditor)
     → IsOne unit × (left ≡ left' + length unit) × Cuts (unit ∷ []) now after
-    → Taken m commands number before after left' h.units unit
-taken {m} {commands} {number} {before} {now} {after} {left} {left'} {auditor} {unit} h takes =
+    → OneMore m commands number before after left' h.units unit
+one-more {m} {commands} {number} {before} {now} {after} {left} {left'} {auditor} {unit} h takes =
     let bytes = ap length (bytes-more h.units unit) ∙ length-append (bytes_of h.units) unit in
     record {
       each = each-more h.units unit h.each takes.0;
@@ -94,7 +94,7 @@ taken {m} {commands} {number} {before} {now} {after} {left} {left'} {auditor} {u
 -- ---- where it ends
 
 module _ {m : Setting} {commands : List Command} {number : ℕ} {before now : Option (List ℕ)} {left : ℕ} {auditor : Auditor}
-    (h : Judged m commands number before now left auditor) where
+    (h : LegalSoFar m commands number before now left auditor) where
   parts : commands ≡ take number commands ++ drop number commands
   parts = sym (take-append-drop number commands)
 
@@ -117,7 +117,7 @@ module _ {m : Setting} {commands : List Command} {number : ℕ} {before now : Op
 
   pub missing : {after : Option (List ℕ)} {Ended : Type 0} {command : Command} {others : List Command} → after ≡ now → Ended
       → drop number commands ≡ command ∷ others → Judges (findings.Illegal (number + 1)) m commands before after Ended
-  missing {after} {Ended} none ended is = subst (λ o. Judges (findings.Illegal (number + 1)) m commands before o Ended) (sym none) (record {
+  missing {after} {Ended} {command} {others} none ended is = subst (λ o. Judges (findings.Illegal (number + 1)) m commands before o Ended) (sym none) (record {
     units = h.units;
     each = h.each;
     cuts = h.cuts;
@@ -144,7 +144,7 @@ module _ {m : Setting} {commands : List Command} {number : ℕ} {before now : Op
   })
 
   -- a unit was taken that ends it
-  module _ {after : Option (List ℕ)} {left' : ℕ} {unit : List ℕ} (t : Taken m commands number before after left' h.units unit) where
+  module _ {after : Option (List ℕ)} {left' : ℕ} {unit : List ℕ} (t : OneMore m commands number before after left' h.units unit) where
     one-left : (Stops : Setting → World → Ledger → List Command → List (List ℕ) → Type 0)
         → Stops m h.world h.ledger (drop number commands) (unit ∷ []) → StopsAt m commands (h.units ++ unit ∷ []) (number + 1) Stops
     one-left Stops stops = record {
@@ -163,7 +163,7 @@ module _ {m : Setting} {commands : List Command} {number : ℕ} {before now : Op
 
     pub wrong : {Ended : Type 0} → IsWrong m h.world h.ledger (drop number commands) (unit ∷ [])
         → Judges (findings.Illegal (number + 1)) m commands before after Ended
-    wrong stops = record {
+    wrong {Ended} stops = record {
       units = h.units ++ unit ∷ [];
       each = t.each;
       cuts = t.cuts;
@@ -210,8 +210,8 @@ stops-reading input.Memory count left unit ahead ahead' old new all h = tt
 
 pub reading-breaks : {error : InputErr} {left : ℕ} {unit ahead ahead' : List ℕ} {old new : PortsView} {m : Setting} {commands : List Command} {number : ℕ}
     {before : Option (List ℕ)} {auditor : Auditor} → StopsUnit error left unit ahead ahead' old new
-    → Judged m commands number before (undone ahead old) left auditor → BreaksOff error m commands before
-reading-breaks {error} {left} {unit} {ahead} {ahead'} {old} {new} stops h =
+    → LegalSoFar m commands number before (undone ahead old) left auditor → BreaksOff error m commands before
+reading-breaks {error} {left} {unit} {ahead} {ahead'} {old} {new} {m} {commands} {number} {before} {auditor} stops h =
     breaks h error (undone ahead old) h.units h.cuts h.each h.are_units
     (stops-reading error (length (bytes_of h.units)) left unit ahead ahead' old new h.counts stops)
 
@@ -219,12 +219,12 @@ reading-breaks {error} {left} {unit} {ahead} {ahead'} {old} {new} stops h =
 
 -- a unit behind the last command
 pub too-many : {m : Setting} {commands : List Command} {number : ℕ} {before now after : Option (List ℕ)} {left left' : ℕ} {auditor : Auditor}
-    {unit : List ℕ} {Ended : Type 0} → (h : Judged m commands number before now left auditor)
+    {unit : List ℕ} {Ended : Type 0} → (h : LegalSoFar m commands number before now left auditor)
     → IsOne unit × (left ≡ left' + length unit) × Cuts (unit ∷ []) now after → number ≡ length commands
     → Judges (findings.Illegal (length commands + 1)) m commands before after Ended
 too-many {m} {commands} {number} {before} {now} {after} {left} {left'} {auditor} {unit} {Ended} h takes all =
     subst (λ n. Judges (findings.Illegal (n + 1)) m commands before after Ended) all
-    (wrong h (taken h takes) (subst (λ cs. IsWrong m h.world h.ledger cs (unit ∷ [])) (sym (drop_all number commands (omega (arith, all)))) tt))
+    (wrong h (one-more h takes) (subst (λ cs. IsWrong m h.world h.ledger cs (unit ∷ [])) (sym (drop_all number commands (omega (arith, all)))) tt))
 
 -- what is said of it on the machine that is kept
 pub on-machine : {old now : Machine} {w : World} {l : Ledger} {command : Command} {read unit : List ℕ} (verdict : Verdict) (auditor : Auditor)
@@ -240,24 +240,24 @@ verdict-legal verdicts.Illegal number e = cc
 
 -- a unit for the next command was read, and that is said of it
 module _ {m : Setting} {commands others : List Command} {number : ℕ} {before now after : Option (List ℕ)} {left left' : ℕ} {auditor : Auditor}
-    {command : Command} {unit : List ℕ} (h : Judged m commands number before now left auditor)
+    {command : Command} {unit : List ℕ} (h : LegalSoFar m commands number before now left auditor)
     (takes : IsOne unit × (left ≡ left' + length unit) × Cuts (unit ∷ []) now after) (is : drop number commands ≡ command ∷ others)
     (auditor' : Auditor) where
   -- the audit ends with it
   pub verdict-ends : {Ended : Type 0} {finding : Finding} (verdict : Verdict) → IsRight m h.world h.ledger command unit verdict auditor'
       → finding_of verdict (number + 1) ≡ Some finding → Judges finding m commands before after Ended
-  verdict-ends verdicts.Legal right ends = cc
+  verdict-ends {Ended} {finding} verdicts.Legal right ends = cc
   verdict-ends {Ended} {finding} verdicts.Illegal right ends =
       let same : findings.Illegal (number + 1) ≡ finding = ap (λ o. unwrap_or o finding) ends in
       subst (λ f. Judges f m commands before after Ended) same
-      (wrong h (taken h takes) (subst (λ cs. IsWrong m h.world h.ledger cs (unit ∷ [])) (sym is) right))
+      (wrong h (one-more h takes) (subst (λ cs. IsWrong m h.world h.ledger cs (unit ∷ [])) (sym is) right))
 
   -- it goes on, since the unit is legal
   pub verdict-goes : (verdict : Verdict) → IsRight m h.world h.ledger command unit verdict auditor' → verdict ≡ verdicts.Legal
-      → Judged m commands (number + 1) before after left' auditor'
+      → LegalSoFar m commands (number + 1) before after left' auditor'
   verdict-goes verdict right legal =
       let r = subst (λ v. IsRight m h.world h.ledger command unit v auditor') legal right in
-      let t = taken h takes in
+      let t = one-more h takes in
       record {
         units = h.units ++ unit ∷ [];
         each = t.each;

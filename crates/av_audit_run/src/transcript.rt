@@ -51,7 +51,7 @@ fn judge_all<P: Ports>(
     requires few { length commands.now ≤ most_lines }
     requires all { extent.old.left ≡ most_bytes }
     requires ended { extent.old.ended ≡ true → IsEnded pending.old (P.view ports.old) }
-    ensures judged { IfOk result (λ finding. Judges finding (setting_of (machine_of auditor.old))
+    ensures judges { IfOk result (λ finding. Judges finding (setting_of (machine_of auditor.old))
         commands.now (undone pending.old (P.view ports.old)) (undone pending.new (P.view ports.new))
         (IsEnded pending.new (P.view ports.new))) }
     ensures stops { IfErr result (λ e. BreaksOff e (setting_of (machine_of auditor.old))

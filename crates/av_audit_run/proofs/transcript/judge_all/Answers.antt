@@ -10,18 +10,18 @@ use Rattle.av_audit_run.proofs.transcript.judge_all.Goals as goal
 pub returns-in_err-read_unit-clause-stops : goal.returns-in_err-read_unit-clause-stops
 returns-in_err-read_unit-clause-stops g c =
     let p = err_from_is_err_and c.from_residual.result c.from_residual.ensures.1 in
-    rw (p.1, p.2) (reading-breaks c.in_err-read_unit.ensures.stops c.loop-index.invariant.judged)
+    rw (p.1, p.2) (reading-breaks c.in_err-read_unit.ensures.stops c.loop-index.invariant.legal)
 
 pub returns-in_err-read_unit-clause-only : goal.returns-in_err-read_unit-clause-only
 returns-in_err-read_unit-clause-only g c = only-then _ _ _ c.loop-index.invariant.only c.read_unit.ensures.only
 
-pub returns-then-not-branch-clause-judged : goal.returns-then-not-branch-clause-judged
-returns-then-not-branch-clause-judged g c =
+pub returns-then-not-branch-clause-judges : goal.returns-then-not-branch-clause-judges
+returns-then-not-branch-clause-judges g c =
     let r = c.in_ok-read_unit.ensures in
     let none = rw c.if-not-branch.true at r.taken in
     let is = at-place c.args.commands.now c.loop-index.index c.index-commands-index.result (omega (arith, c.loop-index-test.true))
     c.index-commands-index.is in
-    missing c.loop-index.invariant.judged none.2 (r.stays.ended (r.none c.if-not-branch.true)) is
+    missing c.loop-index.invariant.legal none.2 (r.stays.ended (r.none c.if-not-branch.true)) is
 
 pub returns-then-not-branch-clause-only : goal.returns-then-not-branch-clause-only
 returns-then-not-branch-clause-only g c = only-then _ _ _ c.loop-index.invariant.only c.read_unit.ensures.only
@@ -29,15 +29,15 @@ returns-then-not-branch-clause-only g c = only-then _ _ _ c.loop-index.invariant
 pub returns-in_err-verdict-clause-stops : goal.returns-in_err-verdict-clause-stops
 returns-in_err-verdict-clause-stops g c =
     let p = err_from_is_err_and c.from_residual-in_err-verdict.result c.from_residual-in_err-verdict.ensures.1 in
-    rw (p.1, p.2) (wants-memory c.loop-index.invariant.judged)
+    rw (p.1, p.2) (wants-memory c.loop-index.invariant.legal)
 
 pub returns-in_err-verdict-clause-only : goal.returns-in_err-verdict-clause-only
 returns-in_err-verdict-clause-only g c = only-then _ _ _ c.loop-index.invariant.only c.read_unit.ensures.only
 
-pub returns-in-Some-clause-judged : goal.returns-in-Some-clause-judged
-returns-in-Some-clause-judged g c =
+pub returns-in-Some-clause-judges : goal.returns-in-Some-clause-judges
+returns-in-Some-clause-judges g c =
     let inv = c.loop-index.invariant in
-    let h = inv.judged in
+    let h = inv.legal in
     let takes = rw c.if-not-branch.false at c.in_ok-read_unit.ensures.taken in
     let is = at-place c.args.commands.now c.loop-index.index c.index-commands-index.result (omega (arith, c.loop-index-test.true))
     c.index-commands-index.is in
@@ -52,7 +52,7 @@ returns-in-Some-clause-only g c = only-then _ _ _ c.loop-index.invariant.only c.
 pub loop-index-preserved : goal.loop-index-preserved
 loop-index-preserved g c =
     let inv = c.loop-index.invariant in
-    let h = inv.judged in
+    let h = inv.legal in
     let takes = rw c.if-not-branch.false at c.in_ok-read_unit.ensures.taken in
     let is = at-place c.args.commands.now c.loop-index.index c.index-commands-index.result (omega (arith, c.loop-index-test.true))
     c.index-commands-index.is in
@@ -61,7 +61,7 @@ loop-index-preserved g c =
     record {
       machine = c.judge.ensures.machine ∙ inv.machine;
       going = c.in_ok-verdict.ensures.goes_on legal;
-      judged = verdict-goes h takes is c.judge.new.self verdict
+      legal = verdict-goes h takes is c.judge.new.self verdict
           (on-machine verdict c.judge.new.self inv.machine c.as_slice.ensures.value
           (c.in_ok-verdict.ensures.going inv.going h.world h.ledger h.is_at)) legal;
       stays = is-open-then c.args.extent.now.ended c.loop-index.extent.ended c.read_unit.new.extent.ended c.loop-index.pending
@@ -75,26 +75,26 @@ loop-index-preserved g c =
 pub returns-in_err-read_unit-2-clause-stops : goal.returns-in_err-read_unit-2-clause-stops
 returns-in_err-read_unit-2-clause-stops g c =
     let p = err_from_is_err_and c.from_residual-in_err-read_unit-2.result c.from_residual-in_err-read_unit-2.ensures.1 in
-    rw (p.1, p.2) (reading-breaks c.in_err-read_unit-2.ensures.stops c.loop-index.invariant.judged)
+    rw (p.1, p.2) (reading-breaks c.in_err-read_unit-2.ensures.stops c.loop-index.invariant.legal)
 
 pub returns-in_err-read_unit-2-clause-only : goal.returns-in_err-read_unit-2-clause-only
 returns-in_err-read_unit-2-clause-only g c = only-then _ _ _ c.loop-index.invariant.only c.read_unit-2.ensures.only
 
-pub returns-then-branch-clause-judged : goal.returns-then-branch-clause-judged
-returns-then-branch-clause-judged g c =
+pub returns-then-branch-clause-judges : goal.returns-then-branch-clause-judges
+returns-then-branch-clause-judges g c =
     let takes = rw c.if-branch.true at c.in_ok-read_unit-2.ensures.taken in
     let all : c.loop-index.index ≡ length c.args.commands.now = omega (arith, c.loop-index.auto.index-end, c.loop-index-test.false) in
-    too-many c.loop-index.invariant.judged takes all
+    too-many c.loop-index.invariant.legal takes all
 
 pub returns-then-branch-clause-only : goal.returns-then-branch-clause-only
 returns-then-branch-clause-only g c = only-then _ _ _ c.loop-index.invariant.only c.read_unit-2.ensures.only
 
-pub returns-clause-judged : goal.returns-clause-judged
-returns-clause-judged g c =
+pub returns-clause-judges : goal.returns-clause-judges
+returns-clause-judges g c =
     let r = c.in_ok-read_unit-2.ensures in
     let none = rw c.if-branch.false at r.taken in
     let all = take_all c.loop-index.index c.args.commands.now (omega (arith, c.loop-index.auto.index-end, c.loop-index-test.false)) in
-    all-legal c.loop-index.invariant.judged none.2 (r.stays.ended (r.none c.if-branch.false)) all
+    all-legal c.loop-index.invariant.legal none.2 (r.stays.ended (r.none c.if-branch.false)) all
 
 pub returns-clause-only : goal.returns-clause-only
 returns-clause-only g c = only-then _ _ _ c.loop-index.invariant.only c.read_unit-2.ensures.only
