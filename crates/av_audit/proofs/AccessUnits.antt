@@ -51,7 +51,7 @@ module _ (m : Setting) (w : World) (p a n : ℕ) (unit : List ℕ) (told : is_so
   pub read-left : (l : Ledger) (memories : Memories) (book : Book) (first rest : List ℕ) (end : End) (k : ℕ) (shown : List ℕ) (answer : Answer)
       (legal : Bool) → lives w p ≡ true → IsWorld memories w → IsFirstLine unit first rest
       → AreTold (Ending m w l p false a n end) l rest (ledger_of book) → k ≡ min n (bytes_served a n end) → Reads (pages w p) a k shown
-      → ((a n : ℕ) → k ≡ bytes_served a n end → answer ≡ read_answer a end bytes) → (AreBytes bytes → IsAnswer answer)
+      → ((a n : ℕ) → k ≡ bytes_served a n end → answer ≡ read_answer a end shown) → (AreBytes shown → IsAnswer answer)
       → SaysOnly legal first answer → IsLeft m w l (Read p a n) unit legal memories book
   read-left l memories book first rest end k shown answer legal alive at is t size reads answers fits says =
       let all = least n k (bytes_served a n end) size (served-at-most m w l p false a n t.events end t.lawful) in

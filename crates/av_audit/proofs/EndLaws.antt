@@ -188,12 +188,12 @@ tells-left m w l command Lawful Answers unit memories book false told ending non
 -- a read that ends so answers the bytes that were served
 abbrev pub ReadsTo : World → ℕ → ℕ → ℕ → End → Answer → Type 0
 ReadsTo w p a n end answer =
-    (shown : List ℕ) × Reads (pages w p) a (bytes_served a n end) shown × (answer ≡ read_answer a end bytes)
+    (shown : List ℕ) × Reads (pages w p) a (bytes_served a n end) shown × (answer ≡ read_answer a end shown)
 
 abbrev pub WritesTo : ℕ → End → Answer → Type 0
 WritesTo a end answer = answer ≡ write_answer a end
 
-read-notes : (a : ℕ) (end : End) (shown : List ℕ) → HasNotes (read_answer a end bytes)
+read-notes : (a : ℕ) (end : End) (shown : List ℕ) → HasNotes (read_answer a end shown)
 read-notes a Whole shown notes rows = (λ h. h, λ h. h)
 read-notes a (Stopped page Denied) shown notes rows = (λ h. h, λ h. h)
 read-notes a (Stopped page (Starved out)) shown notes rows = (λ h. h, λ h. h)
