@@ -1,5 +1,6 @@
 -- Accesses whose end is told: pages without addresses, the bytes that a read shows, and units of a first line and notes.
-use Rattle.std.proofs.Common.{◌≡◌, inl, inr, ℕ, zero, suc, ◌+◌, ◌-◌, ◌*◌, ◌/◌, ◌%◌, ◌^◌, ◌<◌, ◌≤◌, Bool, true, false, cond, ◌==◌, List, [], ◌∷◌, ◌++◌, min, Option, Some, None, option_map, refl, sym, ap, subst, ◌∙◌, arith, nat_lt}
+use Rattle.std.proofs.Common.{◌≡◌, inl, inr, ℕ, zero, suc, ◌+◌, ◌-◌, ◌*◌, ◌/◌, ◌%◌, ◌^◌, ◌<◌, ◌≤◌, Bool, true, false, cond, ◌==◌, List, []}
+use Rattle.std.proofs.Common.{◌∷◌, ◌++◌, min, Option, Some, None, option_map, refl, sym, ap, subst, ◌∙◌, arith, nat_lt}
 use Rattle.std.specs.List.{AllByRecursion}
 use Rattle.std.proofs.lemmas.Bool.Decides.{nat_tests}
 use Rattle.std.proofs.lemmas.List.FromFn.{map-range_with_len_more}
@@ -33,10 +34,10 @@ turns-below write from zero most h = tt
 turns-below write from (suc n) most h = (omega (arith, h), turns-below write (from + 1) n most (omega (arith, h)))
 
 -- no more is served than was asked for
-pub served-most : (m : Setting) (w : World) (l : Ledger) (p : ℕ) (write : Bool) (a n : ℕ) (es : List Event) (end : End)
+pub served-at-most : (m : Setting) (w : World) (l : Ledger) (p : ℕ) (write : Bool) (a n : ℕ) (es : List Event) (end : End)
     → Accesses m w l p (pages_of_access write a n) es end → bytes_served a n end ≤ n
-served-most m w l p write a n es Whole h = omega arith
-served-most m w l p write a n es (Stopped page stop) h =
+served-at-most m w l p write a n es Whole h = omega arith
+served-at-most m w l p write a n es (Stopped page stop) h =
     by (n == 0) refl (stopped-in m w l p (λ q. q < page_of a + pages_met a n) (pages_of_access write a n) es page stop
     (turns-below write (page_of a) (pages_met a n) (page_of a + pages_met a n) (omega arith)) h)
   where
@@ -102,21 +103,21 @@ turns-split write from (suc k) n =
     further from k = omega arith
 
 -- the pages end below 2^52, or the first behind isn't mapped
-pub ends-below : (m : Setting) (w : World) (l : Ledger) (p : ℕ) (write : Bool) (from n : ℕ) (bytes : List ℕ) (found : Option End) (l' : Ledger)
+pub ends-below : (m : Setting) (w : World) (l : Ledger) (p : ℕ) (write : Bool) (from n : ℕ) (bytes : List ℕ) (reach : Option End) (l' : Ledger)
     → from ≤ 2 ^ 52 → is_allowed w write (p, 2 ^ 52) ≡ false
-    → Ends (λ end es. Accesses m w l p (turns_of write from (min (from + n) (2 ^ 52) - from)) es end) l bytes found l'
-    → Ends (λ end es. Accesses m w l p (turns_of write from n) es end) l bytes (option_map (end_below (from + n)) found) l'
-ends-below m w l p write from n bytes found l' low denied h = by (nat_lt (2 ^ 52) (from + n)) refl
+    → Ends (λ end es. Accesses m w l p (turns_of write from (min (from + n) (2 ^ 52) - from)) es end) l bytes reach l'
+    → Ends (λ end es. Accesses m w l p (turns_of write from n) es end) l bytes (option_map (end_below (from + n)) reach) l'
+ends-below m w l p write from n bytes reach l' low denied h = by (nat_lt (2 ^ 52) (from + n)) refl
   where
     is_all : nat_lt (2 ^ 52) (from + n) ≡ false → min (from + n) (2 ^ 52) - from ≡ n
     is_all e = let small : from + n ≤ 2 ^ 52 = grind (arith, nat_tests, e) in omega (arith, small, low)
 
-    all : (count : ℕ) → count ≡ n → (found : Option End)
-        → Ends (λ end es. Accesses m w l p (turns_of write from count) es end) l bytes found l'
-        → Ends (λ end es. Accesses m w l p (turns_of write from n) es end) l bytes found l'
-    all count e found h = subst (λ n. Ends (λ end es. Accesses m w l p (turns_of write from n) es end) l bytes found l') e h
+    all : (count : ℕ) → count ≡ n → (reach : Option End)
+        → Ends (λ end es. Accesses m w l p (turns_of write from count) es end) l bytes reach l'
+        → Ends (λ end es. Accesses m w l p (turns_of write from n) es end) l bytes reach l'
+    all count e reach h = subst (λ n. Ends (λ end es. Accesses m w l p (turns_of write from n) es end) l bytes reach l') e h
 
-    kept : nat_lt (2 ^ 52) (from + n) ≡ false → (found : Option End) → found ≡ option_map (end_below (from + n)) found
+    kept : nat_lt (2 ^ 52) (from + n) ≡ false → (reach : Option End) → reach ≡ option_map (end_below (from + n)) reach
     kept e None = refl
     kept e (Some Whole) = ap (λ b. Some (cond b (Stopped (2 ^ 52) Denied) Whole)) (sym e)
     kept e (Some (Stopped page stop)) = refl
@@ -138,9 +139,9 @@ ends-below m w l p write from n bytes found l' low denied h = by (nat_lt (2 ^ 52
     count_is : nat_lt (2 ^ 52) (from + n) ≡ true → min (from + n) (2 ^ 52) - from ≡ 2 ^ 52 - from
     count_is e = let more : 2 ^ 52 < from + n = grind (arith, nat_tests, e) in omega (arith, more)
 
-    cut : nat_lt (2 ^ 52) (from + n) ≡ true → (count : ℕ) → count ≡ 2 ^ 52 - from → (found : Option End)
-        → Ends (λ end es. Accesses m w l p (turns_of write from count) es end) l bytes found l'
-        → Ends (λ end es. Accesses m w l p (turns_of write from n) es end) l bytes (option_map (end_below (from + n)) found) l'
+    cut : nat_lt (2 ^ 52) (from + n) ≡ true → (count : ℕ) → count ≡ 2 ^ 52 - from → (reach : Option End)
+        → Ends (λ end es. Accesses m w l p (turns_of write from count) es end) l bytes reach l'
+        → Ends (λ end es. Accesses m w l p (turns_of write from n) es end) l bytes (option_map (end_below (from + n)) reach) l'
     cut e count is None h = λ end es access form text.
         let r = fewer m w l p (turns_of write from count) (write, 2 ^ 52) (turns_of write (2 ^ 52 + 1) (from + n - (2 ^ 52 + 1))) es end denied
         (subst (λ ps. Accesses m w l p ps es end) (some e
@@ -161,10 +162,10 @@ ends-below m w l p write from n bytes found l' low denied h = by (nat_lt (2 ^ 52
         (stopped-more m w l p (turns_of write from count) ((write, 2 ^ 52) ∷ turns_of write (2 ^ 52 + 1) (from + n - (2 ^ 52 + 1))) es page stop access)) h
 
     by : (b : Bool) → nat_lt (2 ^ 52) (from + n) ≡ b
-        → Ends (λ end es. Accesses m w l p (turns_of write from n) es end) l bytes (option_map (end_below (from + n)) found) l'
-    by false e = subst (λ f. Ends (λ end es. Accesses m w l p (turns_of write from n) es end) l bytes f l') (kept e found)
-        (all (min (from + n) (2 ^ 52) - from) (is_all e) found h)
-    by true e = cut e (min (from + n) (2 ^ 52) - from) (count_is e) found h
+        → Ends (λ end es. Accesses m w l p (turns_of write from n) es end) l bytes (option_map (end_below (from + n)) reach) l'
+    by false e = subst (λ f. Ends (λ end es. Accesses m w l p (turns_of write from n) es end) l bytes f l') (kept e reach)
+        (all (min (from + n) (2 ^ 52) - from) (is_all e) reach h)
+    by true e = cut e (min (from + n) (2 ^ 52) - from) (count_is e) reach h
 
 -- ---- turns one by one
 

@@ -1,5 +1,6 @@
 -- Units of a first line and notes, of a command that is answered by where its accesses end.
-use Rattle.std.proofs.Common.{◌≡◌, ℕ, Bool, true, false, not, List, [], ◌∷◌, ◌++◌, length, Some, None, is_some, take, refl, sym, ap, subst, ◌∙◌, append-nil, append_assoc}
+use Rattle.std.proofs.Common.{◌≡◌, ℕ, Bool, true, false, not, List, [], ◌∷◌, ◌++◌, length, Some, None, is_some, take, refl, sym, ap, subst}
+use Rattle.std.proofs.Common.{◌∙◌, append-nil, append_assoc}
 use Rattle.std.specs.Prelude.{MatchOption, codes}
 use Rattle.std.specs.List.{AllByRecursion}
 use Rattle.av_trace.specs.declared.command.Command.{Command}
@@ -36,7 +37,7 @@ use Rattle.av_judge.proofs.NoteLaws.{lacks-not, lacks-same}
 use Rattle.av_world.specs.Memories.{IsWorld}
 use Rattle.av_world.specs.declared.memories.Memories.{Memories}
 use Rattle.av_access_judge.specs.Access.{AreTold}
-use Rattle.av_audit.specs.Access.{IsFirst, IsTold, Tells}
+use Rattle.av_audit.specs.Access.{IsFirstLine, IsTold, Tells}
 use Rattle.av_audit.specs.Known.{reply_of}
 use Rattle.av_audit.specs.Judge.{IsLeft}
 use Rattle.av_audit.proofs.JudgeLaws.{loads-told}
@@ -61,7 +62,7 @@ notes-one a b h g e = ap (λ (r : Reply). r.notes) (same_reply (reply_of a) (rep
     fits notes h = record { answer = tt; rest = (h, refl) }
 
 -- a text is a first line and notes
-unit-parts : (unit first rest : List ℕ) (reply : Reply) → IsFirst unit first rest → unit ≡ text_of reply → IsAnswer reply.answer
+unit-parts : (unit first rest : List ℕ) (reply : Reply) → IsFirstLine unit first rest → unit ≡ text_of reply → IsAnswer reply.answer
     → reply.rows ≡ [] → (first ≡ whole_line (answer_line reply.answer)) × (rest ≡ notes_text reply.notes)
 unit-parts unit first rest reply h text fits none =
     let line = answer_line reply.answer in
@@ -86,7 +87,7 @@ pub record IsTelling {X : Type 0} (Lawful : X → List Event → Type 0) (Answer
   pub notes : (end : X) (answer : Answer) → Answers end answer → HasNotes answer
 
 module _ {X : Type 0} (Lawful : X → List Event → Type 0) (Answers : X → Answer → Type 0) (telling : IsTelling Lawful Answers) (l l' : Ledger)
-    (unit first rest : List ℕ) (is : IsFirst unit first rest) where
+    (unit first rest : List ℕ) (is : IsFirstLine unit first rest) where
   -- the unit of such an end, with its answer
   abbrev pub tells-answer : (end : X) (answer : Answer) → AreTold (Lawful end) l rest l' → Answers end answer → IsAnswer answer
       → SaysOnly true first answer → Tells Lawful Answers l unit true l'

@@ -29,7 +29,7 @@ use Rattle.av_judge.specs.Says.{SaysOnly}
 use Rattle.av_judge.specs.Verdict.{IsVerdict}
 use Rattle.av_world.specs.Memories.{IsWorld}
 use Rattle.av_world.specs.declared.memories.Memories.{Memories}
-use Rattle.av_audit.specs.Judge.{IsLeft, IsRight, IsSeen, verdict_of}
+use Rattle.av_audit.specs.Judge.{IsLeft, IsLeftAt, IsRight, LeavesLedger, verdict_of}
 use Rattle.av_audit.specs.declared.auditor.Verdict.{Verdict}
 use Rattle.av_audit.specs.declared.auditor.Auditor.{Auditor}
 
@@ -44,17 +44,17 @@ pub record IsPlain (m : Setting) (w : World) (l : Ledger) (command : Command) (a
       → reply ≡ answer_only answer
 
 -- where these are the next memories, this is what is said
-pub plain-seen : (m : Setting) (w : World) (l : Ledger) (command : Command) (unit : List ℕ) (answer : Answer)
+pub plain-leaves : (m : Setting) (w : World) (l : Ledger) (command : Command) (unit : List ℕ) (answer : Answer)
     (legal : Bool) (new : Memories) → IsPlain m w l command answer → SaysOnly legal unit answer
     → IsReply (answer_only answer)
     → (legal ≡ true → IsWorld new (next_world m w l [] command answer))
-    → IsSeen m w l command unit legal new
-plain-seen m w l command unit answer true new h says form at = (
+    → LeavesLedger m w l command unit legal new
+plain-leaves m w l command unit answer true new h says form at = (
   next_world m w l [] command answer,
   (answer_only answer, [], record { form = form; text = says; legal = h.legal }, refl, refl),
   at refl,
 )
-plain-seen m w l command unit answer false new h says form at = λ u.
+plain-leaves m w l command unit answer false new h says form at = λ u.
     says (u.2.text ∙ ap text_of (h.only u.0 u.1 u.2.legal))
 
 same-reply : (reply : Reply) (answer : Answer) → reply.answer ≡ answer → reply.notes ≡ [] → reply.rows ≡ []
@@ -80,13 +80,13 @@ refused-plain m w l command error is = record {
         → Refuses error events reply.answer reply.rows → reply ≡ answer_only (Refused error)
     only reply events notes h = same-reply reply (Refused error) h.0 (notes ∙ ap notes_of h.1) h.2
 
-pub refused-seen : (m : Setting) (w : World) (l : Ledger) (command : Command) (unit : List ℕ) (error : Errno) (legal : Bool)
+pub refused-leaves : (m : Setting) (w : World) (l : Ledger) (command : Command) (unit : List ℕ) (error : Errno) (legal : Bool)
     (memories : Memories) → is_some m.headers ≡ true → refusal (tests m w l command) ≡ Some error
-    → SaysOnly legal unit (Refused error) → IsWorld memories w → IsSeen m w l command unit legal memories
-refused-seen m w l command unit error legal memories told is says at =
+    → SaysOnly legal unit (Refused error) → IsWorld memories w → LeavesLedger m w l command unit legal memories
+refused-leaves m w l command unit error legal memories told is says at =
     let stays : next_world m w l [] command (Refused error) ≡ w =
     ap (λ v. next v command (Refused error)) (loads-told m w l [] told) ∙ refused-next m w w l command error is in
-    plain-seen m w l command unit (Refused error) legal memories (refused-plain m w l command error is) says
+    plain-leaves m w l command unit (Refused error) legal memories (refused-plain m w l command error is) says
     (record { answer = tt; rest = (tt, refl) }) (λ _. subst (IsWorld memories) (sym stays) at)
 
 -- ---- a command that isn't refused, and has one answer without events
@@ -113,11 +113,11 @@ followed-plain m w l command answer is does one = record {
         let same = one events reply.answer reply.rows h in
         same-reply reply answer same.0 (notes ∙ ap notes_of same.1) same.2
 
-pub spawn-seen : (m : Setting) (w : World) (l : Ledger) (p : ℕ) (unit : List ℕ) (legal : Bool) (new : Memories)
+pub spawn-leaves : (m : Setting) (w : World) (l : Ledger) (p : ℕ) (unit : List ℕ) (legal : Bool) (new : Memories)
     → is_some m.headers ≡ true → refusal (tests m w l (Spawn p)) ≡ None → SaysOnly legal unit Done
-    → (legal ≡ true → IsWorld new (set_process w p no_pages)) → IsSeen m w l (Spawn p) unit legal new
-spawn-seen m w l p unit legal new told is says now =
-    plain-seen m w l (Spawn p) unit Done legal new
+    → (legal ≡ true → IsWorld new (set_process w p no_pages)) → LeavesLedger m w l (Spawn p) unit legal new
+spawn-leaves m w l p unit legal new told is says now =
+    plain-leaves m w l (Spawn p) unit Done legal new
     (followed-plain m w l (Spawn p) Done is (refl, refl, refl) (λ events other rows h. h)) says
     (record { answer = tt; rest = (tt, refl) })
     (λ yes. subst (λ v. IsWorld new (set_process v p no_pages)) (sym (loads-told m w l [] told)) (now yes))
@@ -148,26 +148,18 @@ left-right m w l command unit true new same sound h = (
 )
 left-right m w l command unit false new same sound h = h
 
--- a command that changes no entry
-pub seen-left : (m : Setting) (w : World) (command : Command) (unit : List ℕ) (legal : Bool) (memories : Memories) (book : Book)
-    → IsSeen m w (ledger_of book) command unit legal memories → IsLeft m w (ledger_of book) command unit legal memories book
-seen-left m w command unit true memories book h = h
-seen-left m w command unit false memories book h = h
-
 -- what is said of one command is said of the same
-pub right-is : (m : Setting) (w : World) (l : Ledger) (command other : Command) (unit : List ℕ) (verdict said : Verdict) (new : Auditor)
-    → other ≡ command → said ≡ verdict → IsRight m w l command unit verdict new → IsRight m w l other unit said new
-right-is m w l command other unit verdict said new c v h =
-    subst (λ c. IsRight m w l c unit said new) (sym c) (subst (λ v. IsRight m w l command unit v new) (sym v) h)
+pub right-is : (m : Setting) (w : World) (l : Ledger) (command other : Command) (unit : List ℕ) (verdict answer : Verdict) (new : Auditor)
+    → other ≡ command → answer ≡ verdict → IsRight m w l command unit verdict new → IsRight m w l other unit answer new
+right-is m w l command other unit verdict answer new c v h =
+    subst (λ c. IsRight m w l c unit answer new) (sym c) (subst (λ v. IsRight m w l command unit v new) (sym v) h)
 
 -- a refusal leaves all
 pub refused-left : (m : Setting) (w : World) (book : Book) (command : Command) (unit : List ℕ) (error : Errno) (legal : Bool)
     (memories : Memories) → is_some m.headers ≡ true → refusal (tests m w (ledger_of book) command) ≡ Some error
     → SaysOnly legal unit (Refused error) → IsWorld memories w → IsLeft m w (ledger_of book) command unit legal memories book
-refused-left m w book command unit error true memories told is says at =
-    refused-seen m w (ledger_of book) command unit error true memories told is says at
-refused-left m w book command unit error false memories told is says at =
-    refused-seen m w (ledger_of book) command unit error false memories told is says at
+refused-left m w book command unit error legal memories told is says at =
+    refused-leaves m w (ledger_of book) command unit error legal memories told is says at
 
 -- a command that answers ok alone
 pub done-left : (m : Setting) (w next' : World) (l : Ledger) (command : Command) (unit : List ℕ) (memories : Memories) (book : Book)
@@ -190,6 +182,23 @@ pub not-left : (m : Setting) (w : World) (l l' : Ledger) (command : Command) (un
     → IsVerdict m w l command unit false l' → IsLeft m w l command unit false memories book
 not-left m w l l' command unit memories book h = λ u. h u.0 u.1 u.2.form u.2.text u.2.legal
 
+-- a command that changes no memories
+pub book-left : (m : Setting) (w : World) (l : Ledger) (command : Command) (unit : List ℕ) (legal : Bool) (memories : Memories)
+    (book : Book) → is_some m.headers ≡ true → ((v : World) (answer : Answer) → next v command answer ≡ v)
+    → IsVerdict m w l command unit legal (ledger_of book) → IsWorld memories w → IsLeft m w l command unit legal memories book
+book-left m w l command unit true memories book told stays h at = (
+  w,
+  (
+    h.reply,
+    h.events,
+    record { form = h.form; text = h.text; legal = h.legal },
+    sym (stays (with_loads m w l h.events) h.reply.answer ∙ loads-told m w l h.events told),
+    h.after,
+  ),
+  at,
+)
+book-left m w l command unit false memories book told stays h at = λ u. h u.0 u.1 u.2.form u.2.text u.2.legal
+
 -- what isn't refused is asked of a process that lives
 pub alive : (m : Setting) (w : World) (l : Ledger) (p a len : ℕ) → refusal (tests m w l (Munmap p a len)) ≡ None → lives w p ≡ true
 alive m w l p a len h = by (lives w p) h
@@ -199,6 +208,7 @@ alive m w l p a len h = by (lives w p) h
     by false e = cc
 
 -- what is left by one command is left by the same
-pub left-is : (m : Setting) (w : World) (l : Ledger) (command other : Command) (unit : List ℕ) (legal : Bool) (memories : Memories) (book : Book)
-    → other ≡ command → IsLeft m w l command unit legal memories book → IsLeft m w l other unit legal memories book
-left-is m w l command other unit legal memories book same h = subst (λ c. IsLeft m w l c unit legal memories book) (sym same) h
+pub left-is : {m : Setting} {w : World} {l l' : Ledger} {command other : Command} {unit : List ℕ} {legal : Bool} {memories : Memories}
+    → other ≡ command → IsLeftAt m w l command unit legal l' memories → IsLeftAt m w l other unit legal l' memories
+left-is {m} {w} {l} {l'} {command} {other} {unit} {legal} {memories} same h =
+    subst (λ c. IsLeftAt m w l c unit legal l' memories) (sym same) h

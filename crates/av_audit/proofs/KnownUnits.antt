@@ -30,27 +30,20 @@ use Rattle.av_plain.specs.Refusal.{Refuses, Tests, ends_too_high, is_bad_range, 
 use Rattle.av_plain.specs.Step.{Follows, next, next_world}
 use Rattle.av_plain.specs.World.{Process, World, is_mapped, lives, pages, pages_to_hole, pages_to_locked, set_process, with_prot_on}
 use Rattle.av_plain.specs.Zap.{keys_in, zaps_of}
-use Rattle.av_audit_laws.specs.Unit.{IsUnit, Leaves}
 use Rattle.av_judge.specs.Says.{SaysOnly}
 use Rattle.av_judge.proofs.KnownLaws.{AnswersOnly, known-verdict}
 use Rattle.av_world.specs.Memories.{IsWorld}
 use Rattle.av_world.specs.declared.memories.Memories.{Memories}
 use Rattle.av_audit.specs.Known.{SaysEvents, map_answer, reply_of}
-use Rattle.av_audit.specs.Judge.{IsSeen}
+use Rattle.av_audit.specs.Judge.{IsLeftAt, LeavesLedger}
 use Rattle.av_audit.proofs.JudgeLaws.{loads-told}
-
--- the unit is legal, leaves this ledger, and these are the memories that it leaves; or it isn't
-abbrev pub IsSaid : Setting → World → Ledger → Command → List ℕ → Bool → Ledger → Memories → Type 0
-IsSaid m w l command unit legal l' memories = MatchBool legal
-    ((w' : World) × Leaves m w l command unit w' l' × IsWorld memories w')
-    (IsUnit m w l command unit → ⊥)
 
 -- a command that has one reply, by these events
 pub known-said : (m : Setting) (w : World) (l : Ledger) (command : Command) (answer : Answer) (events : List Event) (unit : List ℕ)
     (legal : Bool) (l' : Ledger) (memories : Memories) → is_some m.headers ≡ true
     → AnswersOnly m w l command (reply_of answer events) events → IsReply (reply_of answer events)
     → SaysEvents l answer events unit legal l' → (legal ≡ true → IsWorld memories (next w command answer))
-    → IsSaid m w l command unit legal l' memories
+    → IsLeftAt m w l command unit legal l' memories
 known-said m w l command answer events unit true l' memories told only form says at = (
   next_world m w l events command answer,
   (
@@ -261,7 +254,7 @@ pub mprotect-said : (m : Setting) (w : World) (l : Ledger) (p a len : ℕ) (prot
     (answer : Answer) → is_some m.headers ≡ true → refusal (tests m w l (Mprotect p a len prot)) ≡ None
     → answer ≡ hole_answer (pages w p) (page_of a) (pages_of len) → SaysOnly legal unit answer
     → (legal ≡ true → IsWorld memories (with_prot_to_hole w p (page_of a) (pages_of len) prot))
-    → IsSeen m w l (Mprotect p a len prot) unit legal memories
+    → LeavesLedger m w l (Mprotect p a len prot) unit legal memories
 mprotect-said m w l p a len prot unit legal memories answer told none is says at =
     known-said m w l (Mprotect p a len prot) (hole_answer (pages w p) (page_of a) (pages_of len)) [] unit legal l memories told
     (mprotect-only m w l p a len prot none) (hole-form (pages w p) (page_of a) (pages_of len) [] tt)
@@ -272,7 +265,7 @@ pub munlock-said : (m : Setting) (w : World) (l : Ledger) (p a len : ℕ) (unit 
     (answer : Answer) → is_some m.headers ≡ true → refusal (tests m w l (Munlock p a len)) ≡ None
     → answer ≡ hole_answer (pages w p) (page_of a) (pages_met a len) → SaysOnly legal unit answer
     → (legal ≡ true → IsWorld memories (with_lock false w p (page_of a) (pages_met a len)))
-    → IsSeen m w l (Munlock p a len) unit legal memories
+    → LeavesLedger m w l (Munlock p a len) unit legal memories
 munlock-said m w l p a len unit legal memories answer told none is says at =
     known-said m w l (Munlock p a len) (hole_answer (pages w p) (page_of a) (pages_met a len))
     (lock_event false (pages w p) p (page_of a) (pages_met a len) ∷ []) unit legal l memories told
@@ -290,7 +283,7 @@ pub flag-said : (m : Setting) (w : World) (l : Ledger) (p a len : ℕ) (advice :
     → refusal (tests m w l (Madvise p a len advice)) ≡ None
     → answer ≡ hole_answer (pages w p) (page_of a) (pages_of len) → SaysOnly legal unit answer
     → (legal ≡ true → IsWorld memories (with_advice w p (page_of a) (pages_of len) (Some (flag, set))))
-    → IsSeen m w l (Madvise p a len advice) unit legal memories
+    → LeavesLedger m w l (Madvise p a len advice) unit legal memories
 flag-said m w l p a len advice flag set unit legal memories answer told change none is says at =
     let whole : advice_answer (pages w p) (page_of a) (pages_of len) (Some (flag, set)) ≡ hole_answer (pages w p) (page_of a) (pages_of len) =
     ap (λ b. cond b (Refused Einval) (hole_answer (pages w p) (page_of a) (pages_of len))) (not-less (pages_of len)) in
@@ -310,7 +303,7 @@ pub dontneed-said : (m : Setting) (w : World) (l l' : Ledger) (p a len : ℕ) (a
     → SaysEvents l (advice_answer (pages w p) (page_of a) (pages_of len) None)
     (zaps_of l (keys_in l p (page_of a) (pages_to_locked (pages w p) (page_of a) (pages_of len)))) unit legal l'
     → (legal ≡ true → IsWorld memories (with_advice w p (page_of a) (pages_of len) None))
-    → IsSaid m w l (Madvise p a len advice) unit legal l' memories
+    → IsLeftAt m w l (Madvise p a len advice) unit legal l' memories
 dontneed-said m w l l' p a len advice unit legal memories told change none says at =
     known-said m w l (Madvise p a len advice) (advice_answer (pages w p) (page_of a) (pages_of len) None)
     (zaps_of l (keys_in l p (page_of a) (pages_to_locked (pages w p) (page_of a) (pages_of len)))) unit legal l' memories told
@@ -325,7 +318,7 @@ pub mmap-said : (m : Setting) (w : World) (l l' : Ledger) (p len : ℕ) (prot : 
     → refusal (tests m w l (Mmap p len prot place)) ≡ None → Goes (pages w p) (pages_of len) place to
     → SaysEvents l (map_answer to) (zaps_for_place l p (pages_of len) place) unit legal l'
     → (legal ≡ true → IsWorld memories (next w (Mmap p len prot place) (map_answer to)))
-    → IsSaid m w l (Mmap p len prot place) unit legal l' memories
+    → IsLeftAt m w l (Mmap p len prot place) unit legal l' memories
 mmap-said m w l l' p len prot place to unit legal memories told fits none goes says at =
     known-said m w l (Mmap p len prot place) (map_answer to) (zaps_for_place l p (pages_of len) place) unit legal l' memories told
     (mmap-only m w l p len prot place to none goes)

@@ -1,5 +1,6 @@
 -- Units of mlock: what it answers where its pages come in, and before a hole.
-use Rattle.std.proofs.Common.{◌≡◌, ℕ, zero, suc, ◌+◌, ◌-◌, ◌*◌, ◌<◌, ◌≤◌, Bool, true, false, cond, ◌==◌, List, [], ◌∷◌, ◌++◌, Option, Some, None, min, is_some, refl, sym, ap, subst, ◌∙◌, arith, append-nil, append_assoc}
+use Rattle.std.proofs.Common.{◌≡◌, ℕ, zero, suc, ◌+◌, ◌-◌, ◌*◌, ◌<◌, ◌≤◌, Bool, true, false, cond, ◌==◌, List, [], ◌∷◌, ◌++◌, Option, Some}
+use Rattle.std.proofs.Common.{None, min, is_some, refl, sym, ap, subst, ◌∙◌, arith, append-nil, append_assoc}
 use Rattle.std.specs.Prelude.{MatchBool}
 use Rattle.std.specs.List.{AllByRecursion}
 use Rattle.av_base.specs.Page.{address_of, page_of, pages_met}
@@ -25,7 +26,7 @@ use Rattle.av_judge.proofs.KnownLaws.{AnswersOnly}
 use Rattle.av_world.specs.Memories.{IsWorld}
 use Rattle.av_world.specs.declared.memories.Memories.{Memories}
 use Rattle.av_access_judge.specs.Access.{AreTold}
-use Rattle.av_audit.specs.Access.{IsFirst, Tells}
+use Rattle.av_audit.specs.Access.{IsFirstLine, Tells}
 use Rattle.av_audit.specs.Judge.{IsLeft}
 use Rattle.av_audit.specs.Known.{reply_of}
 use Rattle.av_audit.proofs.AccessLaws.{stopped-in}
@@ -207,7 +208,7 @@ all-higher (x ∷ xs) most more le h = let low = h.0 in (omega (arith, low, le),
 
 -- pages came in, or the unit doesn't tell so
 pub came-in : (m : Setting) (w : World) (l l' : Ledger) (p from n : ℕ) (turns : List (Bool × ℕ)) (unit first rest : List ℕ) (end : End) (k : ℕ)
-    (answer : Answer) (legal : Bool) → IsFirst unit first rest → AllByRecursion (λ (x : Bool × ℕ). x.1 < from + n) turns
+    (answer : Answer) (legal : Bool) → IsFirstLine unit first rest → AllByRecursion (λ (x : Bool × ℕ). x.1 < from + n) turns
     → AreTold (λ es. Accesses m w l p turns es end) l rest l' → k ≡ min (n * 4096) (bytes_served (from * 4096) (n * 4096) end)
     → ((a n : ℕ) → k ≡ bytes_served a n end → answer ≡ write_answer a end) → IsAnswer answer → SaysOnly legal first answer
     → Tells (λ end es. Accesses m w l p turns es end) (WritesTo (address_of from)) l unit legal l'

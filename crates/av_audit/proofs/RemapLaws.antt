@@ -12,40 +12,40 @@ use Rattle.av_plain.proofs.Access.{after_all-append, notes_of-append}
 -- ---- entries
 
 -- the events where the range moves
-abbrev moved : Ledger → ℕ → ℕ → ℕ → ℕ → ℕ → List Event
-moved l p from n to m = range_zaps l p to m ++ range_zaps (after_all l (range_zaps l p to m)) p (from + m) (n - m)
+abbrev move_events : Ledger → ℕ → ℕ → ℕ → ℕ → ℕ → List Event
+move_events l p from n to m = range_zaps l p to m ++ range_zaps (after_all l (range_zaps l p to m)) p (from + m) (n - m)
     ++ EntriesMoved p (min n m) from to ∷ []
 
-pub moved-ledger : (l l1 l2 l3 : Ledger) (p from n to m : ℕ) → (to == from) ≡ false → l1 ≡ after_all l (range_zaps l p to m)
+pub move-ledger : (l l1 l2 l3 : Ledger) (p from n to m : ℕ) → (to == from) ≡ false → l1 ≡ after_all l (range_zaps l p to m)
     → l2 ≡ after_all l1 (range_zaps l1 p (from + m) (n - m)) → l3 ≡ after l2 (EntriesMoved p (min n m) from to)
     → l3 ≡ after_all l (remap_events l p from n to m)
-moved-ledger l l1 l2 l3 p from n to m is e1 e2 e3 =
+move-ledger l l1 l2 l3 p from n to m is e1 e2 e3 =
     let target = range_zaps l p to m in
     let tail = range_zaps (after_all l target) p (from + m) (n - m) in
     e3 ∙ ap (λ x. after x (EntriesMoved p (min n m) from to))
     (e2 ∙ (λ i. after_all (e1 i) (range_zaps (e1 i) p (from + m) (n - m))) ∙ sym (after_all-append l target tail))
     ∙ sym (after_all-append l (target ++ tail) (EntriesMoved p (min n m) from to ∷ []))
-    ∙ ap (λ b. after_all l (cond b (range_zaps l p (from + m) (n - m)) (moved l p from n to m))) (sym is)
+    ∙ ap (λ b. after_all l (cond b (range_zaps l p (from + m) (n - m)) (move_events l p from n to m))) (sym is)
 
-pub moved-notes : (l l1 : Ledger) (p from n to m : ℕ) (ns ns1 ns2 : List Note) → (to == from) ≡ false → l1 ≡ after_all l (range_zaps l p to m)
+pub move-notes : (l l1 : Ledger) (p from n to m : ℕ) (ns ns1 ns2 : List Note) → (to == from) ≡ false → l1 ≡ after_all l (range_zaps l p to m)
     → ns1 ≡ ns ++ notes_of (range_zaps l p to m) → ns2 ≡ ns1 ++ notes_of (range_zaps l1 p (from + m) (n - m))
     → ns2 ≡ ns ++ notes_of (remap_events l p from n to m)
-moved-notes l l1 p from n to m ns ns1 ns2 is e1 n1 n2 =
+move-notes l l1 p from n to m ns ns1 ns2 is e1 n1 n2 =
     let target = range_zaps l p to m in
     let tail = range_zaps (after_all l target) p (from + m) (n - m) in
     let last = EntriesMoved p (min n m) from to ∷ [] in
     n2 ∙ (λ i. n1 i ++ notes_of (range_zaps (e1 i) p (from + m) (n - m))) ∙ append_assoc ns (notes_of target) (notes_of tail)
     ∙ ap (λ xs. ns ++ xs) (sym (notes_of-append target tail) ∙ sym (append-nil (notes_of (target ++ tail)))
     ∙ sym (notes_of-append (target ++ tail) last))
-    ∙ ap (λ b. ns ++ notes_of (cond b (range_zaps l p (from + m) (n - m)) (moved l p from n to m))) (sym is)
+    ∙ ap (λ b. ns ++ notes_of (cond b (range_zaps l p (from + m) (n - m)) (move_events l p from n to m))) (sym is)
 
-pub stayed-ledger : (l l1 : Ledger) (p from n to m : ℕ) → (to == from) ≡ true → l1 ≡ after_all l (range_zaps l p (from + m) (n - m))
+pub stay-ledger : (l l1 : Ledger) (p from n to m : ℕ) → (to == from) ≡ true → l1 ≡ after_all l (range_zaps l p (from + m) (n - m))
     → l1 ≡ after_all l (remap_events l p from n to m)
-stayed-ledger l l1 p from n to m is e = e ∙ ap (λ b. after_all l (cond b (range_zaps l p (from + m) (n - m)) (moved l p from n to m))) (sym is)
+stay-ledger l l1 p from n to m is e = e ∙ ap (λ b. after_all l (cond b (range_zaps l p (from + m) (n - m)) (move_events l p from n to m))) (sym is)
 
-pub stayed-notes : (l : Ledger) (p from n to m : ℕ) (ns ns1 : List Note) → (to == from) ≡ true
+pub stay-notes : (l : Ledger) (p from n to m : ℕ) (ns ns1 : List Note) → (to == from) ≡ true
     → ns1 ≡ ns ++ notes_of (range_zaps l p (from + m) (n - m)) → ns1 ≡ ns ++ notes_of (remap_events l p from n to m)
-stayed-notes l p from n to m ns ns1 is e = e ∙ ap (λ b. ns ++ notes_of (cond b (range_zaps l p (from + m) (n - m)) (moved l p from n to m))) (sym is)
+stay-notes l p from n to m ns ns1 is e = e ∙ ap (λ b. ns ++ notes_of (cond b (range_zaps l p (from + m) (n - m)) (move_events l p from n to m))) (sym is)
 
 -- ---- places
 

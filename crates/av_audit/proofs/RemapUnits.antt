@@ -1,5 +1,6 @@
 -- Units of `mremap`, and the pages after it.
-use Rattle.std.proofs.Common.{◌≡◌, ℕ, ◌+◌, ◌-◌, ◌<◌, ◌≤◌, ◌^◌, Bool, true, false, cond, List, Option, Some, None, refl, sym, ap, subst, ◌∙◌, arith, nat_le, nat_lt}
+use Rattle.std.proofs.Common.{◌≡◌, ℕ, ◌+◌, ◌-◌, ◌<◌, ◌≤◌, ◌^◌, Bool, true, false, cond, List, Option, Some, None, refl, sym, ap, subst, ◌∙◌}
+use Rattle.std.proofs.Common.{arith, nat_le, nat_lt}
 use Rattle.std.specs.Prelude.{◌∷◌, ◌||◌, ◌&&◌, IfSome, MatchBool, [], is_some, not, option_map, ◌*◌}
 use Rattle.std.specs.List.{AllByRecursion}
 use Rattle.std.proofs.lemmas.Bool.Decides.{nat_tests}
@@ -26,7 +27,8 @@ use Rattle.av_world.specs.Remap.{IsBelowTop}
 use Rattle.av_world.specs.declared.memories.Memories.{Memories}
 use Rattle.av_world.proofs.WorldLaws.{world-top}
 use Rattle.av_audit.specs.Known.{SaysEvents, map_answer, reply_of}
-use Rattle.av_audit.proofs.KnownUnits.{IsSaid, differ, first-lives, gap-one, is-map, known-said, map-is, no-first, page-again}
+use Rattle.av_audit.specs.Judge.{IsLeftAt}
+use Rattle.av_audit.proofs.KnownUnits.{differ, first-lives, gap-one, is-map, known-said, map-is, no-first, page-again}
 
 -- ---- tests
 
@@ -190,7 +192,7 @@ pub mremap-said : (m : Setting) (w : World) (l l' : Ledger) (p a old new : ℕ) 
     → refusal (tests m w l (Mremap p a old new mode)) ≡ None → MovesTo (pages w p) (page_of a) (pages_of old) (pages_of new) mode to
     → SaysEvents l (map_answer to) (events_to l p (page_of a) (pages_of old) to (pages_of new)) unit legal l'
     → (legal ≡ true → IsWorld memories (next w (Mremap p a old new mode) (map_answer to)))
-    → IsSaid m w l (Mremap p a old new mode) unit legal l' memories
+    → IsLeftAt m w l (Mremap p a old new mode) unit legal l' memories
 mremap-said m w l l' p a old new mode to unit legal memories told low none goes says at =
     known-said m w l (Mremap p a old new mode) (map_answer to) (events_to l p (page_of a) (pages_of old) to (pages_of new)) unit legal l' memories told
     (mremap-only m w l p a old new mode to none goes)

@@ -1,44 +1,13 @@
--- Units of reports leave all as it is.
-use Rattle.std.proofs.Common.{◌≡◌, ℕ, Bool, true, false, cond, not, List, [], ◌∷◌, Option, Some, None, is_some, refl, sym, ap, ◌∙◌}
+-- Why a report is refused, by what the auditor keeps.
+use Rattle.std.proofs.Common.{◌≡◌, ℕ, Bool, true, false, cond, not, [], ◌∷◌, Option, Some, None, is_some, refl, sym, ap, ◌∙◌}
 use Rattle.std.specs.Prelude.{◌||◌, option_and_then}
 use Rattle.av_base.specs.Page.{page_of}
-use Rattle.av_trace.specs.declared.command.Command.{Command}
-use Rattle.av_trace.specs.declared.reply.Answer.{Answer}
 use Rattle.av_trace.specs.declared.reply.Errno.TheVariants.{Efault, Esrch}
-use Rattle.av_plain.specs.Ledger.{Setting}
-use Rattle.av_plain.specs.Load.{with_loads}
 use Rattle.av_plain.specs.Refusal.{no_page, no_process, refusal}
-use Rattle.av_plain.specs.Step.{next}
 use Rattle.av_plain.specs.World.{Process, World, meets, pages, process}
-use Rattle.av_book.specs.Book.{ledger_of}
-use Rattle.av_book.specs.declared.book.Book.{Book}
-use Rattle.av_judge.specs.Verdict.{IsVerdict}
-use Rattle.av_world.specs.Memories.{IsProcess, IsWorld}
+use Rattle.av_world.specs.Memories.{IsProcess}
 use Rattle.av_world.specs.Space.{IsSpace}
-use Rattle.av_world.specs.declared.memories.Memories.{Memories}
 use Rattle.av_world.specs.declared.space.Space.{Space}
-use Rattle.av_audit.specs.Judge.{IsLeft}
-use Rattle.av_audit.proofs.JudgeLaws.{loads-told, not-left}
-
--- a command that changes neither memories nor the ledger
-pub report-left : (m : Setting) (w : World) (book : Book) (command : Command) (unit : List ℕ) (legal : Bool) (memories : Memories)
-    → is_some m.headers ≡ true → ((v : World) (answer : Answer) → next v command answer ≡ v)
-    → IsVerdict m w (ledger_of book) command unit legal (ledger_of book) → IsWorld memories w
-    → IsLeft m w (ledger_of book) command unit legal memories book
-report-left m w book command unit true memories told stays h at = (
-  w,
-  (
-    h.reply,
-    h.events,
-    record { form = h.form; text = h.text; legal = h.legal },
-    sym (stays (with_loads m w (ledger_of book) h.events) h.reply.answer ∙ loads-told m w (ledger_of book) h.events told),
-    h.after,
-  ),
-  at,
-)
-report-left m w book command unit false memories told stays h at = not-left m w (ledger_of book) (ledger_of book) command unit memories book h
-
--- ---- refusals
 
 -- the process doesn't live
 pub dead : (w : World) (p : ℕ) → IsProcess None (process w p) → is_some (process w p) ≡ false

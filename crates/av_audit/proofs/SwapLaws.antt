@@ -1,7 +1,6 @@
--- Units of swap commands that change no memories.
-use Rattle.std.proofs.Common.{◌≡◌, ◌⊎◌, inl, inr, ℕ, Bool, true, false, List, [], Some, None, Option, refl, sym, ap, subst, ◌∙◌}
+-- Units of `swapon`, which changes no memories.
+use Rattle.std.proofs.Common.{◌≡◌, ◌⊎◌, inl, inr, ℕ, true, false, List, [], Some, None, Option, refl, sym, ap, subst, ◌∙◌}
 use Rattle.std.specs.Prelude.{MatchOption, is_some}
-use Rattle.av_trace.specs.declared.command.Command.{Command}
 use Rattle.av_trace.specs.declared.command.Command.TheVariants.{Swapon}
 use Rattle.av_trace.specs.declared.reply.Answer.{Answer}
 use Rattle.av_trace.specs.declared.reply.Answer.TheVariants.{Refused}
@@ -12,36 +11,17 @@ use Rattle.av_trace.specs.Reply.{Follow, IsAnswer, answer_only}
 use Rattle.av_plain.specs.Event.{Event, after_all, notes_of}
 use Rattle.av_plain.specs.Ledger.{Ledger, Setting}
 use Rattle.av_plain.specs.Refusal.{Refuses, refusal, tests}
-use Rattle.av_plain.specs.Load.{with_loads}
-use Rattle.av_plain.specs.Step.{Follows, next}
+use Rattle.av_plain.specs.Step.{Follows}
 use Rattle.av_plain.specs.Swapon.{IsByHeader, TurnsOn, header_answer, turn_on_events}
 use Rattle.av_plain.specs.World.{World}
 use Rattle.av_swapdev.specs.Header.{Layout}
 use Rattle.av_book.specs.Book.{ledger_of}
 use Rattle.av_book.specs.declared.book.Book.{Book}
 use Rattle.av_judge.specs.Says.{SaysOnly}
-use Rattle.av_judge.specs.Verdict.{IsVerdict}
 use Rattle.av_world.specs.Memories.{IsWorld}
 use Rattle.av_world.specs.declared.memories.Memories.{Memories}
 use Rattle.av_audit.specs.Judge.{IsLeft}
 use Rattle.av_audit.proofs.JudgeLaws.{loads-told}
-
--- a command that changes no memories
-pub book-left : (m : Setting) (w : World) (l : Ledger) (command : Command) (unit : List ℕ) (legal : Bool) (memories : Memories)
-    (book : Book) → is_some m.headers ≡ true → ((v : World) (answer : Answer) → next v command answer ≡ v)
-    → IsVerdict m w l command unit legal (ledger_of book) → IsWorld memories w → IsLeft m w l command unit legal memories book
-book-left m w l command unit true memories book told stays h at = (
-  w,
-  (
-    h.reply,
-    h.events,
-    record { form = h.form; text = h.text; legal = h.legal },
-    sym (stays (with_loads m w l h.events) h.reply.answer ∙ loads-told m w l h.events told),
-    h.after,
-  ),
-  at,
-)
-book-left m w l command unit false memories book told stays h at = λ u. h u.0 u.1 u.2.form u.2.text u.2.legal
 
 -- ---- swapon
 

@@ -25,7 +25,7 @@ use Rattle.av_world.specs.declared.memories.Memories.{Memories}
 use Rattle.av_access_judge.specs.Access.{AreTold}
 use Rattle.av_swapoff_judge.specs.Close.{Closes, IsWhole}
 use Rattle.av_swapoff_judge.proofs.CloseLaws.{closes-one}
-use Rattle.av_audit.specs.Access.{IsFirst}
+use Rattle.av_audit.specs.Access.{IsFirstLine}
 use Rattle.av_audit.specs.Judge.{IsLeft}
 use Rattle.av_audit.proofs.EndLaws.{HasNotes, IsEnding, IsTelling, follows-by, legal-by, no-unit, tells-by, tells-left, tells-no-end, tells-no-line}
 use Rattle.av_audit.proofs.JudgeLaws.{refused-left}
@@ -95,7 +95,7 @@ module _ (m : Setting) (w : World) (k : ℕ) (unit : List ℕ) (told : is_some m
   swapoff-no-line l memories book on none =
       no-unit m w l l (Swapoff k) (Offs m w l k) OffTo unit (off-ending m w l k on) (tells-no-line (Offs m w l k) OffTo l l unit none)
 
-  pub swapoff-no-end : (l l' : Ledger) (memories : Memories) (book : Book) (first rest : List ℕ) → is_on l k ≡ true → IsFirst unit first rest
+  pub swapoff-no-end : (l l' : Ledger) (memories : Memories) (book : Book) (first rest : List ℕ) → is_on l k ≡ true → IsFirstLine unit first rest
       → IsWhole (Closes m w k l) l rest None l' → IsLeft m w l (Swapoff k) unit false memories book
   swapoff-no-end l l' memories book first rest on is none =
       no-unit m w l l' (Swapoff k) (Offs m w l k) OffTo unit (off-ending m w l k on)
@@ -108,7 +108,7 @@ module _ (m : Setting) (w : World) (k : ℕ) (unit : List ℕ) (told : is_some m
       })))
 
   pub swapoff-left : (l l1 : Ledger) (memories : Memories) (book : Book) (first rest : List ℕ) (close : Close) (answer : Answer) (legal : Bool)
-      → is_on l k ≡ true → IsWorld memories w → IsFirst unit first rest → IsWhole (Closes m w k l) l rest (Some close) l1
+      → is_on l k ≡ true → IsWorld memories w → IsFirstLine unit first rest → IsWhole (Closes m w k l) l rest (Some close) l1
       → ledger_of book ≡ after_all l1 (turn_off_events k close) → answer ≡ close_answer close → IsAnswer answer → SaysOnly legal first answer
       → IsLeft m w l (Swapoff k) unit legal memories book
   swapoff-left l l1 memories book first rest close answer legal on at is h after answers fits says =

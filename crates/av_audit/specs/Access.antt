@@ -12,8 +12,8 @@ use Rattle.av_judge.specs.Notes.{IsCut}
 use Rattle.av_audit.specs.Known.{reply_of}
 
 -- the first line of a unit, with its newline, and what is behind it
-abbrev pub IsFirst : List ℕ → List ℕ → List ℕ → Type 0
-IsFirst unit first rest = (line : List ℕ) × IsCut 10 unit line rest × (first ≡ whole_line line)
+abbrev pub IsFirstLine : List ℕ → List ℕ → List ℕ → Type 0
+IsFirstLine unit first rest = (line : List ℕ) × IsCut 10 unit line rest × (first ≡ whole_line line)
 
 -- n pages from one on, each read or each written
 abbrev pub turns_of : Bool → ℕ → ℕ → List (Bool × ℕ)

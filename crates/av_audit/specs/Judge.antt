@@ -8,11 +8,21 @@ use Rattle.av_audit_laws.specs.Unit.{IsUnit, Leaves}
 use Rattle.av_book.specs.Book.{ledger_of}
 use Rattle.av_book.specs.Machine.{setting_of}
 use Rattle.av_book.specs.declared.book.Book.{Book}
+use Rattle.av_book.specs.declared.machine.Machine.{Machine}
 use Rattle.av_world.specs.Memories.{IsWorld}
 use Rattle.av_world.specs.declared.memories.Memories.{Memories}
 use Rattle.av_audit.specs.declared.auditor.Auditor.{Auditor}
+use Rattle.av_audit.specs.declared.auditor.Phase.{Phase}
 use Rattle.av_audit.specs.declared.auditor.Verdict.{Verdict}
 use Rattle.av_audit.specs.declared.auditor.Verdict.TheVariants.{Legal, Illegal}
+
+-- the frames and swap areas for which the auditor judges
+abbrev pub machine_of : Auditor → Machine
+machine_of a = a.machine
+
+-- whether it goes on
+abbrev pub phase_of : Auditor → Phase
+phase_of a = a.phase
 
 -- the auditor keeps these memories and this ledger, and they are sound
 pub record IsAt (a : Auditor) (w : World) (l : Ledger) : Type 0 where
@@ -30,14 +40,18 @@ IsRight m w l command unit Legal new =
     (w' : World) × (l' : Ledger) × Leaves m w l command unit w' l' × IsAt new w' l'
 IsRight m w l command unit Illegal new = IsUnit m w l command unit → ⊥
 
--- the unit is legal, and leaves what these keep; or it isn't
-abbrev pub IsLeft : Setting → World → Ledger → Command → List ℕ → Bool → Memories → Book → Type 0
-IsLeft m w l command unit legal memories book = MatchBool legal
-    ((w' : World) × Leaves m w l command unit w' (ledger_of book) × IsWorld memories w')
+-- the unit is legal, and leaves this ledger and what these memories keep; or it isn't
+abbrev pub IsLeftAt : Setting → World → Ledger → Command → List ℕ → Bool → Ledger → Memories
+    → Type 0
+IsLeftAt m w l command unit legal l' memories = MatchBool legal
+    ((w' : World) × Leaves m w l command unit w' l' × IsWorld memories w')
     (IsUnit m w l command unit → ⊥)
 
--- the unit is legal, leaves the ledger, and these are the memories that it leaves; or it isn't
-abbrev pub IsSeen : Setting → World → Ledger → Command → List ℕ → Bool → Memories → Type 0
-IsSeen m w l command unit legal new = MatchBool legal
-    ((w' : World) × Leaves m w l command unit w' l × IsWorld new w')
-    (IsUnit m w l command unit → ⊥)
+-- the ledger is that of this book
+abbrev pub IsLeft : Setting → World → Ledger → Command → List ℕ → Bool → Memories → Book → Type 0
+IsLeft m w l command unit legal memories book =
+    IsLeftAt m w l command unit legal (ledger_of book) memories
+
+-- the ledger is as it was
+abbrev pub LeavesLedger : Setting → World → Ledger → Command → List ℕ → Bool → Memories → Type 0
+LeavesLedger m w l command unit legal memories = IsLeftAt m w l command unit legal l memories

@@ -16,7 +16,7 @@ ghost use Rattle.av_judge.specs.Says.{SaysOnly};
 ghost use Rattle.av_world.specs.Memories.{IsWorld};
 ghost use Rattle.av_access_judge.specs.Access.{Ends, end_of};
 ghost use Rattle.av_access_judge.specs.Come.{stop_of};
-ghost use Rattle.av_audit.specs.Access.{IsFirst, end_below, turns_of};
+ghost use Rattle.av_audit.specs.Access.{IsFirstLine, end_below, turns_of};
 ghost use Rattle.av_audit.specs.Judge.{IsLeft};
 
 use crate::lengths::pages_met;
@@ -31,7 +31,7 @@ use std::alloc::{AllocError, Global};
 
 /// The first line of a unit, with its newline, and what is behind it.
 pub fn first_line(unit: &[u8]) -> Option<(&[u8], &[u8])>
-    ensures found { IfSome result (λ x. IsFirst unit.now x.0.now x.1.now) }
+    ensures some { IfSome result (λ x. IsFirstLine unit.now x.0.now x.1.now) }
     ensures none { IfNone result (lacks 10 unit.now ≡ true) }
 {
     match cut(b'\n', unit) {
@@ -56,10 +56,10 @@ fn turns(alloc: Global, write: bool, from: u64, n: u64) -> Result<Vec<(bool, u64
 
 /// No page without an address of 64 bits is mapped: an access that goes up to below `end` stops at
 /// the first, if it comes so far.
-fn stops_below(found: Option<End>, end: u64) -> Option<End>
-    ensures { option_map end_of result ≡ option_map (end_below end) (option_map end_of found) }
+fn stops_below(reach: Option<End>, end: u64) -> Option<End>
+    ensures { option_map end_of result ≡ option_map (end_below end) (option_map end_of reach) }
 {
-    match found {
+    match reach {
         Some(End::Whole) => {
             if end > ADDRESS_PAGES {
                 Some(End::Stopped {
@@ -89,15 +89,15 @@ fn ends_at(
 ) -> Result<Option<End>, AllocError>
     requires some { 0 < machine.now.frames }
     requires fits { AreNamed (setting_of machine.now) }
-    ensures { IfOk result (λ found. (w : World) → IsWorld memories.now w
+    ensures { IfOk result (λ reach. (w : World) → IsWorld memories.now w
         → Ends (λ end events. plain.Accesses (setting_of machine.now) w (ledger_of book.old)
         process (plain.pages_of_access write address n) events end) (ledger_of book.old)
-        notes.now (option_map end_of found) (ledger_of book.new)) }
+        notes.now (option_map end_of reach) (ledger_of book.new)) }
 {
     let from = address / PAGE_SIZE;
     let count = pages_met(address, n);
     let pages = turns(alloc, write, from, count)?;
-    let found = accesses(
+    let reach = accesses(
         book,
         alloc,
         machine,
@@ -106,11 +106,11 @@ fn ends_at(
         pages.as_slice(),
         notes,
     )?;
-    Ok(stops_below(found, from + count))
+    Ok(stops_below(reach, from + count))
 }
 
 /// How many of n bytes from an address on come before where an access ends.
-pub fn served(address: u64, n: u64, end: End) -> u64
+pub fn bytes_before(address: u64, n: u64, end: End) -> u64
     ensures { result ≡ min n (plain.bytes_served address n (end_of end)) }
 {
     match end {
@@ -123,38 +123,48 @@ pub fn served(address: u64, n: u64, end: End) -> u64
 }
 
 /// The answer of an access that stopped behind so many bytes, of which a read shows these.
-fn stop_answer(stop: Stop, served: u64, shown: Bytes) -> Answer
-    ensures answer { result ≡ plain.stop_answer (stop_of stop) served shown }
-    ensures fits { AreBytes shown → IsAnswer result }
+fn stop_answer(stop: Stop, count: u64, bytes: Bytes) -> Answer
+    ensures answer { result ≡ plain.stop_answer (stop_of stop) count bytes }
+    ensures fits { AreBytes bytes → IsAnswer result }
 {
     match stop {
-        Stop::Denied => Answer::Segv { served, shown },
-        Stop::Lost => Answer::Bus { served, shown },
-        Stop::Starved(out) => Answer::Oom { served, out, shown },
+        Stop::Denied => Answer::Segv {
+            served: count,
+            shown: bytes,
+        },
+        Stop::Lost => Answer::Bus {
+            served: count,
+            shown: bytes,
+        },
+        Stop::Starved(out) => Answer::Oom {
+            served: count,
+            out,
+            shown: bytes,
+        },
     }
 }
 
 /// The answer of a read from an address on, of which so many bytes were served: these.
-fn read_answer(end: End, served: u64, shown: Bytes) -> Answer
-    ensures answer { (a n : ℕ) → served ≡ plain.bytes_served a n (end_of end)
-        → result ≡ plain.read_answer a (end_of end) shown }
-    ensures fits { AreBytes shown → IsAnswer result }
+fn read_answer(end: End, count: u64, bytes: Bytes) -> Answer
+    ensures answer { (a n : ℕ) → count ≡ plain.bytes_served a n (end_of end)
+        → result ≡ plain.read_answer a (end_of end) bytes }
+    ensures fits { AreBytes bytes → IsAnswer result }
 {
     match end {
-        End::Whole => Answer::Data(shown),
-        End::Stopped { stop, .. } => stop_answer(stop, served, shown),
+        End::Whole => Answer::Data(bytes),
+        End::Stopped { stop, .. } => stop_answer(stop, count, bytes),
     }
 }
 
 /// And that of a write.
-pub fn write_answer(alloc: Global, end: End, served: u64) -> Answer
-    ensures answer { (a n : ℕ) → served ≡ plain.bytes_served a n (end_of end)
+pub fn write_answer(alloc: Global, end: End, count: u64) -> Answer
+    ensures answer { (a n : ℕ) → count ≡ plain.bytes_served a n (end_of end)
         → result ≡ plain.write_answer a (end_of end) }
     ensures fits { IsAnswer result }
 {
     match end {
         End::Whole => Answer::Done,
-        End::Stopped { stop, .. } => stop_answer(stop, served, Bytes::new(alloc)),
+        End::Stopped { stop, .. } => stop_answer(stop, count, Bytes::new(alloc)),
     }
 }
 
@@ -194,9 +204,9 @@ pub fn audits_read(
     )? {
         None => Ok(false),
         Some(end) => {
-            let k = served(address, n, end);
-            let shown = Bytes::from_vec(memories.read(process, address, k as usize)?);
-            says(alloc, read_answer(end, k, shown), line)
+            let k = bytes_before(address, n, end);
+            let bytes = Bytes::from_vec(memories.read(process, address, k as usize)?);
+            says(alloc, read_answer(end, k, bytes), line)
         }
     }
 }
@@ -230,7 +240,7 @@ pub fn audits_write(
     )? {
         None => Ok(false),
         Some(end) => {
-            let k = served(address, n, end);
+            let k = bytes_before(address, n, end);
             if !says(alloc, write_answer(alloc, end, k), line)? {
                 return Ok(false);
             }

@@ -9,7 +9,7 @@ ghost use Rattle.av_plain.specs.Refusal.{refusal, tests};
 ghost use Rattle.av_plain.specs.World.{Process, World, pages_to_hole, pages_to_locked};
 ghost use Rattle.av_book.specs.Book.{ledger_of};
 ghost use Rattle.av_world.specs.Memories.{IsWorld};
-ghost use Rattle.av_audit.specs.Judge.{IsLeft, IsSeen};
+ghost use Rattle.av_audit.specs.Judge.{IsLeft, LeavesLedger};
 
 use crate::known::{hole_answer, says_zaps};
 use crate::lengths::{ends_too_high, is_bad_range, pages_met, pages_of};
@@ -104,7 +104,7 @@ fn audits_flag(
         → IsWorld memories.old w → is_some m.headers ≡ true
         → flag_of_advice advice ≡ Some (flag, set)
         → refusal (tests m w l (commands.Madvise process address length advice)) ≡ None
-        → IsSeen m w l (commands.Madvise process address length advice) unit.now legal
+        → LeavesLedger m w l (commands.Madvise process address length advice) unit.now legal
         memories.new) }
 {
     let from = address / PAGE_SIZE;
@@ -169,7 +169,8 @@ pub fn audits_munlock(
 ) -> Result<bool, AllocError>
     ensures { IfOk result (λ legal. (m : Setting) (w : World) (l : Ledger)
         → IsWorld memories.old w → is_some m.headers ≡ true
-        → IsSeen m w l (commands.Munlock process address length) unit.now legal memories.new) }
+        → LeavesLedger m w l (commands.Munlock process address length) unit.now legal
+        memories.new) }
 {
     match refuses_munlock(memories, process, address, length) {
         Some(error) => is_answer(alloc, &Answer::Refused(error), unit),

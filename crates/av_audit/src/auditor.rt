@@ -4,7 +4,7 @@ ghost use Rattle.std.specs.Prelude.{◌≡◌, [], IfOk, IsErr, OnErr};
 ghost use Rattle.av_plain.specs.Ledger.{Ledger, first_ledger};
 ghost use Rattle.av_plain.specs.World.{World};
 ghost use Rattle.av_book.specs.Machine.{setting_of};
-ghost use Rattle.av_audit.specs.Judge.{IsAt, IsRight, verdict_of};
+ghost use Rattle.av_audit.specs.Judge.{IsAt, IsRight, machine_of, phase_of, verdict_of};
 ghost use Rattle.av_audit.specs.Swap.{FitsWords};
 
 use crate::units::is_legal;
@@ -32,15 +32,15 @@ pub enum Phase {
 /// and whether it goes on.
 #[derive(Drop)]
 pub struct Auditor {
-    pub alloc: Global,
-    pub machine: Machine,
-    pub book: Book,
-    pub memories: Memories,
-    pub phase: Phase,
+    pub(crate) alloc: Global,
+    pub(crate) machine: Machine,
+    pub(crate) book: Book,
+    pub(crate) memories: Memories,
+    pub(crate) phase: Phase,
 }
 
 /// What is said of a unit.
-fn said(legal: bool) -> Verdict
+fn to_verdict(legal: bool) -> Verdict
     ensures { result ≡ verdict_of legal }
 {
     if legal {
@@ -53,9 +53,9 @@ fn said(legal: bool) -> Verdict
 impl Auditor {
     /// No process lives, and no frame or slot is used.
     pub fn new(alloc: Global, machine: Machine) -> Auditor
-        ensures going { result.phase ≡ Phase.Going }
+        ensures going { phase_of result ≡ Phase.Going }
         ensures first { IsAt result [] first_ledger }
-        ensures machine { result.machine ≡ machine }
+        ensures machine { machine_of result ≡ machine }
     {
         Auditor {
             alloc,
@@ -68,33 +68,35 @@ impl Auditor {
 
     /// What is said of a unit for a command, while the auditor goes on.
     fn judge_next(&mut self, command: &Command, unit: &[u8]) -> Result<Verdict, AllocError>
-        requires { FitsWords self.old.machine }
-        ensures machine { self.new.machine ≡ self.old.machine }
-        ensures phase { self.new.phase ≡ self.old.phase }
+        requires { FitsWords (machine_of self.old) }
+        ensures machine { machine_of self.new ≡ machine_of self.old }
+        ensures phase { phase_of self.new ≡ phase_of self.old }
         ensures right { IfOk result (λ verdict. (w : World) (l : Ledger) → IsAt self.old w l
-            → IsRight (setting_of self.old.machine) w l command.now unit.now verdict self.new) }
+            → IsRight (setting_of (machine_of self.old)) w l command.now unit.now verdict
+            self.new) }
     {
         let (memories, book) = (&mut self.memories, &mut self.book);
         let legal = is_legal(self.alloc, &self.machine, memories, book, command, unit)?;
-        Ok(said(legal))
+        Ok(to_verdict(legal))
     }
 
     /// What is said of a unit for a command.
     pub fn judge(&mut self, command: &Command, unit: &[u8]) -> Result<Verdict, AllocError>
-        requires { FitsWords self.old.machine }
-        ensures going { self.old.phase ≡ Phase.Going → IfOk result (λ verdict. (w : World)
+        requires { FitsWords (machine_of self.old) }
+        ensures going { phase_of self.old ≡ Phase.Going → IfOk result (λ verdict. (w : World)
             (l : Ledger) → IsAt self.old w l
-            → IsRight (setting_of self.old.machine) w l command.now unit.now verdict self.new) }
-        ensures machine { self.new.machine ≡ self.old.machine }
+            → IsRight (setting_of (machine_of self.old)) w l command.now unit.now verdict
+            self.new) }
+        ensures machine { machine_of self.new ≡ machine_of self.old }
         ensures goes_on { IfOk result (λ verdict. verdict ≡ Verdict.Legal
-            → self.new.phase ≡ Phase.Going) }
-        ensures over { self.old.phase ≡ Phase.Over
-            → (result ≡ Ok Verdict.Illegal) × (self.new.phase ≡ Phase.Over) }
-        ensures spent { self.old.phase ≡ Phase.Spent
-            → IsErr result × (self.new.phase ≡ Phase.Spent) }
+            → phase_of self.new ≡ Phase.Going) }
+        ensures over { phase_of self.old ≡ Phase.Over
+            → (result ≡ Ok Verdict.Illegal) × (phase_of self.new ≡ Phase.Over) }
+        ensures spent { phase_of self.old ≡ Phase.Spent
+            → IsErr result × (phase_of self.new ≡ Phase.Spent) }
         ensures ends { IfOk result (λ verdict. verdict ≡ Verdict.Illegal
-            → self.new.phase ≡ Phase.Over) }
-        ensures wants { OnErr result (self.new.phase ≡ Phase.Spent) }
+            → phase_of self.new ≡ Phase.Over) }
+        ensures wants { OnErr result (phase_of self.new ≡ Phase.Spent) }
     {
         match self.phase {
             Phase::Going => {}

@@ -1,12 +1,12 @@
-//! The auditor: whether a transcript is legal, unit by unit. It knows the definitions alone, and no
-//! kernel.
+//! The auditor: whether a transcript is legal, unit by unit. A unit is the text of one reply. The
+//! auditor knows the definitions alone, and no kernel.
 //!
 //! Proved: a unit is answered to be legal exactly where the definitions have it so, and then the
 //! auditor keeps the memories and the ledger that the unit leaves (`Auditor::judge`). After a unit
-//! that isn't legal none is, and after want of memory each call wants it. The numbers of the machine
-//! have to be such as words can say (`FitsWords`).
+//! that isn't legal none is, and after want of memory each call wants it. The machine has a frame,
+//! at most 256 swap areas of 2^32 pages, and fewer than 2^32 bad pages in each (`FitsWords`).
 //!
-//! Only tested: nothing. That memory suffices isn't proved.
+//! Only tested: that memory suffices.
 #![tactic(auto)]
 
 mod accessing;

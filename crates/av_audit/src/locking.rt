@@ -15,7 +15,7 @@ ghost use Rattle.av_world.specs.Memories.{IsWorld};
 ghost use Rattle.av_audit.specs.Judge.{IsLeft};
 ghost use Rattle.av_audit.specs.Access.{Tells};
 
-use crate::accessing::{first_line, says, served, write_answer};
+use crate::accessing::{bytes_before, first_line, says, write_answer};
 use crate::lengths::{ends_too_high, pages_met};
 use av_access_judge::accesses;
 use av_base::{Flag, PAGE_SIZE};
@@ -115,7 +115,7 @@ fn comes_in(
     match accesses(book, alloc, machine, memories, process, pages, notes)? {
         None => Ok(false),
         Some(end) => {
-            let k = served(from * PAGE_SIZE, n * PAGE_SIZE, end);
+            let k = bytes_before(from * PAGE_SIZE, n * PAGE_SIZE, end);
             says(alloc, write_answer(alloc, end, k), line)
         }
     }

@@ -16,7 +16,7 @@ ghost use Rattle.av_plain.specs.Step.{next};
 ghost use Rattle.av_plain.specs.World.{World, lives, pages};
 ghost use Rattle.av_book.specs.Book.{ledger_of};
 ghost use Rattle.av_world.specs.Memories.{IsWorld};
-ghost use Rattle.av_audit.specs.Judge.{IsLeft, IsSeen};
+ghost use Rattle.av_audit.specs.Judge.{IsLeft, LeavesLedger};
 ghost use Rattle.av_audit.specs.Known.{SaysEvents, map_answer as map_answer_of};
 
 use crate::known::{hole_answer, map_answer, says_zaps};
@@ -241,7 +241,7 @@ pub fn audits_mprotect(
 ) -> Result<bool, AllocError>
     ensures { IfOk result (λ legal. (m : Setting) (w : World) (l : Ledger)
         → IsWorld memories.old w → is_some m.headers ≡ true
-        → IsSeen m w l (commands.Mprotect process address length prot) unit.now legal
+        → LeavesLedger m w l (commands.Mprotect process address length prot) unit.now legal
         memories.new) }
 {
     match refuses_mprotect(memories, process, address, length) {

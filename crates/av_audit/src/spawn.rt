@@ -6,7 +6,7 @@ ghost use Rattle.av_plain.specs.Ledger.{Ledger, Setting};
 ghost use Rattle.av_plain.specs.Refusal.{refusal, tests};
 ghost use Rattle.av_plain.specs.World.{World};
 ghost use Rattle.av_world.specs.Memories.{IsWorld};
-ghost use Rattle.av_audit.specs.Judge.{IsSeen};
+ghost use Rattle.av_audit.specs.Judge.{LeavesLedger};
 
 use av_base::MOST_PROCESSES;
 use av_judge::is_answer;
@@ -37,7 +37,7 @@ pub fn audits_spawn(
 ) -> Result<bool, AllocError>
     ensures { IfOk result (λ legal. (m : Setting) (w : World) (l : Ledger)
         → IsWorld memories.old w → is_some m.headers ≡ true
-        → IsSeen m w l (commands.Spawn process) unit.now legal memories.new) }
+        → LeavesLedger m w l (commands.Spawn process) unit.now legal memories.new) }
 {
     match refuses_spawn(memories, process) {
         Some(error) => is_answer(alloc, &Answer::Refused(error), unit),

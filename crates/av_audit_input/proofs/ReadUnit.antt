@@ -11,7 +11,7 @@ use Rattle.av_audit_input.specs.Input.{IsEnded, IsOpen, IsPortErr}
 use Rattle.av_audit_input.specs.Unit.{is_whole, units_of, Cuts, IsOne, IsPiece, LeavesPiece, StopsPiece, StopsUnit, TakesPiece, TakesUnit}
 use Rattle.av_audit_input.specs.declared.input_err.InputErr.{InputErr}
 use Rattle.av_audit_input.specs.declared.input_err.InputErr.TheVariants as input
-use Rattle.av_audit_input.proofs.UnitLaws.{cut-one, joined, last-first, piece-one, whole-first, whole-more}
+use Rattle.av_audit_input.proofs.UnitLaws.{cut-one, part-one, last-first, piece-one, whole-first, whole-more}
 
 -- nothing yet, or a unit or a part of one
 abbrev pub IsPart : List ℕ → Type 0
@@ -22,9 +22,9 @@ whole-one unit ahead (inl none) whole = absurd (true≢false (sym whole ∙ ap (
 whole-one unit ahead (inr one) whole = one
 
 -- it is whole, by what comes behind it
-pub found : (unit ahead0 ahead : List ℕ) (old now : PortsView) → IsPart unit → Took (undone ahead0 old) (undone ahead now) unit
+pub whole-unit : (unit ahead0 ahead : List ℕ) (old now : PortsView) → IsPart unit → Took (undone ahead0 old) (undone ahead now) unit
     → is_whole unit ahead ≡ true → 0 < length ahead → IsOne unit × Cuts (unit ∷ []) (undone ahead0 old) (undone ahead now)
-found unit ahead0 ahead old now part took whole some =
+whole-unit unit ahead0 ahead old now part took whole some =
     let one = whole-one unit ahead part whole in
     (one, cut-one unit (undone ahead0 old) (undone ahead now) took (by one now.source.left))
   where
@@ -33,10 +33,10 @@ found unit ahead0 ahead old now part took whole some =
     by one (Some rest) = whole-first unit (ahead ++ rest) one (whole-more unit ahead rest some ∙ whole)
 
 -- the input has ended behind it
-pub found-last : (unit ahead0 ahead : List ℕ) (old now : PortsView) → IsPart unit → (unit ≡ [] → ⊥) → Took (undone ahead0 old) (undone ahead now) unit
+pub last-unit : (unit ahead0 ahead : List ℕ) (old now : PortsView) → IsPart unit → (unit ≡ [] → ⊥) → Took (undone ahead0 old) (undone ahead now) unit
     → IsEnded ahead now → IsOne unit × Cuts (unit ∷ []) (undone ahead0 old) (undone ahead now)
-found-last unit ahead0 ahead old now (inl none) some took ended = absurd (some none)
-found-last unit ahead0 ahead old now (inr one) some took ended =
+last-unit unit ahead0 ahead old now (inl none) some took ended = absurd (some none)
+last-unit unit ahead0 ahead old now (inr one) some took ended =
     (one, cut-one unit (undone ahead0 old) (undone ahead now) took (by now.source.left ended.1.ended))
   where
     by : (left : Option (List ℕ)) → HasEnded left → IfSome (in_front ahead left) (λ rest. units_of (unit ++ rest) ≡ unit ∷ units_of rest)
@@ -48,9 +48,9 @@ nothing-in-front None = refl
 nothing-in-front (Some rest) = refl
 
 -- there was none
-pub found-none : (unit ahead0 ahead : List ℕ) (old now : PortsView) → unit ≡ [] → Took (undone ahead0 old) (undone ahead now) unit
+pub no-unit : (unit ahead0 ahead : List ℕ) (old now : PortsView) → unit ≡ [] → Took (undone ahead0 old) (undone ahead now) unit
     → undone ahead now ≡ undone ahead0 old
-found-none unit ahead0 ahead old now none took =
+no-unit unit ahead0 ahead old now none took =
     sym (took ∙ ap (λ u. in_front u (undone ahead now)) none ∙ nothing-in-front (undone ahead now))
 
 pub took-nothing : (ahead : List ℕ) (now : PortsView) → Took (undone ahead now) (undone ahead now) []
@@ -60,17 +60,17 @@ pub took-on : (before now after : Option (List ℕ)) (unit : List ℕ) → Took 
 took-on before now after unit took same = subst (λ o. Took before o unit) (sym same) took
 
 -- the input has ended, and there is a unit if something was taken
-pub found-end : (t : Bool) (unit : List ℕ) (left0 left : ℕ) (ahead0 ahead : List ℕ) (old now : PortsView) → nat_lt 0 (length unit) ≡ t → IsPart unit
+pub unit-at-end : (t : Bool) (unit : List ℕ) (left0 left : ℕ) (ahead0 ahead : List ℕ) (old now : PortsView) → nat_lt 0 (length unit) ≡ t → IsPart unit
     → Took (undone ahead0 old) (undone ahead now) unit → IsEnded ahead now → left0 ≡ left + length unit
     → TakesUnit t unit left0 left ahead0 ahead old now
-found-end true unit left0 left ahead0 ahead old now test part took ended counts =
+unit-at-end true unit left0 left ahead0 ahead old now test part took ended counts =
     let some : 0 < length unit = grind (arith, nat_tests, test) in
-    let f = found-last unit ahead0 ahead old now part (λ none. omega (arith, some, ap length none)) took ended in
+    let f = last-unit unit ahead0 ahead old now part (λ none. omega (arith, some, ap length none)) took ended in
     (f.0, counts, f.1)
-found-end false unit left0 left ahead0 ahead old now test part took ended counts =
+unit-at-end false unit left0 left ahead0 ahead old now test part took ended counts =
     let few : length unit ≤ 0 = grind (arith, nat_tests, test) in
     let none = empty unit few in
-    (none, omega (arith, counts, few), found-none unit ahead0 ahead old now none took)
+    (none, omega (arith, counts, few), no-unit unit ahead0 ahead old now none took)
   where
     empty : (unit : List ℕ) → length unit ≤ 0 → unit ≡ []
     empty [] few = refl
@@ -80,7 +80,7 @@ found-end false unit left0 left ahead0 ahead old now test part took ended counts
 
 part-more : (unit piece : List ℕ) → IsPart unit → IsPiece piece → is_whole unit piece ≡ false → IsOne (unit ++ piece)
 part-more unit piece (inl none) is not = subst (λ u. IsOne (u ++ piece)) (sym none) (piece-one piece is)
-part-more unit piece (inr one) is not = joined unit piece one (piece-one piece is) not
+part-more unit piece (inr one) is not = part-one unit piece one (piece-one piece is) not
 
 not-whole : (unit ahead piece rest : List ℕ) → IsPiece piece → ahead ≡ piece ++ rest → is_whole unit ahead ≡ false → is_whole unit piece ≡ false
 not-whole unit ahead piece rest is parts not = sym (whole-more unit piece rest is.some) ∙ ap (is_whole unit) (sym parts) ∙ not

@@ -101,16 +101,16 @@ module _ (line : Line) (ahead mid : List ℕ) (old now : PortsView) (reads : Rea
 
 -- ---- lines so far
 
-said-more : (lines : List (List ℕ)) (line : List ℕ) (said : Option Command) (cs cs' : List Command) → AreSaid lines cs → Says line said
-    → cs' ≡ cs ++ option_to_list said → AreSaid (lines ++ line ∷ []) cs'
-said-more [] line said cs cs' h says is =
-    (said, [], is ∙ ap (λ l. l ++ option_to_list said) h ∙ sym (append-nil (option_to_list said)), says, refl)
-said-more (x ∷ xs) line said cs cs' h says is = (
+says-more : (lines : List (List ℕ)) (line : List ℕ) (command : Option Command) (cs cs' : List Command) → AreSaid lines cs → Says line command
+    → cs' ≡ cs ++ option_to_list command → AreSaid (lines ++ line ∷ []) cs'
+says-more [] line command cs cs' h says is =
+    (command, [], is ∙ ap (λ l. l ++ option_to_list command) h ∙ sym (append-nil (option_to_list command)), says, refl)
+says-more (x ∷ xs) line command cs cs' h says is = (
   h.0,
-  h.1 ++ option_to_list said,
-  is ∙ ap (λ l. l ++ option_to_list said) h.2 ∙ append_assoc (option_to_list h.0) h.1 (option_to_list said),
+  h.1 ++ option_to_list command,
+  is ∙ ap (λ l. l ++ option_to_list command) h.2 ∙ append_assoc (option_to_list h.0) h.1 (option_to_list command),
   h.3,
-  said-more xs line said h.1 (h.1 ++ option_to_list said) h.4 says refl,
+  says-more xs line command h.1 (h.1 ++ option_to_list command) h.4 says refl,
 )
 
 good-more : (lines : List (List ℕ)) (line : List ℕ) → AllByRecursion IsTraceLine lines → IsTraceLine line
@@ -131,13 +131,13 @@ count-more (x ∷ xs) line = let e = count-more xs line in omega (arith, e)
 pub record Past (lines : List (List ℕ)) (commands : List Command) (number : ℕ) (ahead now-ahead : List ℕ) (old now : PortsView) : Type 0 where
   pub good : AllByRecursion IsTraceLine lines
   pub count : length lines ≡ number
-  pub said : AreSaid lines commands
+  pub says : AreSaid lines commands
   pub took : Took (undone ahead old) (undone now-ahead now) (all_lines lines)
 
 pub past-trace : (lines : List (List ℕ)) (commands : List Command) (number : ℕ) (ahead mid : List ℕ) (old now : PortsView)
     → Past lines commands number ahead mid old now → number ≤ 16777216 → IsTrace lines commands
 past-trace lines commands number ahead mid old now past few =
-    record { good = past.good; few = omega (arith, past.count, few); said = past.said }
+    record { good = past.good; few = omega (arith, past.count, few); says = past.says }
 
 with-line : (lines : List (List ℕ)) (line : List ℕ) (cs cs' : List Command) (number : ℕ) (ahead mid : List ℕ) (old now : PortsView)
     → Past lines cs number ahead mid old now → IsLine line → Keeps line cs cs'
@@ -145,7 +145,7 @@ with-line : (lines : List (List ℕ)) (line : List ℕ) (cs cs' : List Command) 
 with-line lines line cs cs' number ahead mid old now past is_line keeps = (
   good-more lines line past.good (record { is_line = is_line; unmarked = keeps.unmarked }),
   count-more lines line ∙ ap (λ n. n + 1) past.count,
-  said-more lines line keeps.said cs cs' past.said keeps.says keeps.kept,
+  says-more lines line keeps.command cs cs' past.says keeps.says keeps.commands_are,
 )
 
 pub past-more : (lines : List (List ℕ)) (line : List ℕ) (cs cs' : List Command) (number : ℕ) (ahead mid after : List ℕ) (old now new : PortsView)
@@ -156,14 +156,14 @@ past-more lines line cs cs' number ahead mid after old now new past takes keeps 
     record {
       good = w.0;
       count = w.1;
-      said = w.2;
+      says = w.2;
       took = subst (λ l. Took (undone ahead old) (undone after new) l) (sym (lines-more lines line))
           (Took-then (undone ahead old) (undone mid now) (undone after new) (all_lines lines) (line ++ 10 ∷ []) past.took takes.took);
     }
 
 pub past-none : (ahead : List ℕ) (now : PortsView) (commands : List Command) → commands ≡ [] → Took (undone ahead now) (undone ahead now) []
     → Past [] commands 0 ahead ahead now now
-past-none ahead now commands none took = record { good = tt; count = refl; said = none; took = took }
+past-none ahead now commands none took = record { good = tt; count = refl; says = none; took = took }
 
 -- ---- the end of a trace
 
@@ -202,7 +202,7 @@ ends-line lines line cs cs' number ahead mid after old now new past few takes ke
     record {
       lines = lines ++ line ∷ [];
       bytes = all_lines lines ++ (line ++ []);
-      trace = record { good = w.0; few = omega (arith, w.1, few); said = w.2 };
+      trace = record { good = w.0; few = omega (arith, w.1, few); says = w.2 };
       took = Took-then (undone ahead old) (undone mid now) (undone after new) (all_lines lines) (line ++ []) past.took takes.took;
       ends = (
         inl (inr (ap (λ l. (all_lines lines ++ l) ++ 10 ∷ []) (append-nil line) ∙ append_assoc (all_lines lines) line (10 ∷ [])

@@ -1,5 +1,6 @@
 -- How units are cut.
-use Rattle.std.proofs.Common.{◌≡◌, ℕ, zero, suc, ◌+◌, ◌-◌, ◌<◌, ◌≤◌, Bool, true, false, cond, List, [], ◌∷◌, ◌++◌, length, take, Option, Some, None, refl, sym, ap}
+use Rattle.std.proofs.Common.{◌≡◌, ℕ, zero, suc, ◌+◌, ◌-◌, ◌<◌, ◌≤◌, Bool, true, false, cond, List, [], ◌∷◌, ◌++◌, length, take, Option}
+use Rattle.std.proofs.Common.{Some, None, refl, sym, ap}
 use Rattle.std.proofs.Common.{subst, ◌∙◌, arith, length-take-le, append-nil, append_assoc}
 use Rattle.std.specs.Prelude.{◌==◌, ◌&&◌, not, slice_index, IfSome, All}
 use Rattle.std.proofs.lemmas.List.Elements.{All-head, All-tail}
@@ -53,15 +54,15 @@ pub last-first : (unit : List ℕ) → IsOne unit → units_of (unit ++ []) ≡ 
 last-first unit one = ap units_of (append-nil unit) ∙ one
 
 -- what comes behind one that isn't whole is part of it
-pub joined : (unit piece : List ℕ) → IsOne unit → IsOne piece → is_whole unit piece ≡ false → IsOne (unit ++ piece)
-joined [] piece one next part = absurd (no-one one)
-joined (b ∷ []) [] one next part = absurd (no-one next)
-joined (b ∷ []) (c ∷ piece) one next part =
+pub part-one : (unit piece : List ℕ) → IsOne unit → IsOne piece → is_whole unit piece ≡ false → IsOne (unit ++ piece)
+part-one [] piece one next part = absurd (no-one one)
+part-one (b ∷ []) [] one next part = absurd (no-one next)
+part-one (b ∷ []) (c ∷ piece) one next part =
     ap (λ t. put t b (units_of (c ∷ piece))) part ∙ ap (onto_first b) next
-joined (b ∷ c ∷ unit) piece one next part =
+part-one (b ∷ c ∷ unit) piece one next part =
     let in_it = inner b c unit one in
     ap (λ t. put t b (units_of (c ∷ unit ++ piece))) in_it.0
-    ∙ ap (onto_first b) (joined (c ∷ unit) piece in_it.1 next part)
+    ∙ ap (onto_first b) (part-one (c ∷ unit) piece in_it.1 next part)
 
 -- by what comes first behind it
 pub whole-more : (unit ahead more : List ℕ) → 0 < length ahead → is_whole unit (ahead ++ more) ≡ is_whole unit ahead

@@ -27,8 +27,8 @@ most_lines = 2 ^ 24
 abbrev pub AreSaid : List (List ℕ) → List Command → Type 0
 AreSaid [] commands = commands ≡ []
 AreSaid (line ∷ lines) commands =
-    (said : Option Command) × (others : List Command)
-    × (commands ≡ option_to_list said ++ others) × Says line said × AreSaid lines others
+    (command : Option Command) × (others : List Command)
+    × (commands ≡ option_to_list command ++ others) × Says line command × AreSaid lines others
 
 -- a line of the trace: it is short enough, and not the mark
 pub record IsTraceLine (line : List ℕ) : Type 0 where
@@ -39,7 +39,7 @@ pub record IsTraceLine (line : List ℕ) : Type 0 where
 pub record IsTrace (lines : List (List ℕ)) (commands : List Command) : Type 0 where
   pub good : AllByRecursion IsTraceLine lines
   pub few : length lines ≤ most_lines
-  pub said : AreSaid lines commands
+  pub says : AreSaid lines commands
 
 -- the lines with their newlines
 abbrev pub all_lines : List (List ℕ) → List ℕ
@@ -77,7 +77,7 @@ StandsNext line ahead now =
 
 -- the line is outside the grammar
 abbrev pub SaysNothing : List ℕ → Type 0
-SaysNothing line = (said : Option Command) → Says line said → ⊥
+SaysNothing line = (command : Option Command) → Says line command → ⊥
 
 -- the next line is none of a trace: it is too long, or says nothing and isn't the mark
 abbrev pub IsBad : List ℕ → PortsView → Type 0
@@ -131,9 +131,9 @@ pub record TakesLine (line ending : List ℕ) (ahead ahead' : List ℕ) (old new
 -- what a line of the trace says goes behind the commands so far
 pub record Keeps (line : List ℕ) (commands commands' : List Command) : Type 0 where
   pub unmarked : line ≢ mark
-  pub said : Option Command
-  pub says : Says line said
-  pub kept : commands' ≡ commands ++ option_to_list said
+  pub command : Option Command
+  pub says : Says line command
+  pub commands_are : commands' ≡ commands ++ option_to_list command
 
 -- a line is the mark, or what it says is kept
 abbrev pub IsKept : Bool → List ℕ → List Command → List Command → Type 0

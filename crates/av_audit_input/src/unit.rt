@@ -99,12 +99,12 @@ pub fn read_unit<P: Ports>(
     unit: &mut Vec<u8>,
 ) -> Result<bool, InputErr>
     requires ended { extent.old.ended ≡ true → IsEnded pending.old (P.view ports.old) }
-    ensures taken { IfOk result (λ found. TakesUnit found unit.new.items extent.old.left
+    ensures taken { IfOk result (λ some. TakesUnit some unit.new.items extent.old.left
         extent.new.left pending.old pending.new (P.view ports.old) (P.view ports.new)) }
-    ensures none { IfOk result (λ found. found ≡ false → extent.new.ended ≡ true) }
+    ensures none { IfOk result (λ some. some ≡ false → extent.new.ended ≡ true) }
     ensures stops { IfErr result (λ e. StopsUnit e extent.old.left unit.new.items pending.old
         pending.new (P.view ports.old) (P.view ports.new)) }
-    ensures stays { IfOk result (λ found. IsOpen extent.old.ended extent.new.ended pending.new
+    ensures stays { IfOk result (λ some. IsOpen extent.old.ended extent.new.ended pending.new
         (P.view ports.old) (P.view ports.new)) }
     ensures only { OnlyReads (P.view ports.old) (P.view ports.new) }
     ensures fails { FailsOnly result (P.view ports.old) (P.view ports.new) }

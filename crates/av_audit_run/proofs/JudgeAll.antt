@@ -2,7 +2,7 @@
 use Rattle.std.proofs.Common.{◌≡◌, ℕ, suc, ◌+◌, ◌<◌, ◌≤◌, true, List, [], ◌∷◌, ◌++◌, length, length-append, take, take-add, drop, drop-cons, get_or, Option}
 use Rattle.std.proofs.Common.{Some, None, refl, sym, ap, subst, ◌∙◌, arith, append-nil, inl, inr}
 use Rattle.std.specs.List.{AllByRecursion}
-use Rattle.std.proofs.lemmas.List.{take-append-drop}
+use Rattle.std.proofs.lemmas.List.{drop_all, take-append-drop}
 use Rattle.av_io.specs.Source.{in_front}
 use Rattle.av_ports.specs.Ports.{PortsView, undone}
 use Rattle.av_ports.proofs.Bytes.{in_front-then}
@@ -10,18 +10,20 @@ use Rattle.av_trace.specs.declared.command.Command.{Command}
 use Rattle.av_plain.specs.Ledger.{Ledger, Setting, first_ledger}
 use Rattle.av_plain.specs.World.{World}
 use Rattle.av_audit_laws.specs.Unit.{AreUnits, Leaves}
+use Rattle.av_book.specs.Machine.{setting_of}
+use Rattle.av_book.specs.declared.machine.Machine.{Machine}
 use Rattle.std.specs.Prelude.{option_to_list, unwrap_or}
 use Rattle.av_audit_input.specs.Trace.{AreSaid}
 use Rattle.av_audit.specs.Judge.{IsAt, IsRight}
 use Rattle.av_audit.specs.declared.auditor.Verdict.{Verdict}
 use Rattle.av_audit.specs.declared.auditor.Verdict.TheVariants as verdicts
 use Rattle.av_audit.specs.declared.auditor.Auditor.{Auditor}
-use Rattle.av_audit_input.specs.Unit.{bytes_of, most_bytes, Cuts, IsOne, StopsUnit, TakesUnit}
+use Rattle.av_audit_input.specs.Unit.{bytes_of, most_bytes, Cuts, IsOne, StopsUnit}
 use Rattle.av_audit_input.specs.declared.input_err.InputErr.{InputErr}
 use Rattle.av_audit_input.specs.declared.input_err.InputErr.TheVariants as input
 use Rattle.av_audit_input.proofs.UnitLaws.{bytes-more, cut-more, cut-none}
 use Rattle.av_audit_run.specs.declared.transcript.Finding.{Finding}
-use Rattle.av_audit_run.specs.Transcript.{found_of, BreaksOff, IsWrong, Judges, StopsAt, StopsReading}
+use Rattle.av_audit_run.specs.Transcript.{finding_of, BreaksOff, IsWrong, Judges, StopsAt, StopsReading}
 use Rattle.av_audit_run.specs.declared.transcript.Finding.TheVariants as findings
 
 units-more : (m : Setting) (w : World) (l : Ledger) (cs : List Command) (us : List (List ℕ)) (w' w'' : World) (l' l'' : Ledger) (c : Command)
@@ -42,7 +44,7 @@ pub take-more : (cs : List Command) (k : ℕ) (c : Command) (others : List Comma
 take-more cs k c others is = take-add k 1 cs ∙ ap (λ l. take k cs ++ take 1 l) is
 
 -- so many units were judged, and are legal
-pub record Judged (m : Setting) (commands : List Command) (number : ℕ) (before now : Option (List ℕ)) (left : ℕ) (auditor : Auditor)
+pub record LegalSoFar (m : Setting) (commands : List Command) (number : ℕ) (before now : Option (List ℕ)) (left : ℕ) (auditor : Auditor)
     : Type 0 where
   pub units : List (List ℕ)
   pub each : AllByRecursion IsOne units
@@ -54,9 +56,9 @@ pub record Judged (m : Setting) (commands : List Command) (number : ℕ) (before
   pub many : length units ≡ number
   pub counts : most_bytes ≡ left + length (bytes_of units)
 
-pub judged-none : (m : Setting) (commands : List Command) (now : Option (List ℕ)) (left : ℕ) (auditor : Auditor) → left ≡ most_bytes
-    → IsAt auditor [] first_ledger → Judged m commands 0 now now left auditor
-judged-none m commands now left auditor all is_at = record {
+pub legal-none : (m : Setting) (commands : List Command) (now : Option (List ℕ)) (left : ℕ) (auditor : Auditor) → left ≡ most_bytes
+    → IsAt auditor [] first_ledger → LegalSoFar m commands 0 now now left auditor
+legal-none m commands now left auditor all is_at = record {
   units = [];
   each = tt;
   cuts = cut-none now;
@@ -69,47 +71,30 @@ judged-none m commands now left auditor all is_at = record {
 }
 
 -- the units with one more, which was taken
-pub record Taken (m : Setting) (commands : List Command) (number : ℕ) (before now : Option (List ℕ)) (left : ℕ) (units : List (List ℕ))
+pub record OneMore (m : Setting) (commands : List Command) (number : ℕ) (before now : Option (List ℕ)) (left : ℕ) (units : List (List ℕ))
     (unit : List ℕ) : Type 0 where
   pub each : AllByRecursion IsOne (units ++ unit ∷ [])
   pub cuts : Cuts (units ++ unit ∷ []) before now
   pub many : length (units ++ unit ∷ []) ≡ number + 1
   pub counts : most_bytes ≡ left + length (bytes_of (units ++ unit ∷ []))
 
-pub taken : (m : Setting) (commands : List Command) (number : ℕ) (before : Option (List ℕ)) (left left' : ℕ) (auditor : Auditor) (unit ahead ahead' : List ℕ)
-    (old new : PortsView) → (h : Judged m commands number before (undone ahead old) left auditor) → TakesUnit true unit left left' ahead ahead' old new
-    → Taken m commands number before (undone ahead' new) left' h.units unit
-taken m commands number before left left' auditor unit ahead ahead' old new h takes =
+pub one-more : {m : Setting} {commands : List Command} {number : ℕ} {before now after : Option (List ℕ)} {left left' : ℕ} {auditor : Auditor} {unit : List ℕ}
+    → (h : LegalSoFar m commands number before now left auditor)
+    → IsOne unit × (left ≡ left' + length unit) × Cuts (unit ∷ []) now after
+    → OneMore m commands number before after left' h.units unit
+one-more {m} {commands} {number} {before} {now} {after} {left} {left'} {auditor} {unit} h takes =
     let bytes = ap length (bytes-more h.units unit) ∙ length-append (bytes_of h.units) unit in
     record {
       each = each-more h.units unit h.each takes.0;
-      cuts = cut-more h.units unit before (undone ahead old) (undone ahead' new) h.cuts takes.2;
+      cuts = cut-more h.units unit before now after h.cuts takes.2;
       many = length-append h.units (unit ∷ []) ∙ ap (λ n. n + 1) h.many;
       counts = omega (arith, h.counts, takes.1, bytes);
     }
 
--- one more is legal
-pub judged-more : (m : Setting) (commands others : List Command) (number : ℕ) (before now after : Option (List ℕ)) (left left' : ℕ) (auditor auditor' : Auditor)
-    (command : Command) (unit : List ℕ) (w : World) (l : Ledger) (h : Judged m commands number before now left auditor)
-    → Taken m commands number before after left' h.units unit → drop number commands ≡ command ∷ others
-    → Leaves m h.world h.ledger command unit w l → IsAt auditor' w l → Judged m commands (number + 1) before after left' auditor'
-judged-more m commands others number before now after left left' auditor auditor' command unit w l h t is leaves is_at = record {
-  units = h.units ++ unit ∷ [];
-  each = t.each;
-  cuts = t.cuts;
-  world = w;
-  ledger = l;
-  are_units = subst (λ cs. AreUnits m [] first_ledger cs (h.units ++ unit ∷ []) w l) (sym (take-more commands number command others is))
-      (units-more m [] first_ledger (take number commands) h.units h.world w h.ledger l command unit h.are_units leaves);
-  is_at = is_at;
-  many = t.many;
-  counts = t.counts;
-}
-
 -- ---- where it ends
 
-module _ (m : Setting) (commands : List Command) (number : ℕ) (before now : Option (List ℕ)) (left : ℕ) (auditor : Auditor)
-    (h : Judged m commands number before now left auditor) where
+module _ {m : Setting} {commands : List Command} {number : ℕ} {before now : Option (List ℕ)} {left : ℕ} {auditor : Auditor}
+    (h : LegalSoFar m commands number before now left auditor) where
   parts : commands ≡ take number commands ++ drop number commands
   parts = sym (take-append-drop number commands)
 
@@ -130,18 +115,20 @@ module _ (m : Setting) (commands : List Command) (number : ℕ) (before now : Op
     stops = stops;
   }
 
-  pub missing : (Ended : Type 0) → Ended → (command : Command) (others : List Command) → drop number commands ≡ command ∷ others
-      → Judges (findings.Illegal (number + 1)) m commands before now Ended
-  missing Ended ended command others is = record {
+  pub missing : {after : Option (List ℕ)} {Ended : Type 0} {command : Command} {others : List Command} → after ≡ now → Ended
+      → drop number commands ≡ command ∷ others → Judges (findings.Illegal (number + 1)) m commands before after Ended
+  missing {after} {Ended} {command} {others} none ended is = subst (λ o. Judges (findings.Illegal (number + 1)) m commands before o Ended) (sym none) (record {
     units = h.units;
     each = h.each;
     cuts = h.cuts;
     few = omega (arith, h.counts);
     finds = (none-left Ended ended IsWrong (subst (λ cs. IsWrong m h.world h.ledger cs []) (sym is) tt), inr ended);
-  }
+  })
 
-  pub all-legal : (Ended : Type 0) → Ended → take number commands ≡ commands → Judges findings.Legal m commands before now Ended
-  all-legal Ended ended all = record {
+  -- nor a command
+  pub all-legal : {after : Option (List ℕ)} {Ended : Type 0} → after ≡ now → Ended → take number commands ≡ commands
+      → Judges findings.Legal m commands before after Ended
+  all-legal {after} {Ended} none ended all = subst (λ o. Judges findings.Legal m commands before o Ended) (sym none) (record {
     units = h.units;
     each = h.each;
     cuts = h.cuts;
@@ -154,10 +141,10 @@ module _ (m : Setting) (commands : List Command) (number : ℕ) (before now : Op
       ),
       ended,
     );
-  }
+  })
 
   -- a unit was taken that ends it
-  module _ (after : Option (List ℕ)) (left' : ℕ) (unit : List ℕ) (t : Taken m commands number before after left' h.units unit) where
+  module _ {after : Option (List ℕ)} {left' : ℕ} {unit : List ℕ} (t : OneMore m commands number before after left' h.units unit) where
     one-left : (Stops : Setting → World → Ledger → List Command → List (List ℕ) → Type 0)
         → Stops m h.world h.ledger (drop number commands) (unit ∷ []) → StopsAt m commands (h.units ++ unit ∷ []) (number + 1) Stops
     one-left Stops stops = record {
@@ -174,9 +161,9 @@ module _ (m : Setting) (commands : List Command) (number : ℕ) (before now : Op
       stops = stops;
     }
 
-    pub wrong : (Ended : Type 0) → IsWrong m h.world h.ledger (drop number commands) (unit ∷ [])
+    pub wrong : {Ended : Type 0} → IsWrong m h.world h.ledger (drop number commands) (unit ∷ [])
         → Judges (findings.Illegal (number + 1)) m commands before after Ended
-    wrong Ended stops = record {
+    wrong {Ended} stops = record {
       units = h.units ++ unit ∷ [];
       each = t.each;
       cuts = t.cuts;
@@ -221,57 +208,75 @@ stops-reading input.Read count left unit ahead ahead' old new all h = tt
 stops-reading input.Write count left unit ahead ahead' old new all h = tt
 stops-reading input.Memory count left unit ahead ahead' old new all h = tt
 
-pub reading-breaks : (m : Setting) (commands : List Command) (number : ℕ) (before : Option (List ℕ)) (left : ℕ) (auditor : Auditor)
-    (error : InputErr) (unit ahead ahead' : List ℕ) (old new : PortsView) → (h : Judged m commands number before (undone ahead old) left auditor)
-    → StopsUnit error left unit ahead ahead' old new → BreaksOff error m commands before
-reading-breaks m commands number before left auditor error unit ahead ahead' old new h stops =
-    breaks m commands number before (undone ahead old) left auditor h error (undone ahead old) h.units h.cuts h.each h.are_units
+pub reading-breaks : {error : InputErr} {left : ℕ} {unit ahead ahead' : List ℕ} {old new : PortsView} {m : Setting} {commands : List Command} {number : ℕ}
+    {before : Option (List ℕ)} {auditor : Auditor} → StopsUnit error left unit ahead ahead' old new
+    → LegalSoFar m commands number before (undone ahead old) left auditor → BreaksOff error m commands before
+reading-breaks {error} {left} {unit} {ahead} {ahead'} {old} {new} {m} {commands} {number} {before} {auditor} stops h =
+    breaks h error (undone ahead old) h.units h.cuts h.each h.are_units
     (stops-reading error (length (bytes_of h.units)) left unit ahead ahead' old new h.counts stops)
 
--- ---- a verdict
+-- ---- a unit that is read
 
--- the audit ends with it
-pub verdict-ends : (m : Setting) (commands others : List Command) (number : ℕ) (before now after : Option (List ℕ)) (left left' : ℕ)
-    (auditor auditor' : Auditor) (command : Command) (unit : List ℕ) (Ended : Type 0) (verdict : Verdict) (finding : Finding)
-    → (h : Judged m commands number before now left auditor) → Taken m commands number before after left' h.units unit
-    → drop number commands ≡ command ∷ others → found_of verdict (number + 1) ≡ Some finding
-    → IsRight m h.world h.ledger command unit verdict auditor' → Judges finding m commands before after Ended
-verdict-ends m commands others number before now after left left' auditor auditor' command unit Ended verdicts.Legal finding h t is found right = cc
-verdict-ends m commands others number before now after left left' auditor auditor' command unit Ended verdicts.Illegal finding h t is found right =
-    let same : findings.Illegal (number + 1) ≡ finding = ap (λ o. unwrap_or o finding) found in
-    subst (λ f. Judges f m commands before after Ended) same
-    (wrong m commands number before now left auditor h after left' unit t Ended
-    (subst (λ cs. IsWrong m h.world h.ledger cs (unit ∷ [])) (sym is) right))
+-- a unit behind the last command
+pub too-many : {m : Setting} {commands : List Command} {number : ℕ} {before now after : Option (List ℕ)} {left left' : ℕ} {auditor : Auditor}
+    {unit : List ℕ} {Ended : Type 0} → (h : LegalSoFar m commands number before now left auditor)
+    → IsOne unit × (left ≡ left' + length unit) × Cuts (unit ∷ []) now after → number ≡ length commands
+    → Judges (findings.Illegal (length commands + 1)) m commands before after Ended
+too-many {m} {commands} {number} {before} {now} {after} {left} {left'} {auditor} {unit} {Ended} h takes all =
+    subst (λ n. Judges (findings.Illegal (n + 1)) m commands before after Ended) all
+    (wrong h (one-more h takes) (subst (λ cs. IsWrong m h.world h.ledger cs (unit ∷ [])) (sym (drop_all number commands (omega (arith, all)))) tt))
 
--- it goes on, since the unit is legal
-pub verdict-legal : (verdict : Verdict) (number : ℕ) → found_of verdict number ≡ None → verdict ≡ verdicts.Legal
+-- what is said of it on the machine that is kept
+pub on-machine : {old now : Machine} {w : World} {l : Ledger} {command : Command} {read unit : List ℕ} (verdict : Verdict) (auditor : Auditor)
+    → now ≡ old → read ≡ unit → IsRight (setting_of now) w l command read verdict auditor
+    → IsRight (setting_of old) w l command unit verdict auditor
+on-machine {old} {now} {w} {l} {command} {read} {unit} verdict auditor same is right =
+    subst (λ k. IsRight (setting_of k) w l command unit verdict auditor) same
+    (subst (λ u. IsRight (setting_of now) w l command u verdict auditor) is right)
+
+pub verdict-legal : (verdict : Verdict) (number : ℕ) → finding_of verdict number ≡ None → verdict ≡ verdicts.Legal
 verdict-legal verdicts.Legal number e = refl
 verdict-legal verdicts.Illegal number e = cc
 
-pub verdict-goes : (m : Setting) (commands others : List Command) (number : ℕ) (before now after : Option (List ℕ)) (left left' : ℕ)
-    (auditor auditor' : Auditor) (command : Command) (unit : List ℕ) (verdict : Verdict)
-    → (h : Judged m commands number before now left auditor) → Taken m commands number before after left' h.units unit
-    → drop number commands ≡ command ∷ others → verdict ≡ verdicts.Legal
-    → IsRight m h.world h.ledger command unit verdict auditor' → Judged m commands (number + 1) before after left' auditor'
-verdict-goes m commands others number before now after left left' auditor auditor' command unit verdict h t is legal right =
-    let r = subst (λ v. IsRight m h.world h.ledger command unit v auditor') legal right in
-    judged-more m commands others number before now after left left' auditor auditor' command unit r.0 r.1 h t is r.2 r.3
+-- a unit for the next command was read, and that is said of it
+module _ {m : Setting} {commands others : List Command} {number : ℕ} {before now after : Option (List ℕ)} {left left' : ℕ} {auditor : Auditor}
+    {command : Command} {unit : List ℕ} (h : LegalSoFar m commands number before now left auditor)
+    (takes : IsOne unit × (left ≡ left' + length unit) × Cuts (unit ∷ []) now after) (is : drop number commands ≡ command ∷ others)
+    (auditor' : Auditor) where
+  -- the audit ends with it
+  pub verdict-ends : {Ended : Type 0} {finding : Finding} (verdict : Verdict) → IsRight m h.world h.ledger command unit verdict auditor'
+      → finding_of verdict (number + 1) ≡ Some finding → Judges finding m commands before after Ended
+  verdict-ends {Ended} {finding} verdicts.Legal right ends = cc
+  verdict-ends {Ended} {finding} verdicts.Illegal right ends =
+      let same : findings.Illegal (number + 1) ≡ finding = ap (λ o. unwrap_or o finding) ends in
+      subst (λ f. Judges f m commands before after Ended) same
+      (wrong h (one-more h takes) (subst (λ cs. IsWrong m h.world h.ledger cs (unit ∷ [])) (sym is) right))
 
--- a unit behind the last command
-pub too-many : (m : Setting) (commands : List Command) (number : ℕ) (before now after : Option (List ℕ)) (left left' : ℕ) (auditor : Auditor)
-    (unit : List ℕ) (Ended : Type 0) → (h : Judged m commands number before now left auditor)
-    → Taken m commands number before after left' h.units unit → drop number commands ≡ []
-    → Judges (findings.Illegal (number + 1)) m commands before after Ended
-too-many m commands number before now after left left' auditor unit Ended h t is =
-    wrong m commands number before now left auditor h after left' unit t Ended
-    (subst (λ cs. IsWrong m h.world h.ledger cs (unit ∷ [])) (sym is) tt)
+  -- it goes on, since the unit is legal
+  pub verdict-goes : (verdict : Verdict) → IsRight m h.world h.ledger command unit verdict auditor' → verdict ≡ verdicts.Legal
+      → LegalSoFar m commands (number + 1) before after left' auditor'
+  verdict-goes verdict right legal =
+      let r = subst (λ v. IsRight m h.world h.ledger command unit v auditor') legal right in
+      let t = one-more h takes in
+      record {
+        units = h.units ++ unit ∷ [];
+        each = t.each;
+        cuts = t.cuts;
+        world = r.0;
+        ledger = r.1;
+        are_units = subst (λ cs. AreUnits m [] first_ledger cs (h.units ++ unit ∷ []) r.0 r.1) (sym (take-more commands number command others is))
+            (units-more m [] first_ledger (take number commands) h.units h.world r.0 h.ledger r.1 command unit h.are_units r.2);
+        is_at = r.3;
+        many = t.many;
+        counts = t.counts;
+      }
 
 -- a trace has no more commands than lines
-pub said-few : (lines : List (List ℕ)) (cs : List Command) → AreSaid lines cs → length cs ≤ length lines
-said-few [] cs h = omega (arith, ap length h)
-said-few (line ∷ lines) cs h = by h.0 (ap length h.2 ∙ length-append (option_to_list h.0) h.1) (said-few lines h.1 h.4)
+pub commands-few : (lines : List (List ℕ)) (cs : List Command) → AreSaid lines cs → length cs ≤ length lines
+commands-few [] cs h = omega (arith, ap length h)
+commands-few (line ∷ lines) cs h = by h.0 (ap length h.2 ∙ length-append (option_to_list h.0) h.1) (commands-few lines h.1 h.4)
   where
-    by : (said : Option Command) → length cs ≡ length (option_to_list said) + length h.1 → length h.1 ≤ length lines → length cs ≤ length (line ∷ lines)
+    by : (command : Option Command) → length cs ≡ length (option_to_list command) + length h.1 → length h.1 ≤ length lines → length cs ≤ length (line ∷ lines)
     by None e few = omega (arith, e, few)
     by (Some c) e few = omega (arith, e, few)
 

@@ -1,2 +1,2 @@
 pub mod JudgeAll
-pub mod Found
+pub mod Findings

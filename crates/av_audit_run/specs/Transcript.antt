@@ -48,10 +48,10 @@ abbrev pub AreLegal : Setting → List Command → List (List ℕ) → Type 0
 AreLegal m commands units =
     (w : World) × (l : Ledger) × AreUnits m [] first_ledger commands units w l
 
--- what is found of units, which are all where the input has ended
-abbrev pub Finds : Finding → Setting → List Command → List (List ℕ) → Type 0 → Type 0
-Finds findings.Legal m commands units Ended = AreLegal m commands units × Ended
-Finds (findings.Illegal n) m commands units Ended =
+-- what is found in units, which are all where the input has ended
+abbrev pub FindsIn : Finding → Setting → List Command → List (List ℕ) → Type 0 → Type 0
+FindsIn findings.Legal m commands units Ended = AreLegal m commands units × Ended
+FindsIn (findings.Illegal n) m commands units Ended =
     StopsAt m commands units n IsWrong × ((n ≡ length units) ⊎ Ended)
 
 -- ---- a transcript that is read
@@ -64,7 +64,7 @@ pub record Judges (finding : Finding) (m : Setting) (commands : List Command)
   pub each : AllByRecursion IsOne units
   pub cuts : Cuts units before now
   pub few : length (bytes_of units) ≤ most_bytes
-  pub finds : Finds finding m commands units Ended
+  pub finds : FindsIn finding m commands units Ended
 
 -- behind so many bytes a unit has more than there may be
 abbrev pub IsOver : ℕ → Option (List ℕ) → Type 0
@@ -115,17 +115,17 @@ AuditStops error m old new =
     × TakesTrace ended commands [] ahead old between
     × BreaksOff error m commands (undone ahead between))
 
--- what is found of a unit, if the audit ends with it
-abbrev pub found_of : Verdict → ℕ → Option Finding
-found_of verdicts.Legal number = None
-found_of verdicts.Illegal number = Some (findings.Illegal number)
+-- what is found at the unit of this number, if the audit ends there
+abbrev pub finding_of : Verdict → ℕ → Option Finding
+finding_of verdicts.Legal number = None
+finding_of verdicts.Illegal number = Some (findings.Illegal number)
 
 -- ---- of an input that is told
 
 -- that is found of all units
-abbrev pub IsFoundOf : Finding → Setting → List Command → List (List ℕ) → Type 0
-IsFoundOf findings.Legal m commands units = AreLegal m commands units
-IsFoundOf (findings.Illegal n) m commands units = StopsAt m commands units n IsWrong
+abbrev pub IsFinding : Finding → Setting → List Command → List (List ℕ) → Type 0
+IsFinding findings.Legal m commands units = AreLegal m commands units
+IsFinding (findings.Illegal n) m commands units = StopsAt m commands units n IsWrong
 
 -- the bytes are a trace with its mark, or all of an input without one
 abbrev pub IsFront : List (List ℕ) → List ℕ → List ℕ → Type 0
@@ -142,4 +142,4 @@ pub record IsAuditOf (finding : Finding) (m : Setting) (content : List ℕ) : Ty
   pub transcript : List ℕ
   pub content_is : content ≡ bytes ++ transcript
   pub front : IsFront lines bytes transcript
-  pub found : IsFoundOf finding m commands (units_of transcript)
+  pub finds : IsFinding finding m commands (units_of transcript)

@@ -6,7 +6,7 @@
 //! behind the last command (`audit`). Where the source tells what it has left that is so of all
 //! units of the transcript (`audits_of_inputs`). One that is legal has no first reply that isn't
 //! (`legal_or_stopped`), and another has that at one number alone (`stopped_once`). Nothing is
-//! written; what failed is what the error tells of.
+//! written, and where the error tells of the source or of a flush, it was that which failed.
 //!
 //! Only tested: that memory suffices.
 #![tactic(auto)]

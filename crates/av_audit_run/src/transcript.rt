@@ -4,13 +4,13 @@ ghost use Rattle.std.specs.Prelude.{◌≡◌, ◌≤◌, [], IfOk, IfErr, lengt
 ghost use Rattle.av_ports.specs.Ports.{undone};
 ghost use Rattle.av_plain.specs.Ledger.{first_ledger};
 ghost use Rattle.av_book.specs.Machine.{setting_of};
-ghost use Rattle.av_audit.specs.Judge.{IsAt};
+ghost use Rattle.av_audit.specs.Judge.{IsAt, machine_of, phase_of};
 ghost use Rattle.av_audit.specs.Swap.{FitsWords};
 ghost use Rattle.av_audit.specs.declared.auditor.Phase.TheVariants.{Going};
 ghost use Rattle.av_audit_input.specs.Input.{FailsOnly, IsEnded, IsNoPortErr, OnlyReads};
 ghost use Rattle.av_audit_input.specs.Trace.{most_lines};
 ghost use Rattle.av_audit_input.specs.Unit.{most_bytes};
-ghost use Rattle.av_audit_run.specs.Transcript.{AuditStops, Audits, BreaksOff, Judges, found_of};
+ghost use Rattle.av_audit_run.specs.Transcript.{AuditStops, Audits, BreaksOff, Judges, finding_of};
 
 use av_audit::{Auditor, Verdict};
 use av_audit_input::{Extent, InputErr, read_trace, read_unit};
@@ -26,9 +26,9 @@ pub enum Finding {
     Illegal(u32),
 }
 
-/// What was found of a unit, if the audit ends with it.
-fn found(verdict: Verdict, number: u32) -> Option<Finding>
-    ensures { result ≡ found_of verdict number }
+/// What is found at the unit of this number, if the audit ends there.
+fn finding_at(verdict: Verdict, number: u32) -> Option<Finding>
+    ensures { result ≡ finding_of verdict number }
 {
     match verdict {
         Verdict::Legal => None,
@@ -46,16 +46,16 @@ fn judge_all<P: Ports>(
     unit: &mut Vec<u8>,
 ) -> Result<Finding, InputErr>
     requires first { IsAt auditor.old [] first_ledger }
-    requires going { auditor.old.phase ≡ Going }
-    requires words { FitsWords auditor.old.machine }
+    requires going { phase_of auditor.old ≡ Going }
+    requires words { FitsWords (machine_of auditor.old) }
     requires few { length commands.now ≤ most_lines }
     requires all { extent.old.left ≡ most_bytes }
     requires ended { extent.old.ended ≡ true → IsEnded pending.old (P.view ports.old) }
-    ensures judged { IfOk result (λ finding. Judges finding (setting_of auditor.old.machine)
+    ensures judges { IfOk result (λ finding. Judges finding (setting_of (machine_of auditor.old))
         commands.now (undone pending.old (P.view ports.old)) (undone pending.new (P.view ports.new))
         (IsEnded pending.new (P.view ports.new))) }
-    ensures stops { IfErr result (λ e. BreaksOff e (setting_of auditor.old.machine) commands.now
-        (undone pending.old (P.view ports.old))) }
+    ensures stops { IfErr result (λ e. BreaksOff e (setting_of (machine_of auditor.old))
+        commands.now (undone pending.old (P.view ports.old))) }
     ensures only { OnlyReads (P.view ports.old) (P.view ports.new) }
     ensures fails { FailsOnly result (P.view ports.old) (P.view ports.new) }
     ensures over { extent.old.ended ≡ true → IfErr result IsNoPortErr }
@@ -67,7 +67,7 @@ fn judge_all<P: Ports>(
             return Ok(Finding::Illegal(number));
         }
         let verdict = auditor.judge(command, unit.as_slice())?;
-        match found(verdict, number) {
+        match finding_at(verdict, number) {
             Some(finding) => return Ok(finding),
             None => {}
         }

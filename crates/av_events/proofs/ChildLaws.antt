@@ -121,7 +121,8 @@ pub child-gets : (q : Process) (p child : ℕ) (l : Ledger) (pages : List ℕ) �
 child-gets q p child l pages is = (
   here,
   ap (map (λ (e : Key × Entry). ((child, e.0.1), without_seen e.1)))
-      (pages-among (λ x. goes_over (q x)) p pages (λ x h. pages-go (λ x. goes_over (q x)) x (entries_where (λ k. k.0 == p) l) (subst (λ ps. is_in x ps ≡ true) here h)) l.entries
+      (pages-among (λ x. goes_over (q x)) p pages (λ x h. pages-go (λ x. goes_over (q x)) x
+      (entries_where (λ k. k.0 == p) l) (subst (λ ps. is_in x ps ≡ true) here h)) l.entries
       (λ x h. subst (λ ps. is_in x ps ≡ true) (sym here) h)),
 )
   where

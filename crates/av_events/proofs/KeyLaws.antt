@@ -27,7 +27,8 @@ first-of false b h = h
 -- ---- the entries between two keys
 
 module _ {E : Type 0} (p : ℕ) (es : List (Key × E)) where
-  pub of-pages : (from n : ℕ) → filter (λ (e : Key × E). e.0.0 == p) (filter (λ (e : Key × E). range_contains key_cmp (Included (p, from)) (Excluded (p, from + n)) e.0) es)
+  pub of-pages : (from n : ℕ) → filter (λ (e : Key × E). e.0.0 == p)
+      (filter (λ (e : Key × E). range_contains key_cmp (Included (p, from)) (Excluded (p, from + n)) e.0) es)
       ≡ filter (λ (e : Key × E). e.0.0 == p && within from n e.0.1) es
   of-pages from n = filter-both (λ (e : Key × E). e.0.0 == p) (λ e. range_contains key_cmp (Included (p, from)) (Excluded (p, from + n)) e.0)
       (λ e. e.0.0 == p && within from n e.0.1)

@@ -58,7 +58,8 @@ places-say p from n to es fs is = each es ∙ ap (map (at_place from to)) is ∙
 
     one : (f : Key × PlainEntry) (fs : List (Key × PlainEntry)) (b : Bool) → (f.0.0 == p && within from n f.0.1) ≡ b
         → map (at_place from to) (those p from n fs) ≡ map (at_page p from to) (those p from n fs)
-        → map (at_place from to) (cond b (f ∷ those p from n fs) (those p from n fs)) ≡ map (at_page p from to) (cond b (f ∷ those p from n fs) (those p from n fs))
+        → map (at_place from to) (cond b (f ∷ those p from n fs) (those p from n fs))
+        ≡ map (at_page p from to) (cond b (f ∷ those p from n fs) (those p from n fs))
     one f fs true h rest = λ i. ((of f.0 h i, f.0.1 - from + to), f.1) ∷ rest i
     one f fs false h rest = rest
 
@@ -119,7 +120,8 @@ itself : (k : Key) → (k.0 == k.0 && k.1 == k.1) ≡ true
 itself k = grind (arith, nat_tests)
 
 -- each key of those that pass does
-passes : (t : Key → Bool) (es : List (Key × PlainEntry)) (q : Key) → is_among (map (λ (e : Key × PlainEntry). e.0) (filter (λ (e : Key × PlainEntry). t e.0) es)) q ≡ true → t q ≡ true
+passes : (t : Key → Bool) (es : List (Key × PlainEntry)) (q : Key)
+    → is_among (map (λ (e : Key × PlainEntry). e.0) (filter (λ (e : Key × PlainEntry). t e.0) es)) q ≡ true → t q ≡ true
 passes t [] q h = absurd (no h)
 passes t (e ∷ es) q h = by (passes t es q) (t e.0) refl h
   where
@@ -130,7 +132,8 @@ passes t (e ∷ es) q h = by (passes t es q) (t e.0) refl h
     here false s g later h = later h
 
     by : (is_among (map (λ (e : Key × PlainEntry). e.0) (filter (λ (e : Key × PlainEntry). t e.0) es)) q ≡ true → t q ≡ true) → (b : Bool) → t e.0 ≡ b
-        → is_among (map (λ (e : Key × PlainEntry). e.0) (cond b (e ∷ filter (λ (e : Key × PlainEntry). t e.0) es) (filter (λ (e : Key × PlainEntry). t e.0) es))) q ≡ true
+        → is_among (map (λ (e : Key × PlainEntry). e.0) (cond b (e ∷ filter (λ (e : Key × PlainEntry). t e.0) es)
+        (filter (λ (e : Key × PlainEntry). t e.0) es))) q ≡ true
         → t q ≡ true
     by later true g h = here (e.0.0 == q.0 && e.0.1 == q.1) refl g later h
     by later false g h = later h
@@ -146,7 +149,8 @@ others-stay t ks pass (e ∷ es) among =
     rest : List (Key × PlainEntry)
     rest = filter (λ (e : Key × PlainEntry). t e.0) es
 
-    more : t e.0 ≡ true → map (λ (e : Key × PlainEntry). e.0) (filter (λ (e : Key × PlainEntry). t e.0) (e ∷ es)) ≡ e.0 ∷ map (λ (e : Key × PlainEntry). e.0) rest
+    more : t e.0 ≡ true → map (λ (e : Key × PlainEntry). e.0) (filter (λ (e : Key × PlainEntry). t e.0) (e ∷ es))
+        ≡ e.0 ∷ map (λ (e : Key × PlainEntry). e.0) rest
     more g = ap (λ b. map (λ (e : Key × PlainEntry). e.0) (cond b (e ∷ rest) rest)) g
 
     less : t e.0 ≡ false → map (λ (e : Key × PlainEntry). e.0) (filter (λ (e : Key × PlainEntry). t e.0) (e ∷ es)) ≡ map (λ (e : Key × PlainEntry). e.0) rest
@@ -171,13 +175,13 @@ others-stay t ks pass (e ∷ es) among =
         here false g = among q (subst (λ ks. is_among ks q ≡ true) (sym (less g)) h)
 
 -- those of the range that were found are all of it
-pub range-gone : (p from n : ℕ) (l : Ledger) (found : List (Key × Entry)) → entries_of found ≡ those p from n l.entries
-    → without_keys (map (λ (e : Key × Entry). e.0) found) l
+pub range-gone : (p from n : ℕ) (l : Ledger) (range : List (Key × Entry)) → entries_of range ≡ those p from n l.entries
+    → without_keys (map (λ (e : Key × Entry). e.0) range) l
     ≡ record l { entries = entries_where (λ k. not (k.0 == p && within from n k.1)) l }
-range-gone p from n l found is = ap (λ left. record l { entries = left })
-    (others-stay (λ (k : Key). k.0 == p && within from n k.1) (map (λ (e : Key × Entry). e.0) found)
+range-gone p from n l range is = ap (λ left. record l { entries = left })
+    (others-stay (λ (k : Key). k.0 == p && within from n k.1) (map (λ (e : Key × Entry). e.0) range)
     (λ q h. passes (λ (k : Key). k.0 == p && within from n k.1) l.entries q (subst (λ ks. is_among ks q ≡ true) keys h))
     l.entries (λ q h. subst (λ ks. is_among ks q ≡ true) (sym keys) h))
   where
-    keys : map (λ (e : Key × Entry). e.0) found ≡ map (λ (e : Key × PlainEntry). e.0) (those p from n l.entries)
-    keys = sym (keys-are found) ∙ ap (map (λ (e : Key × PlainEntry). e.0)) is
+    keys : map (λ (e : Key × Entry). e.0) range ≡ map (λ (e : Key × PlainEntry). e.0) (those p from n l.entries)
+    keys = sym (keys-are range) ∙ ap (map (λ (e : Key × PlainEntry). e.0)) is

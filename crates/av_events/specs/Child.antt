@@ -15,5 +15,5 @@ child_entries child goes es =
 
 -- what stands behind the page, where it is the first
 abbrev pub IsBehind : ℕ → List ℕ → Option (List ℕ) → Type 0
-IsBehind page pages found = MatchOption found ((more : List ℕ) → pages ≡ page ∷ more → ⊥)
+IsBehind page pages behind = MatchOption behind ((more : List ℕ) → pages ≡ page ∷ more → ⊥)
     (λ more. pages ≡ page ∷ more)

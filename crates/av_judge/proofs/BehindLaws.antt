@@ -55,9 +55,9 @@ module _ {Y S : Type 0} (m : Setting) (sp : Spared) (l : Ledger) (Goes : Ledger 
       (record { goes = λ u notes more h st. none notes more h st; stops = λ s notes h st. h })
 
   -- it is, and this is met behind it
-  pub sought-then : (l1 l' : Ledger) (bytes mid rest : List ℕ) (found : Option (Y ⊎ S)) → Reads (Seeks m sp l) l bytes true l1 mid
-      → Meets (Goes l1) (StopsAt l1) l1 mid found l' rest → Meets GoesBehind StopsBehind l bytes found l' rest
-  sought-then l1 l' bytes mid rest found first second =
+  pub sought-then : (l1 l' : Ledger) (bytes mid rest : List ℕ) (value : Option (Y ⊎ S)) → Reads (Seeks m sp l) l bytes true l1 mid
+      → Meets (Goes l1) (StopsAt l1) l1 mid value l' rest → Meets GoesBehind StopsBehind l bytes value l' rest
+  sought-then l1 l' bytes mid rest value first second =
       meets-then GoesBehind StopsBehind (λ (u : Unit {0}). Seeks m sp l) Never (λ u a. Goes (after_notes l a))
-      (λ u a. StopsAt (after_notes l a)) behind-stages l l1 l' bytes mid rest tt found
-      first (λ a h e. subst (λ n. Meets (Goes n) (StopsAt n) l1 mid found l' rest) e second)
+      (λ u a. StopsAt (after_notes l a)) behind-stages l l1 l' bytes mid rest tt value
+      first (λ a h e. subst (λ n. Meets (Goes n) (StopsAt n) l1 mid value l' rest) e second)

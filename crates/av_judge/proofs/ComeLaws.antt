@@ -36,12 +36,12 @@ pub fetched-at : (m : Setting) (sp : Spared) (l : Ledger) (s : Slot) (f : ℕ) (
 fetched-at m sp l s f ns h =
     ap (λ r. frame_at (after_notes l r) s) (h.4 ∙ ap (λ r. h.0 ++ r) h.3.2)
     ∙ ap (λ n. frame_at n s) (after_notes-append l h.0 (Loaded s f ∷ []))
-    ∙ found (same_slot s s) _ (slot-itself s)
+    ∙ here (same_slot s s) _ (slot-itself s)
   where
-    found : (b : Bool) (rest : Option Cached) → b ≡ true
+    here : (b : Bool) (rest : Option Cached) → b ≡ true
         → option_map (λ (c : Cached). c.frame) (cond b (Some (record { slot = s; frame = f; stale = false })) rest) ≡ Some f
-    found true rest e = refl
-    found false rest e = cc
+    here true rest e = refl
+    here false rest e = cc
 
 fetched-tells : (m : Setting) (sp : Spared) (l : Ledger) (s : Slot) → TellsValue (AreFetched m sp l s)
 fetched-tells m sp l s f g a b x y h i e =

@@ -50,11 +50,11 @@ pub fetch-unsought : (m : Setting) (sp : Spared) (l l1 l' : Ledger) (s : Slot) (
 fetch-unsought m sp l l1 l' s bytes mid rest none =
     unsought m sp l (λ n. IsLoaded m n s) (λ n (free : Bool). has_free m n ≡ free) l1 l' bytes mid rest none
 
-pub fetch-sought : (m : Setting) (sp : Spared) (l l1 l' : Ledger) (s : Slot) (bytes mid rest : List ℕ) (found : Option (ℕ ⊎ Bool))
-    → Reads (Seeks m sp l) l bytes true l1 mid → Meets (IsLoaded m l1 s) (IsUnloaded m l1) l1 mid found l' rest
-    → Meets (AreFetched m sp l s) (IsUnfetched m sp l) l bytes found l' rest
-fetch-sought m sp l l1 l' s bytes mid rest found first second =
-    sought-then m sp l (λ n. IsLoaded m n s) (λ n (free : Bool). has_free m n ≡ free) l1 l' bytes mid rest found first second
+pub fetch-sought : (m : Setting) (sp : Spared) (l l1 l' : Ledger) (s : Slot) (bytes mid rest : List ℕ) (value : Option (ℕ ⊎ Bool))
+    → Reads (Seeks m sp l) l bytes true l1 mid → Meets (IsLoaded m l1 s) (IsUnloaded m l1) l1 mid value l' rest
+    → Meets (AreFetched m sp l s) (IsUnfetched m sp l) l bytes value l' rest
+fetch-sought m sp l l1 l' s bytes mid rest value first second =
+    sought-then m sp l (λ n. IsLoaded m n s) (λ n (free : Bool). has_free m n ≡ free) l1 l' bytes mid rest value first second
 
 -- bytes are left
 pub some-left : (t : List ℕ) → false ≡ (length t == 0) → t ≡ [] → ⊥

@@ -1,5 +1,6 @@
 -- What is found, part by part.
-use Rattle.std.proofs.Common.{◌≡◌, ℕ, ◌≤◌, ◌-◌, length, take, drop, get_or, Bool, true, false, Option, Some, None, List, [], ◌∷◌, ◌++◌, refl, sym, ap, subst, ◌∙◌, arith, append_assoc, append-nil}
+use Rattle.std.proofs.Common.{◌≡◌, ℕ, ◌≤◌, ◌-◌, length, take, drop, get_or, Bool, true, false, Option, Some, None, List, [], ◌∷◌, ◌++◌}
+use Rattle.std.proofs.Common.{refl, sym, ap, subst, ◌∙◌, arith, append_assoc, append-nil}
 use Rattle.std.specs.List.{AllByRecursion}
 use Rattle.std.proofs.lemmas.List.{append_cancel_left, take_all}
 use Rattle.std.specs.Prelude.{IfOk, Result, Ok, Err}
@@ -176,10 +177,10 @@ gets-no-first Whole First Second l l1 l' bytes mid rest p none y notes more h s 
 
 -- it is, and what is read behind it is the second
 pub gets-then : {X Y : Type 0} (Whole : Y → List Note → Type 0) (First : X → List Note → Type 0)
-    (Second : X → List Note → Y → List Note → Type 0) (l l1 l' : Ledger) (bytes mid rest : List ℕ) (x : X) (found : Option Y)
+    (Second : X → List Note → Y → List Note → Type 0) (l l1 l' : Ledger) (bytes mid rest : List ℕ) (x : X) (value : Option Y)
     → InPartsBy Whole First Second → Gets First l bytes (Some x) l1 mid
-    → ((a : List Note) → First x a → l1 ≡ after_notes l a → Gets (Second x a) l1 mid found l' rest)
-    → Gets Whole l bytes found l' rest
+    → ((a : List Note) → First x a → l1 ≡ after_notes l a → Gets (Second x a) l1 mid value l' rest)
+    → Gets Whole l bytes value l' rest
 gets-then Whole First Second l l1 l' bytes mid rest x None p first second =
     λ y notes more h s.
     let q = p.split y notes h in
@@ -265,12 +266,12 @@ to-no-first Whole First Second l l1 l' bytes mid rest p none =
     gets-no-first Whole (λ (_ : Unit {0}). First) (λ _ a. Second a) l l1 l' bytes mid rest (to-by Whole First Second p) (λ _. none)
 
 pub to-then : {Y : Type 0} (Whole : Y → List Note → Type 0) (First : List Note → Type 0)
-    (Second : List Note → Y → List Note → Type 0) (l l1 l' : Ledger) (bytes mid rest : List ℕ) (found : Option Y)
+    (Second : List Note → Y → List Note → Type 0) (l l1 l' : Ledger) (bytes mid rest : List ℕ) (value : Option Y)
     → InPartsTo Whole First Second → Reads First l bytes true l1 mid
-    → ((a : List Note) → First a → l1 ≡ after_notes l a → Gets (Second a) l1 mid found l' rest)
-    → Gets Whole l bytes found l' rest
-to-then Whole First Second l l1 l' bytes mid rest found p first second =
-    gets-then Whole (λ (_ : Unit {0}). First) (λ _ a. Second a) l l1 l' bytes mid rest tt found (to-by Whole First Second p) first second
+    → ((a : List Note) → First a → l1 ≡ after_notes l a → Gets (Second a) l1 mid value l' rest)
+    → Gets Whole l bytes value l' rest
+to-then Whole First Second l l1 l' bytes mid rest value p first second =
+    gets-then Whole (λ (_ : Unit {0}). First) (λ _ a. Second a) l l1 l' bytes mid rest tt value (to-by Whole First Second p) first second
 
 -- ---- parts that tell themselves make a whole that does
 

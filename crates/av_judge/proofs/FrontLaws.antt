@@ -1,5 +1,6 @@
 -- The last word of a note that is known but for it.
-use Rattle.std.proofs.Common.{◌≡◌, ℕ, ◌≤◌, ◌+◌, ◌-◌, List, [], ◌∷◌, ◌++◌, Option, Some, None, length, take, refl, sym, ap, subst, ◌∙◌, arith, append_assoc, append-nil}
+use Rattle.std.proofs.Common.{◌≡◌, ℕ, ◌≤◌, ◌+◌, ◌-◌, List, [], ◌∷◌, ◌++◌, Option, Some, None, length, take, refl, sym, ap, subst, ◌∙◌}
+use Rattle.std.proofs.Common.{arith, append_assoc, append-nil}
 use Rattle.std.specs.Prelude.{codes}
 use Rattle.std.specs.Fmt.{decimal}
 use Rattle.std.proofs.lemmas.List.{append_cancel_left}
@@ -79,8 +80,8 @@ pub framed-none : (t : Taking) (frames : ℕ) (bytes : List ℕ) → None ≡ af
 framed-none t frames bytes none f rest below is =
     off-none (front_of t) bytes none (decimal f ++ 10 ∷ rest) (behind (note_by t) decimal (front_of t) bytes (taking-ends t) f rest is)
 
-pub framed-some : (t : Taking) (frames : ℕ) (bytes word : List ℕ) (found : Option (ℕ × List ℕ)) → bytes ≡ front_of t ++ word
-    → IsNumbered frames word found → IsFramed frames bytes t found
+pub framed-some : (t : Taking) (frames : ℕ) (bytes word : List ℕ) (value : Option (ℕ × List ℕ)) → bytes ≡ front_of t ++ word
+    → IsNumbered frames word value → IsFramed frames bytes t value
 framed-some t frames bytes word None is none =
     λ f rest below e. none f rest below (append_cancel_left (front_of t) word (decimal f ++ 10 ∷ rest)
     (sym is ∙ behind (note_by t) decimal (front_of t) bytes (taking-ends t) f rest e))
@@ -91,8 +92,8 @@ pub slotted-none : (f : ℕ) (bytes : List ℕ) → None ≡ after (put_front f)
 slotted-none f bytes none s rest small few is =
     off-none (put_front f) bytes none (slot_text s ++ 10 ∷ rest) (behind (notes.Put f) slot_text (put_front f) bytes (put-ends f) s rest is)
 
-pub slotted-some : (f : ℕ) (bytes word : List ℕ) (found : Option (Slot × List ℕ)) → bytes ≡ put_front f ++ word
-    → IsSlotLine word found → IsSlotted bytes f found
+pub slotted-some : (f : ℕ) (bytes word : List ℕ) (value : Option (Slot × List ℕ)) → bytes ≡ put_front f ++ word
+    → IsSlotLine word value → IsSlotted bytes f value
 slotted-some f bytes word None is none =
     λ s rest small few e. none s rest small few (append_cancel_left (put_front f) word (slot_text s ++ 10 ∷ rest)
     (sym is ∙ behind (notes.Put f) slot_text (put_front f) bytes (put-ends f) s rest e))
@@ -130,8 +131,8 @@ long-text text T front tail less e is few =
     behind-less [] = omega arith
     behind-less (x ∷ a) = let h = behind-less a in omega (arith, h)
 
-pub taken-is : (note : Note) (bytes front : List ℕ) (found : Option (List ℕ)) → found ≡ after front bytes → front ≡ notes_text (note ∷ [])
-    → IsTaken bytes note found
+pub taken-is : (note : Note) (bytes front : List ℕ) (value : Option (List ℕ)) → value ≡ after front bytes → front ≡ notes_text (note ∷ [])
+    → IsTaken bytes note value
 taken-is note bytes front None e is = λ rest h. off-none front bytes e rest (h ∙ ap (λ t. t ++ rest) (sym is))
 taken-is note bytes front (Some rest) e is = off-some front bytes rest e ∙ ap (λ t. t ++ rest) is
 

@@ -1,5 +1,6 @@
 -- A frame's turn, part by part.
-use Rattle.std.proofs.Common.{◌≡◌, ℕ, ◌<◌, length, arith, Bool, true, false, not, ◌==◌, Option, Some, None, is_none, List, [], ◌∷◌, ◌++◌, refl, sym, ap, subst, ◌∙◌, append-nil, append_assoc}
+use Rattle.std.proofs.Common.{◌≡◌, ℕ, ◌<◌, length, arith, Bool, true, false, not, ◌==◌, Option, Some, None, is_none, List, [], ◌∷◌, ◌++◌}
+use Rattle.std.proofs.Common.{refl, sym, ap, subst, ◌∙◌, append-nil, append_assoc}
 use Rattle.std.specs.Prelude.{IsTrue, MatchBool, MatchOption, if◌then◌else◌, ◌&&◌, ◌||◌}
 use Rattle.av_base.specs.declared.slot.Slot.{Slot}
 use Rattle.av_trace.specs.declared.note.Note.{Note}
@@ -17,7 +18,8 @@ use Rattle.av_judge.specs.Notes.{IsSlotted}
 use Rattle.av_judge.specs.Finds.{Gets, Reads, Stand}
 use Rattle.av_judge.specs.Flight.{IsEnd}
 use Rattle.av_judge.specs.Pass.{AreCleaned, AreWriteNotes, GoesTo, IsPut, IsTurn, IsTurnEnd, Unmaps}
-use Rattle.av_judge.proofs.Finds.{InPartsBy, InPartsFrom, InPartsTo, TellsValue, first-one, from-no-first, from-then, parts-tell, text-cons, reads-as, reads-nothing, stand-none}
+use Rattle.av_judge.proofs.Finds.{InPartsBy, InPartsFrom, InPartsTo, TellsValue, first-one, from-no-first, from-then, parts-tell, text-cons}
+use Rattle.av_judge.proofs.Finds.{reads-as, reads-nothing, stand-none}
 use Rattle.av_judge.proofs.FlightLaws.{end-tells}
 use Rattle.av_audit_laws.proofs.ToldPass.{head-of, tail-of, with-lists}
 
@@ -170,8 +172,8 @@ abbrev turn_of : List Note → Slot → Bool → Bool → List Note
 turn_of un s dirty failed = un ++ (if dirty then Started s ∷ end_note failed s ∷ [] else [])
 
 -- a turn as the definition has it
-abbrev Turned : List Note → Slot → Bool → Bool → List Note → (List Note → List Note → Type 0) → Type 0
-Turned un s dirty failed ns Rest = MatchBool (dirty && failed)
+abbrev IsTurned : List Note → Slot → Bool → Bool → List Note → (List Note → List Note → Type 0) → Type 0
+IsTurned un s dirty failed ns Rest = MatchBool (dirty && failed)
     ((rest : List Note) × (ns ≡ turn_of un s dirty failed ++ rest) × Rest (turn_of un s dirty failed) rest)
     (ns ≡ turn_of un s dirty failed ++ Dropped s ∷ [])
 
@@ -179,23 +181,23 @@ abbrev Goes : Bool → (List Note → List Note → Type 0) → List Note → Li
 Goes true Rest a b = Rest a b
 Goes false Rest a b = b ≡ []
 
-record Parted (un : List Note) (s : Slot) (dirty : Bool) (ns : List Note) (Rest : List Note → List Note → Type 0) : Type 0 where
+record TurnParts (un : List Note) (s : Slot) (dirty : Bool) (ns : List Note) (Rest : List Note → List Note → Type 0) : Type 0 where
   stays : Bool
   a : List Note
   b : List Note
-  ended : List Note
-  end : IsTurnEnd s dirty stays ended
-  front : a ≡ un ++ ended
+  last : List Note
+  end : IsTurnEnd s dirty stays last
+  front : a ≡ un ++ last
   goes : Goes stays Rest a b
   whole : ns ≡ a ++ b
 
 turn-split : (un : List Note) (s : Slot) (dirty failed : Bool) (ns : List Note) (Rest : List Note → List Note → Type 0)
-    → Turned un s dirty failed ns Rest → Parted un s dirty ns Rest
+    → IsTurned un s dirty failed ns Rest → TurnParts un s dirty ns Rest
 turn-split un s true true ns Rest h = record {
   stays = true;
   a = un ++ (Started s ∷ Failed s ∷ []);
   b = h.0;
-  ended = Started s ∷ Failed s ∷ [];
+  last = Started s ∷ Failed s ∷ [];
   end = (Started s ∷ Failed s ∷ [], refl, refl);
   front = refl;
   goes = h.2;
@@ -205,7 +207,7 @@ turn-split un s true false ns Rest h = record {
   stays = false;
   a = ns;
   b = [];
-  ended = Started s ∷ Written s ∷ Dropped s ∷ [];
+  last = Started s ∷ Written s ∷ Dropped s ∷ [];
   end = (Started s ∷ Written s ∷ [], refl, refl);
   front = h ∙ append_assoc un (Started s ∷ Written s ∷ []) (Dropped s ∷ []);
   goes = refl;
@@ -215,29 +217,29 @@ turn-split un s false failed ns Rest h = record {
   stays = false;
   a = ns;
   b = [];
-  ended = Dropped s ∷ [];
+  last = Dropped s ∷ [];
   end = ([], (refl, refl), refl);
   front = h ∙ append_assoc un [] (Dropped s ∷ []);
   goes = refl;
   whole = sym (append-nil ns);
 }
 
-turn-join : (un : List Note) (s : Slot) (dirty stays : Bool) (a b ended : List Note) (Rest : List Note → List Note → Type 0)
-    → IsTurnEnd s dirty stays ended → a ≡ un ++ ended → Goes stays Rest a b
-    → (failed : Bool) × Turned un s dirty failed (a ++ b) Rest
-turn-join un s true true a b ended Rest end front goes =
+turn-join : (un : List Note) (s : Slot) (dirty stays : Bool) (a b last : List Note) (Rest : List Note → List Note → Type 0)
+    → IsTurnEnd s dirty stays last → a ≡ un ++ last → Goes stays Rest a b
+    → (failed : Bool) × IsTurned un s dirty failed (a ++ b) Rest
+turn-join un s true true a b last Rest end front goes =
     let same : a ≡ un ++ (Started s ∷ Failed s ∷ []) = front ∙ ap (λ e. un ++ e) (end.2 ∙ (λ i. end.1 i ++ [])) in
     (true, (b, (λ i. same i ++ b), subst (λ a. Rest a b) same goes))
-turn-join un s true false a b ended Rest end front goes = (
+turn-join un s true false a b last Rest end front goes = (
   false,
   ap (λ r. a ++ r) goes ∙ append-nil a ∙ front ∙ ap (λ e. un ++ e) (end.2 ∙ (λ i. end.1 i ++ Dropped s ∷ []))
       ∙ sym (append_assoc un (Started s ∷ Written s ∷ []) (Dropped s ∷ [])),
 )
-turn-join un s false true a b ended Rest end front goes = absurd (differ end.1.0)
+turn-join un s false true a b last Rest end front goes = absurd (differ end.1.0)
   where
     differ : true ≡ false → ⊥
     differ e = cc
-turn-join un s false false a b ended Rest end front goes = (
+turn-join un s false false a b last Rest end front goes = (
   false,
   ap (λ r. a ++ r) goes ∙ append-nil a ∙ front ∙ ap (λ e. un ++ e) (end.2 ∙ (λ i. end.1.1 i ++ Dropped s ∷ []))
       ∙ sym (append_assoc un [] (Dropped s ∷ [])),
@@ -248,7 +250,7 @@ pub turns-parts : (m : Setting) (sp : Spared) (l : Ledger) (f : ℕ) (fs : List 
 turns-parts m sp l f fs free = record {
   split = λ ns h. let t = open_turn ns h in
       let p = turn-split (unmap_notes l f t.0) t.0 (is_dirty l f t.0) t.1 ns Rest t.3 in
-      (p.stays, p.a, p.b, (t.0, p.ended, t.2, p.end, p.front), goes p.stays p.a p.b p.goes, p.whole);
+      (p.stays, p.a, p.b, (t.0, p.last, t.2, p.end, p.front), goes p.stays p.a p.b p.goes, p.whole);
   join = λ x a b h g. let t = turn-join (unmap_notes l f h.0) h.0 (is_dirty l f h.0) x a b h.1 Rest h.3 h.4 (comes x a b g) in
       close_turn (a ++ b) (h.0, t.0, h.2, t.1);
   told = turn-tells m sp l f;
@@ -267,7 +269,7 @@ turns-parts m sp l f fs free = record {
 
     Turn : List Note → Type 0
     Turn ns = (s : Slot) × (failed : Bool) × IsSlotFor m sp l f s
-        × Turned (unmap_notes l f s) s (is_dirty l f s) failed ns Rest
+        × IsTurned (unmap_notes l f s) s (is_dirty l f s) failed ns Rest
 
     open_turn : (ns : List Note) → Turns m sp l (f ∷ fs) ns → Turn ns
     open_turn ns h = subst (λ b. MatchBool b (Turns m sp l fs ns) (Turn ns)) free h

@@ -50,10 +50,10 @@ module _ {X Y S : Type 0} (Goes : Y → List Note → Type 0) (Stops : S → Lis
   meets-halt l l' bytes mid rest s h = record { notes = h.notes; lawful = p.halt s h.notes h.lawful; stand = h.stand; after = h.after }
 
   -- the first stage goes on, and the second is met behind it
-  pub meets-then : (l l1 l' : Ledger) (bytes mid rest : List ℕ) (x : X) (found : Option (Y ⊎ S))
+  pub meets-then : (l l1 l' : Ledger) (bytes mid rest : List ℕ) (x : X) (value : Option (Y ⊎ S))
       → Meets First Halts l bytes (Some (inl x)) l1 mid
-      → ((a : List Note) → First x a → l1 ≡ after_notes l a → Meets (Second x a) (Ends x a) l1 mid found l' rest)
-      → Meets Goes Stops l bytes found l' rest
+      → ((a : List Note) → First x a → l1 ≡ after_notes l a → Meets (Second x a) (Ends x a) l1 mid value l' rest)
+      → Meets Goes Stops l bytes value l' rest
   meets-then l l1 l' bytes mid rest x None first second =
       let here = second first.notes first.lawful first.after in record {
         goes = λ y notes more h s.

@@ -28,6 +28,6 @@ Reads Lawful l bytes read l' rest = MatchBool read (IsFound Lawful l bytes l' re
 -- the same, of notes that say a value
 abbrev pub Gets : {X : Type 0} → (X → List Note → Type 0) → Ledger → List ℕ → Option X → Ledger
     → List ℕ → Type 0
-Gets {X} Lawful l bytes found l' rest = MatchOption found
+Gets {X} Lawful l bytes value l' rest = MatchOption value
     ((x : X) (notes : List Note) (rest : List ℕ) → Lawful x notes → Stand bytes notes rest → ⊥)
     (λ x. IsFound (Lawful x) l bytes l' rest)

@@ -23,13 +23,13 @@ pub record IsCut (c : ℕ) (bytes first rest : List ℕ) : Type 0 where
 
 -- what follows the note, where it stands in front of the bytes
 abbrev pub IsTaken : List ℕ → Note → Option (List ℕ) → Type 0
-IsTaken bytes note found = MatchOption found
+IsTaken bytes note value = MatchOption value
     ((rest : List ℕ) → bytes ≡ notes_text (note ∷ []) ++ rest → ⊥)
     (λ rest. bytes ≡ notes_text (note ∷ []) ++ rest)
 
 -- a number below a bound on a line of its own, and what follows it
 abbrev pub IsNumbered : ℕ → List ℕ → Option (ℕ × List ℕ) → Type 0
-IsNumbered bound bytes found = MatchOption found
+IsNumbered bound bytes value = MatchOption value
     ((n : ℕ) (rest : List ℕ) → n < bound → bytes ≡ decimal n ++ 10 ∷ rest → ⊥)
     (λ x. (x.0 < bound) × (bytes ≡ decimal x.0 ++ 10 ∷ x.1))
 
@@ -41,20 +41,20 @@ note_by (Loaded s) f = notes.Loaded s f
 
 -- a frame below a bound for which it stands in front of the bytes, and what follows it
 abbrev pub IsFramed : ℕ → List ℕ → Taking → Option (ℕ × List ℕ) → Type 0
-IsFramed frames bytes taking found = MatchOption found
+IsFramed frames bytes taking value = MatchOption value
     ((f : ℕ) (rest : List ℕ) → f < frames → bytes ≡ notes_text (note_by taking f ∷ []) ++ rest → ⊥)
     (λ x. (x.0 < frames) × (bytes ≡ notes_text (note_by taking x.0 ∷ []) ++ x.1))
 
 -- the slot at which the note in front of the bytes puts the frame, and what follows it
 abbrev pub IsSlotted : List ℕ → ℕ → Option (Slot × List ℕ) → Type 0
-IsSlotted bytes f found = MatchOption found
+IsSlotted bytes f value = MatchOption value
     ((s : Slot) (rest : List ℕ) → s.area < 256 → s.page < 2 ^ 32
     → bytes ≡ notes_text (notes.Put f s ∷ []) ++ rest → ⊥)
     (λ x. bytes ≡ notes_text (notes.Put f x.0 ∷ []) ++ x.1)
 
 -- a slot on a line of its own, and what follows it
 abbrev pub IsSlotLine : List ℕ → Option (Slot × List ℕ) → Type 0
-IsSlotLine bytes found = MatchOption found
+IsSlotLine bytes value = MatchOption value
     ((s : Slot) (rest : List ℕ) → s.area < 256 → s.page < 2 ^ 32
     → bytes ≡ slot_text s ++ 10 ∷ rest → ⊥)
     (λ x. bytes ≡ slot_text x.0 ++ 10 ∷ x.1)

@@ -35,10 +35,10 @@ pub fn swaps_in(
     requires some { 0 < machine.now.frames }
     requires fits { AreNamed (setting_of machine.now) }
     requires page { page < 2 ^ 52 }
-    ensures { IfOk result (λ found. Meets (ComesFrom (setting_of machine.now)
+    ensures { IfOk result (λ value. Meets (ComesFrom (setting_of machine.now)
         (spared_of spared.now) (ledger_of book.old) (process, page) slot)
         (IsKeptOut (setting_of machine.now) (spared_of spared.now) (ledger_of book.old))
-        (ledger_of book.old) unit.old.rest.now (came_of found) (ledger_of book.new)
+        (ledger_of book.old) unit.old.rest.now (came_of value) (ledger_of book.new)
         unit.new.rest.now) }
 {
     match fetches(book, unit, machine, spared, slot)? {

@@ -32,10 +32,10 @@ fn loads(
     slot: Slot,
 ) -> Result<Option<Fetch>, AllocError>
     requires { 0 < machine.now.frames }
-    ensures { IfOk result (λ found. Meets
+    ensures { IfOk result (λ value. Meets
         (IsLoaded (setting_of machine.now) (ledger_of book.old) slot)
         (IsUnloaded (setting_of machine.now) (ledger_of book.old)) (ledger_of book.old)
-        unit.old.rest.now (fetched_of found) (ledger_of book.new) unit.new.rest.now) }
+        unit.old.rest.now (fetched_of value) (ledger_of book.new) unit.new.rest.now) }
 {
     let free = book.has_free(machine);
     if unit.rest.is_empty() {
@@ -60,10 +60,10 @@ pub fn fetches(
 ) -> Result<Option<Fetch>, AllocError>
     requires some { 0 < machine.now.frames }
     requires fits { AreNamed (setting_of machine.now) }
-    ensures { IfOk result (λ found. Meets
+    ensures { IfOk result (λ value. Meets
         (AreFetched (setting_of machine.now) (spared_of spared.now)
         (ledger_of book.old) slot) (IsUnfetched (setting_of machine.now) (spared_of spared.now)
-        (ledger_of book.old)) (ledger_of book.old) unit.old.rest.now (fetched_of found)
+        (ledger_of book.old)) (ledger_of book.old) unit.old.rest.now (fetched_of value)
         (ledger_of book.new) unit.new.rest.now) }
 {
     if !seeks(book, unit, machine, spared)? {

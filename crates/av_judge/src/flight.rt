@@ -14,8 +14,8 @@ use std::alloc::AllocError;
 
 /// A write ends: whether it failed.
 pub fn ending(book: &mut Book, unit: &mut Unit<'_>, slot: Slot) -> Result<Option<bool>, AllocError>
-    ensures { IfOk result (λ found. Gets (IsEnd slot) (ledger_of book.old)
-        unit.old.rest.now found (ledger_of book.new) unit.new.rest.now) }
+    ensures { IfOk result (λ value. Gets (IsEnd slot) (ledger_of book.old)
+        unit.old.rest.now value (ledger_of book.new) unit.new.rest.now) }
 {
     if reads(book, unit, Note::Written(slot))? {
         return Ok(Some(false));

@@ -67,7 +67,7 @@ pub fn take_note<'a>(
     bytes: &'a [u8],
     note: Note,
 ) -> Result<Option<&'a [u8]>, AllocError>
-    ensures { IfOk result (λ found. IsTaken bytes.now note (option_map (λ rest. rest.now) found)) }
+    ensures { IfOk result (λ value. IsTaken bytes.now note (option_map (λ rest. rest.now) value)) }
 {
     let text = text_of_note(alloc, note)?;
     Ok(after(bytes, text.as_slice()))
@@ -107,8 +107,8 @@ pub fn take_frame<'a>(
     frames: u32,
 ) -> Result<Option<(u32, &'a [u8])>, AllocError>
     requires { 0 < frames }
-    ensures { IfOk result (λ found. IsFramed frames bytes.now taking
-        (option_map (λ x. (x.0, x.1.now)) found)) }
+    ensures { IfOk result (λ value. IsFramed frames bytes.now taking
+        (option_map (λ x. (x.0, x.1.now)) value)) }
 {
     let text = text_of_note(alloc, taking.note(0))?;
     let known = front(text.as_slice(), 2);
@@ -138,8 +138,8 @@ pub fn take_slot<'a>(
     bytes: &'a [u8],
     frame: u32,
 ) -> Result<Option<(Slot, &'a [u8])>, AllocError>
-    ensures { IfOk result (λ found. IsSlotted bytes.now frame
-        (option_map (λ x. (x.0, x.1.now)) found)) }
+    ensures { IfOk result (λ value. IsSlotted bytes.now frame
+        (option_map (λ x. (x.0, x.1.now)) value)) }
 {
     let slot = Slot { area: 0, page: 0 };
     let text = text_of_note(alloc, Note::Put { frame, slot })?;

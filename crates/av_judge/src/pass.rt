@@ -26,8 +26,8 @@ fn puts(
     frame: u32,
 ) -> Result<Option<Slot>, AllocError>
     requires fits { AreNamed (setting_of machine.now) }
-    ensures { IfOk result (λ found. Gets (IsPut (setting_of machine.now) (spared_of spared.now)
-        (ledger_of book.old) frame) (ledger_of book.old) unit.old.rest.now found
+    ensures { IfOk result (λ value. Gets (IsPut (setting_of machine.now) (spared_of spared.now)
+        (ledger_of book.old) frame) (ledger_of book.old) unit.old.rest.now value
         (ledger_of book.new) unit.new.rest.now) }
 {
     match take_slot(unit.alloc, unit.rest, frame)? {
@@ -53,8 +53,8 @@ fn goes_to(
     frame: u32,
 ) -> Result<Option<(Slot, bool)>, AllocError>
     requires fits { AreNamed (setting_of machine.now) }
-    ensures { IfOk result (λ found. Gets (GoesTo (setting_of machine.now) (spared_of spared.now)
-        (ledger_of book.old) frame) (ledger_of book.old) unit.old.rest.now found
+    ensures { IfOk result (λ value. Gets (GoesTo (setting_of machine.now) (spared_of spared.now)
+        (ledger_of book.old) frame) (ledger_of book.old) unit.old.rest.now value
         (ledger_of book.new) unit.new.rest.now) }
 {
     match book.slot_of(frame) {
@@ -75,26 +75,26 @@ pub fn unmaps(
     frame: u32,
 ) -> Result<Option<(Slot, bool)>, AllocError>
     requires fits { AreNamed (setting_of machine.now) }
-    ensures { IfOk result (λ found. Gets (Unmaps (setting_of machine.now) (spared_of spared.now)
-        (ledger_of book.old) frame) (ledger_of book.old) unit.old.rest.now found
+    ensures { IfOk result (λ value. Gets (Unmaps (setting_of machine.now) (spared_of spared.now)
+        (ledger_of book.old) frame) (ledger_of book.old) unit.old.rest.now value
         (ledger_of book.new) unit.new.rest.now) }
 {
     match goes_to(book, unit, machine, spared, frame)? {
         None => Ok(None),
-        Some(found) => {
+        Some(place) => {
             let due = book.maps(frame) != 0;
             if !reads_when(book, unit, due, Note::Unmapped(frame))? {
                 return Ok(None);
             }
-            Ok(Some(found))
+            Ok(Some(place))
         }
     }
 }
 
 /// A write of the slot begins, and ends at once: whether it failed.
 fn writes(book: &mut Book, unit: &mut Unit<'_>, slot: Slot) -> Result<Option<bool>, AllocError>
-    ensures { IfOk result (λ found. Gets (AreWriteNotes slot) (ledger_of book.old)
-        unit.old.rest.now found (ledger_of book.new) unit.new.rest.now) }
+    ensures { IfOk result (λ value. Gets (AreWriteNotes slot) (ledger_of book.old)
+        unit.old.rest.now value (ledger_of book.new) unit.new.rest.now) }
 {
     if !reads(book, unit, Note::Started(slot))? {
         return Ok(None);
@@ -109,8 +109,8 @@ fn stays(
     slot: Slot,
     dirty: bool,
 ) -> Result<Option<bool>, AllocError>
-    ensures { IfOk result (λ found. Gets (AreCleaned slot dirty) (ledger_of book.old)
-        unit.old.rest.now found (ledger_of book.new) unit.new.rest.now) }
+    ensures { IfOk result (λ value. Gets (AreCleaned slot dirty) (ledger_of book.old)
+        unit.old.rest.now value (ledger_of book.new) unit.new.rest.now) }
 {
     if !dirty {
         return Ok(Some(false));
@@ -127,8 +127,8 @@ fn turn(
     frame: u32,
 ) -> Result<Option<bool>, AllocError>
     requires fits { AreNamed (setting_of machine.now) }
-    ensures { IfOk result (λ found. Gets (IsTurn (setting_of machine.now) (spared_of spared.now)
-        (ledger_of book.old) frame) (ledger_of book.old) unit.old.rest.now found
+    ensures { IfOk result (λ value. Gets (IsTurn (setting_of machine.now) (spared_of spared.now)
+        (ledger_of book.old) frame) (ledger_of book.old) unit.old.rest.now value
         (ledger_of book.new) unit.new.rest.now) }
 {
     match unmaps(book, unit, machine, spared, frame)? {
@@ -144,8 +144,8 @@ fn frees(
     slot: Slot,
     dirty: bool,
 ) -> Result<Option<bool>, AllocError>
-    ensures { IfOk result (λ found. Gets (IsTurnEnd slot dirty) (ledger_of book.old)
-        unit.old.rest.now found (ledger_of book.new) unit.new.rest.now) }
+    ensures { IfOk result (λ value. Gets (IsTurnEnd slot dirty) (ledger_of book.old)
+        unit.old.rest.now value (ledger_of book.new) unit.new.rest.now) }
 {
     match stays(book, unit, slot, dirty)? {
         None => Ok(None),

@@ -74,8 +74,8 @@ pub fn takes(
     taking: Taking,
 ) -> Result<Option<u32>, AllocError>
     requires { 0 < machine.now.frames }
-    ensures { IfOk result (λ found. Gets (IsTakenFree (setting_of machine.now)
-        (ledger_of book.old) taking) (ledger_of book.old) unit.old.rest.now found
+    ensures { IfOk result (λ value. Gets (IsTakenFree (setting_of machine.now)
+        (ledger_of book.old) taking) (ledger_of book.old) unit.old.rest.now value
         (ledger_of book.new) unit.new.rest.now) }
 {
     match take_frame(unit.alloc, unit.rest, taking, machine.frames)? {

@@ -23,9 +23,9 @@ pub fn is_answer(alloc: Global, answer: &Answer, unit: &[u8]) -> Result<bool, Al
 pub fn is_reply(alloc: Global, reply: &Reply, unit: &[u8]) -> Result<bool, AllocError>
     ensures { IfOk result (λ yes. SaysReply yes unit.now reply.now) }
 {
-    let mut said = Bytes::new(alloc);
-    reply_text(reply, &mut said)?;
-    Ok(unit == said.as_slice())
+    let mut bytes = Bytes::new(alloc);
+    reply_text(reply, &mut bytes)?;
+    Ok(unit == bytes.as_slice())
 }
 
 /// The numbers of each note are of 64 bits.

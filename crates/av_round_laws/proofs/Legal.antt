@@ -17,10 +17,10 @@ use Rattle.av_audit_input.specs.Trace.{IsTraceLine}
 use Rattle.av_audit_input.specs.Unit.{units_of}
 use Rattle.av_audit_run.specs.Transcript.{AreLegal, Audits, IsWrong, StopsAt}
 use Rattle.av_audit_run.specs.declared.transcript.Finding.TheVariants as findings
-use Rattle.av_audit_run.proofs.Found.{audit-of, legal-or-stopped}
+use Rattle.av_audit_run.proofs.Findings.{audit-of, legal-or-stopped}
 use Rattle.av_replay.specs.Replay.{Transcribes}
 use Rattle.av_round_laws.proofs.Front.{front-one, marked}
-use Rattle.av_round_laws.proofs.Said.{commands_of, same-commands}
+use Rattle.av_round_laws.proofs.Commands.{commands_of, same-commands}
 use Rattle.av_round_laws.proofs.Units.{units-run}
 
 say-units : (es : List Exchange) → AllByRecursion (λ (e : Exchange). IsReply e.reply) es
@@ -48,8 +48,8 @@ pub none-illegal : (lines : List (List ℕ)) (es : List Exchange) (transcript : 
 none-illegal lines es transcript m n old new all did legal left h =
     let of = audit-of (findings.Illegal n) m old new (marked lines ++ transcript) h left in
     let same = front-one lines of.lines all of.trace.good transcript of.bytes of.transcript of.content_is of.front in
-    let commands = same-commands of.lines es of.commands (subst (λ (ls : List (List ℕ)). Transcribes ls es) (sym same.0) did) of.trace.said in
-    let found : StopsAt m of.commands (units_of of.transcript) n IsWrong = of.found in
+    let commands = same-commands of.lines es of.commands (subst (λ (ls : List (List ℕ)). Transcribes ls es) (sym same.0) did) of.trace.says in
+    let stops : StopsAt m of.commands (units_of of.transcript) n IsWrong = of.finds in
     legal-or-stopped m (commands_of es) (units_of transcript) n legal
     (subst (λ (cs : List Command). StopsAt m cs (units_of transcript) n IsWrong) commands
-    (subst (λ (bytes : List ℕ). StopsAt m of.commands (units_of bytes) n IsWrong) same.1 found))
+    (subst (λ (bytes : List ℕ). StopsAt m of.commands (units_of bytes) n IsWrong) same.1 stops))

@@ -1,5 +1,5 @@
 pub mod Units
-pub mod Said
+pub mod Commands
 pub mod Front
 pub mod Stops
 pub mod Asks

@@ -31,7 +31,7 @@ use Rattle.av_replay.specs.declared.status.Status.TheVariants as statuses
 use Rattle.av_replay.proofs.Traces.{all_done}
 use Rattle.av_round_laws.specs.Round.{AuditEnds, FindsNoneIllegal, RunWrites, SayAlike, input_of}
 use Rattle.av_round_laws.proofs.Legal.{none-illegal, units-legal}
-use Rattle.av_round_laws.proofs.Said.{commands_of, in-range, no-more, unmarked}
+use Rattle.av_round_laws.proofs.Commands.{commands_of, in-range, no-more, unmarked}
 use Rattle.av_round_laws.proofs.Stops.{audit-stops}
 use Rattle.av_round_laws.proofs.Asks.{asks-audit, asks-run}
 

@@ -23,7 +23,7 @@ use Rattle.av_replay.specs.Trace.{lines_of}
 use Rattle.av_replay.proofs.Traces.{Told, ended_is_nil, line_next, lines_of-joined, starts_long, told}
 use Rattle.av_round_laws.specs.Round.{FindsNoneIllegal}
 use Rattle.av_round_laws.proofs.Front.{begin, front-one, good-behind, marked}
-use Rattle.av_round_laws.proofs.Said.{says-some}
+use Rattle.av_round_laws.proofs.Commands.{says-some}
 
 -- ---- the line that stands next
 
@@ -43,20 +43,20 @@ too-long ahead left line others short are long =
 
 module _ (ahead left : List ℕ) (others : List (List ℕ)) (now : PortsView) (left_is : now.source.left ≡ Some left) where
   -- it is a line of a trace
-  not-bad : (line : List ℕ) (said : Option Command) → lines_of (ahead ++ left) ≡ line ∷ others → IsLine line → Says line said
+  not-bad : (line : List ℕ) (command : Option Command) → lines_of (ahead ++ left) ≡ line ∷ others → IsLine line → Says line command
       → IsBad ahead now → ⊥
-  not-bad line said are is says (inl long) = too-long ahead left line others is.short are long
-  not-bad line said are is says (inr (found, good, nothing, stands)) =
-      let next = line_next found ahead left now.source left_is good.is_line stands in
-      let same : line ≡ found = same-first line found others next.others (sym are ∙ next.are) in
-      nothing said (subst (λ (l : List ℕ). Says l said) same says)
+  not-bad line command are is says (inl long) = too-long ahead left line others is.short are long
+  not-bad line command are is says (inr (first, good, nothing, stands)) =
+      let next = line_next first ahead left now.source left_is good.is_line stands in
+      let same : line ≡ first = same-first line first others next.others (sym are ∙ next.are) in
+      nothing command (subst (λ (l : List ℕ). Says l command) same says)
 
   -- it is the mark
   is-mark : lines_of (ahead ++ left) ≡ mark ∷ others → IsNoMark ahead now → ⊥
   is-mark are (inl long) = too-long ahead left mark others (omega arith) are long
-  is-mark are (inr (found, good, stands)) =
-      let next = line_next found ahead left now.source left_is good.is_line stands in
-      good.unmarked (same-first found mark next.others others (sym next.are ∙ are))
+  is-mark are (inr (first, good, stands)) =
+      let next = line_next first ahead left now.source left_is good.is_line stands in
+      good.unmarked (same-first first mark next.others others (sym next.are ∙ are))
 
 no-mark-where-bad : (ahead : List ℕ) (now : PortsView) → IsBad ahead now → IsNoMark ahead now
 no-mark-where-bad ahead now (inl long) = inl long
@@ -129,9 +129,9 @@ module _ (lines : List (List ℕ)) (es : List Exchange) (transcript : List ℕ) 
       by : (others : List (List ℕ)) → lines ≡ front ++ others → lines_of (ahead ++ s.left) ≡ (others ++ mark ∷ []) ++ lines_of transcript → ⊥
       by [] are next = is-mark ahead s.left (lines_of transcript) now s.left_is next (no-mark-where-bad ahead now bad)
       by (line ∷ others) are next =
-          let said = says-some front line others es (subst (λ (ls : List (List ℕ)). Transcribes ls es) are did) in
+          let command = says-some front line others es (subst (λ (ls : List (List ℕ)). Transcribes ls es) are did) in
           let good = good-behind front (line ∷ others) (subst (AllByRecursion IsTraceLine) are all) in
-          not-bad ahead s.left ((others ++ mark ∷ []) ++ lines_of transcript) now s.left_is line said.0 next good.0.is_line said.1 bad
+          not-bad ahead s.left ((others ++ mark ∷ []) ++ lines_of transcript) now s.left_is line command.0 next good.0.is_line command.1 bad
 
   none-more : (front : List (List ℕ)) (ahead : List ℕ) (now : PortsView) → Stand lines front transcript ahead now → length front ≡ 2 ^ 24
       → IsNoMark ahead now → ⊥

@@ -20,7 +20,7 @@ use Rattle.av_trace.proofs.RowLaws.{area_line-is, area_of, entry_line-is, entry_
 use Rattle.av_trace.proofs.Split.{lacks, lacks-cons}
 use Rattle.av_plain.specs.Transcript.{Exchange, text_of_run}
 use Rattle.av_audit_input.specs.Unit.{IsOne, begins_unit, begins_with_space, ends_line, onto_first, units_of}
-use Rattle.av_audit_input.proofs.UnitLaws.{joined, last-first, whole-first}
+use Rattle.av_audit_input.proofs.UnitLaws.{part-one, last-first, whole-first}
 
 not_true : (b : Bool) → not b ≡ true → b ≡ false
 not_true true e = absurd cc
@@ -65,7 +65,7 @@ with-line : (bytes l : List ℕ) → AreOne bytes → lacks 10 l ≡ true → Ar
 with-line bytes l h none =
     let spaced : lacks 10 (field l) ≡ true = lacks-cons 10 32 l (λ e. omega arith) none in
     record {
-      one = joined bytes (whole_line (field l)) h.one (line-one (field l) spaced) (and_false (ends_line bytes));
+      one = part-one bytes (whole_line (field l)) h.one (line-one (field l) spaced) (and_false (ends_line bytes));
       ends = ends-behind bytes (whole_line (field l)) (line-ends (field l));
     }
 

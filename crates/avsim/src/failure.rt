@@ -9,7 +9,8 @@ use thiserror::Error;
 /// Why the program failed, in the words that it prints.
 #[derive(Debug, Drop, Error)]
 pub enum Failure {
-    #[error("usage: avsim run FRAMES [SWAP..] | avsim work SEED LINES FRAMES [SWAP..] | avsim audit FRAMES [SWAP..]")]
+    #[error("usage: avsim run FRAMES [SWAP..] | avsim work SEED LINES FRAMES [SWAP..] | \
+         avsim audit FRAMES [SWAP..]")]
     Usage,
     #[error("line {0}: not a command")]
     BadLine(u32),

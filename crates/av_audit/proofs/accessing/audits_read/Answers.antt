@@ -32,7 +32,7 @@ returns-in-None c = λ w h.
     let ended = subst (λ n. Ends (Ending m w l c.args.process false c.args.address n) l c.in-Some.notes.now (option_map end_of c.in_ok-ends_at.field-0) l')
     c.from-n.ensures (c.in_ok-ends_at.ensures w h) in
     read-no-end m w c.args.process c.args.address c.args.length c.args.unit.now refl l l' c.args.memories.now c.ends_at.new.book
-    c.in-Some.line.now c.in-Some.notes.now (sym (c.lives.ensures w h) ∙ c.if-not-lives.false) h c.in-Some.ensures.found
+    c.in-Some.line.now c.in-Some.notes.now (sym (c.lives.ensures w h) ∙ c.if-not-lives.false) h c.in-Some.ensures.some
     (subst (λ f. Ends (Ending m w l c.args.process false c.args.address c.args.length) l c.in-Some.notes.now (option_map end_of f) l') c.in-None.is ended)
 
 pub returns-in_ok-read-in-Some-2 : goal.returns-in_ok-read-in-Some-2
@@ -47,10 +47,10 @@ returns-in_ok-read-in-Some-2 c = if-ok c.says.result (λ b. SaysOnly b c.in-Some
     let t = subst (λ f. Ends (Ending m w l c.args.process false c.args.address c.args.length) l c.in-Some.notes.now (option_map end_of f) l')
     c.in-Some-2.is ended in
     read-left m w c.args.process c.args.address c.args.length c.args.unit.now refl l c.args.memories.now c.ends_at.new.book
-    c.in-Some.line.now c.in-Some.notes.now end c.served-k.result c.in_ok-read-in-Some-2.field-0.items c.read_answer.result b
-    (sym (c.lives.ensures w h) ∙ c.if-not-lives.false) h c.in-Some.ensures.found t
-    (subst (λ n. c.served-k.result ≡ min n (bytes_served c.args.address n end)) c.from-n.ensures c.served-k.ensures)
+    c.in-Some.line.now c.in-Some.notes.now end c.bytes_before-k.result c.in_ok-read-in-Some-2.field-0.items c.read_answer.result b
+    (sym (c.lives.ensures w h) ∙ c.if-not-lives.false) h c.in-Some.ensures.some t
+    (subst (λ n. c.bytes_before-k.result ≡ min n (bytes_served c.args.address n end)) c.from-n.ensures c.bytes_before-k.ensures)
     (c.in_ok-read-in-Some-2.ensures w h)
-    (λ a n is. subst (λ shown. c.read_answer.result ≡ read_answer a end shown) c.from_vec-shown.ensures (c.read_answer.ensures.answer a n is))
-    (λ fit. c.read_answer.ensures.fits (subst (λ shown. AreBytes shown) (sym c.from_vec-shown.ensures) fit)) says)
+    (λ a n is. subst (λ bytes. c.read_answer.result ≡ read_answer a end bytes) c.from_vec-bytes.ensures (c.read_answer.ensures.answer a n is))
+    (λ fit. c.read_answer.ensures.fits (subst (λ bytes. AreBytes bytes) (sym c.from_vec-bytes.ensures) fit)) says)
     c.says.ensures

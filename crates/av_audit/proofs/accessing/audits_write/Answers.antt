@@ -29,7 +29,7 @@ returns-in-None c = λ w h.
     let l' = ledger_of c.ends_at.new.book in
     let bytes = c.args.bytes.now in
     write-no-end m w c.args.process c.args.address bytes c.args.unit.now refl l l' c.args.memories.now c.ends_at.new.book
-    c.in-Some.line.now c.in-Some.notes.now (sym (c.lives.ensures w h) ∙ c.if-not-lives.false) c.in-Some.ensures.found
+    c.in-Some.line.now c.in-Some.notes.now (sym (c.lives.ensures w h) ∙ c.if-not-lives.false) c.in-Some.ensures.some
     (subst (λ f. Ends (Ending m w l c.args.process true c.args.address (length bytes)) l c.in-Some.notes.now (option_map end_of f) l') c.in-None.is
     (c.in_ok-ends_at.ensures w h))
 
@@ -42,8 +42,8 @@ returns-then-not-branch c = λ w h.
     let t = subst (λ f. Ends (Ending m w l c.args.process true c.args.address (length bytes)) l c.in-Some.notes.now (option_map end_of f) l')
     c.in-Some-2.is (c.in_ok-ends_at.ensures w h) in
     write-no-answer m w c.args.process c.args.address bytes c.args.unit.now refl l l' c.args.memories.now c.ends_at.new.book
-    c.in-Some.line.now c.in-Some.notes.now (end_of c.in-Some-2.end) c.served-k.result c.write_answer.result
-    (sym (c.lives.ensures w h) ∙ c.if-not-lives.false) c.in-Some.ensures.found t c.served-k.ensures c.write_answer.ensures.answer
+    c.in-Some.line.now c.in-Some.notes.now (end_of c.in-Some-2.end) c.bytes_before-k.result c.write_answer.result
+    (sym (c.lives.ensures w h) ∙ c.if-not-lives.false) c.in-Some.ensures.some t c.bytes_before-k.ensures c.write_answer.ensures.answer
     (subst (λ (b : Bool). SaysOnly b c.in-Some.line.now c.write_answer.result) c.if-not-branch.true c.in_ok-says-in-Some-2.ensures)
 
 pub returns-in_ok-write-in-Some-2 : goal.returns-in_ok-write-in-Some-2
@@ -56,7 +56,7 @@ returns-in_ok-write-in-Some-2 c = λ w h.
     c.in-Some-2.is (c.in_ok-ends_at.ensures w h) in
     let alive = sym (c.lives.ensures w h) ∙ c.if-not-lives.false in
     write-left m w c.args.process c.args.address bytes c.args.unit.now refl l c.write.new.self c.ends_at.new.book
-    c.in-Some.line.now c.in-Some.notes.now (end_of c.in-Some-2.end) c.served-k.result c.write_answer.result
-    alive c.in-Some.ensures.found t c.served-k.ensures c.write_answer.ensures.answer c.write_answer.ensures.fits
+    c.in-Some.line.now c.in-Some.notes.now (end_of c.in-Some-2.end) c.bytes_before-k.result c.write_answer.result
+    alive c.in-Some.ensures.some t c.bytes_before-k.ensures c.write_answer.ensures.answer c.write_answer.ensures.fits
     (subst (λ (b : Bool). SaysOnly b c.in-Some.line.now c.write_answer.result) c.if-not-branch.false c.in_ok-says-in-Some-2.ensures)
     (c.in_ok-write-in-Some-2.ensures w h alive)

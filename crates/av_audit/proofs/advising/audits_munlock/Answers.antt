@@ -8,13 +8,13 @@ use Rattle.av_plain.specs.World.{pages, pages_to_hole, set_process, with_change_
 use Rattle.av_judge.specs.Says.{SaysOnly}
 use Rattle.av_judge.proofs.Finds.{if-ok}
 use Rattle.av_world.specs.Memories.{IsWorld}
-use Rattle.av_audit.proofs.JudgeLaws.{refused-seen}
+use Rattle.av_audit.proofs.JudgeLaws.{refused-leaves}
 use Rattle.av_audit.proofs.KnownUnits.{differ, munlock-lives, munlock-said}
 use Rattle.av_audit.proofs.advising.audits_munlock.Goals as goal
 
 pub returns-in-Some : goal.returns-in-Some
 returns-in-Some c = if-ok c.is_answer.result (λ b. SaysOnly b c.args.unit.now (Refused c.in-Some.error)) _
-    (λ b says m w l at told. refused-seen m w l (Munlock c.args.process c.args.address c.args.length) c.args.unit.now c.in-Some.error b
+    (λ b says m w l at told. refused-leaves m w l (Munlock c.args.process c.args.address c.args.length) c.args.unit.now c.in-Some.error b
     c.args.memories.now told (sym (c.refuses_munlock.ensures m w l at) ∙ c.in-Some.is) says at)
     c.is_answer.ensures
 

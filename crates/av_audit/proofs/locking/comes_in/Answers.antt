@@ -28,7 +28,7 @@ returns-in-None c = λ w h.
     let l' = ledger_of c.accesses.new.book in
     tells-no-end (λ end es. Accesses m w l c.args.process c.args.pages.now es end) (WritesTo (address_of c.args.from))
     (lock-telling m w l c.args.process (address_of c.args.from) c.args.pages.now) l l' c.args.unit.now c.in-Some.line.now c.in-Some.notes.now
-    c.in-Some.ensures.found
+    c.in-Some.ensures.some
     (subst (λ f. Ends (λ end es. Accesses m w l c.args.process c.args.pages.now es end) l c.in-Some.notes.now (option_map end_of f) l') c.in-None.is
     (c.in_ok-accesses.ensures w h))
 
@@ -41,6 +41,6 @@ returns-in-Some-2 c = if-ok c.says.result (λ b. SaysOnly b c.in-Some.line.now c
     let t = subst (λ f. Ends (λ end es. Accesses m w l c.args.process c.args.pages.now es end) l c.in-Some.notes.now (option_map end_of f) l')
     c.in-Some-2.is (c.in_ok-accesses.ensures w h) in
     came-in m w l l' c.args.process c.args.from c.args.n c.args.pages.now c.args.unit.now c.in-Some.line.now c.in-Some.notes.now
-    (end_of c.in-Some-2.end) c.served-k.result c.write_answer.result b c.in-Some.ensures.found c.requires.pages t c.served-k.ensures
+    (end_of c.in-Some-2.end) c.bytes_before-k.result c.write_answer.result b c.in-Some.ensures.some c.requires.pages t c.bytes_before-k.ensures
     c.write_answer.ensures.answer c.write_answer.ensures.fits says)
     c.says.ensures

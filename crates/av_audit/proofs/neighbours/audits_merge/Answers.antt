@@ -3,7 +3,7 @@ use Rattle.std.proofs.lemmas.Result.{IfOk-weaker}
 use Rattle.av_trace.specs.declared.command.Command.TheVariants.{Merge}
 use Rattle.av_book.specs.Book.{ledger_of}
 use Rattle.av_book.specs.Machine.{setting_of}
-use Rattle.av_audit.proofs.SwapLaws.{book-left}
+use Rattle.av_audit.proofs.JudgeLaws.{book-left}
 use Rattle.av_audit.proofs.neighbours.audits_merge.Goals as goal
 
 pub returns : goal.returns

@@ -4,7 +4,7 @@ use Rattle.std.proofs.lemmas.Result.{on_ok_weaker}
 use Rattle.av_plain.specs.Event.{EntriesMoved, after, after_all, notes_of}
 use Rattle.av_plain.specs.Zap.{keys_in, zaps_of}
 use Rattle.av_book.specs.Book.{ledger_of}
-use Rattle.av_audit.proofs.RemapLaws.{moved-ledger, moved-notes}
+use Rattle.av_audit.proofs.RemapLaws.{move-ledger, move-notes}
 use Rattle.av_audit.proofs.remapping.follow_mremap.Goals as goal
 
 pub returns-clause-ledger : goal.returns-clause-ledger
@@ -14,7 +14,7 @@ returns-clause-ledger c =
     let l1 = ledger_of c.zap_range-2.new.book in
     let l2 = ledger_of c.zap_range-3.new.book in
     on_ok_weaker c.move_entries.result (λ h.
-    moved-ledger l l1 l2 (ledger_of c.move_entries.new.book) p c.args.from c.args.n c.args.to c.args.m (ne_eqb c.args.to c.args.from c.if-to-from.false)
+    move-ledger l l1 l2 (ledger_of c.move_entries.new.book) p c.args.from c.args.n c.args.to c.args.m (ne_eqb c.args.to c.args.from c.if-to-from.false)
     c.in_ok-zap_range.ensures.ledger
     (c.in_ok-zap_range-2.ensures.ledger ∙ ap (λ k. after_all l1 (zaps_of l1 (keys_in l1 p (c.args.from + c.args.m) k))) c.saturating_sub-shorter.ensures)
     (h ∙ ap (λ k. after l2 (EntriesMoved p k c.args.from c.args.to)) c.min.ensures)) c.move_entries.ensures
@@ -25,7 +25,7 @@ returns-clause-notes c =
     let l = ledger_of c.args.book.now in
     let l1 = ledger_of c.zap_range-2.new.book in
     on_ok_weaker c.move_entries.result (λ h.
-    moved-notes l l1 p c.args.from c.args.n c.args.to c.args.m c.args.notes.now c.zap_range-2.new.notes c.zap_range-3.new.notes
+    move-notes l l1 p c.args.from c.args.n c.args.to c.args.m c.args.notes.now c.zap_range-2.new.notes c.zap_range-3.new.notes
     (ne_eqb c.args.to c.args.from c.if-to-from.false) c.in_ok-zap_range.ensures.ledger c.in_ok-zap_range.ensures.notes
     (c.in_ok-zap_range-2.ensures.notes
     ∙ ap (λ k. c.zap_range-2.new.notes ++ notes_of (zaps_of l1 (keys_in l1 p (c.args.from + c.args.m) k))) c.saturating_sub-shorter.ensures))

@@ -3,8 +3,8 @@ use Rattle.std.proofs.lemmas.Result.{IfOk-weaker}
 use Rattle.av_trace.specs.declared.command.Command.TheVariants as commands
 use Rattle.av_trace.specs.declared.reply.Errno.TheVariants.{Esrch}
 use Rattle.av_book.specs.Book.{ledger_of}
-use Rattle.av_audit.proofs.JudgeLaws.{refused-left}
-use Rattle.av_audit.proofs.ReportingLaws.{dead, dead-alone, live-alone, live-space, report-left}
+use Rattle.av_audit.proofs.JudgeLaws.{book-left, refused-left}
+use Rattle.av_audit.proofs.ReportingLaws.{dead, dead-alone, live-alone, live-space}
 use Rattle.av_audit.proofs.reporting.audits_areas.Goals as goal
 
 pub returns-in-None : goal.returns-in-None
@@ -17,7 +17,7 @@ pub returns-in-Some : goal.returns-in-Some
 returns-in-Some c = IfOk-weaker c.judges_areas.result _ _
     (λ legal h m w at told.
     let live = c.in-Some.ensures w at in
-    report-left m w c.args.book.now (commands.Areas c.args.process) c.args.unit.now legal c.args.memories.now told (λ v answer. refl)
+    book-left m w (ledger_of c.args.book.now) (commands.Areas c.args.process) c.args.unit.now legal c.args.memories.now c.args.book.now told (λ v answer. refl)
     (h m w (ledger_of c.args.book.now) (live-space w c.args.process c.in-Some.space.now live)
     (live-alone w c.args.process c.in-Some.space.now live)) at)
     c.judges_areas.ensures

@@ -7,7 +7,7 @@ use Rattle.av_book.specs.Machine.{setting_of}
 use Rattle.av_book.specs.Spared.{spared_of}
 use Rattle.av_judge.specs.Verdict.{IsVerdict}
 use Rattle.av_judge.proofs.Finds.{if-ok}
-use Rattle.av_audit.proofs.SwapLaws.{book-left}
+use Rattle.av_audit.proofs.JudgeLaws.{book-left}
 use Rattle.av_audit.proofs.swapping.audits_reclaim.Goals as goal
 
 pub returns : goal.returns

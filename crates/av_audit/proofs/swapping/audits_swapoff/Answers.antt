@@ -27,7 +27,7 @@ returns-in-None c = λ w at.
     let l = ledger_of c.args.book.now in
     let l1 = ledger_of c.closes.new.book in
     swapoff-no-end m w c.args.area c.args.unit.now refl l l1 c.args.memories.now c.closes.new.book c.in-Some.line.now c.in-Some.notes.now
-    (sym c.is_on.ensures ∙ c.if-not-is_on.false) c.in-Some.ensures.found
+    (sym c.is_on.ensures ∙ c.if-not-is_on.false) c.in-Some.ensures.some
     (subst (λ (o : Option Close). IsWhole (Closes m w c.args.area l) l c.in-Some.notes.now (option_map close_of o) l1) c.in-None.is
     (c.in_ok-closes.ensures w at))
 
@@ -38,7 +38,7 @@ returns-in-Some-2 c = if-ok c.is_answer-in-Some-2.result (λ b. SaysOnly b c.in-
     let l = ledger_of c.args.book.now in
     let l1 = ledger_of c.closes.new.book in
     swapoff-left m w c.args.area c.args.unit.now refl l l1 c.args.memories.now c.turns_off.new.book c.in-Some.line.now c.in-Some.notes.now
-    (close_of c.in-Some-2.close) c.close_answer.result b (sym c.is_on.ensures ∙ c.if-not-is_on.false) at c.in-Some.ensures.found
+    (close_of c.in-Some-2.close) c.close_answer.result b (sym c.is_on.ensures ∙ c.if-not-is_on.false) at c.in-Some.ensures.some
     (subst (λ (o : Option Close). IsWhole (Closes m w c.args.area l) l c.in-Some.notes.now (option_map close_of o) l1) c.in-Some-2.is
     (c.in_ok-closes.ensures w at)) c.turns_off.ensures c.close_answer.ensures.answer c.close_answer.ensures.fits says)
     c.is_answer-in-Some-2.ensures

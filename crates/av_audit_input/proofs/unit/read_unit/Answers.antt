@@ -5,7 +5,7 @@ use Rattle.av_ports.proofs.Times.{unfailed_then}
 use Rattle.av_ports.specs.Ports.{undone}
 use Rattle.av_audit_input.specs.Unit.{is_whole, StopsUnit}
 use Rattle.av_audit_input.proofs.InputLaws.{fails-open, is-open-then, only-then}
-use Rattle.av_audit_input.proofs.ReadUnit.{found, piece-open, took-on, untaken, with-piece}
+use Rattle.av_audit_input.proofs.ReadUnit.{whole-unit, piece-open, took-on, untaken, with-piece}
 use Rattle.av_audit_input.proofs.unit.read_unit.Goals as goal
 
 pub returns-in_err-has_more-clause-only : goal.returns-in_err-has_more-clause-only
@@ -31,7 +31,7 @@ returns-then-is_whole-clause-taken g c =
     ∙ sym c.is_whole.ensures ∙ c.if-is_whole.true in
     let more = rw c.if-branch.true at c.in_ok-has_more.ensures.more in
     let took = took-on (undone c.args.pending.now old) (undone c.loop-unit.pending mid) (undone ahead now) unit was.took c.has_more.ensures.same in
-    let f = found unit c.args.pending.now ahead old now was.part took whole more in
+    let f = whole-unit unit c.args.pending.now ahead old now was.part took whole more in
     (f.0, omega (arith, was.counts, c.has_more.ensures.left), f.1)
 
 pub returns-then-is_whole-clause-only : goal.returns-then-is_whole-clause-only

@@ -1,4 +1,4 @@
-use Rattle.av_audit_run.proofs.Found.{legal-or-stopped}
+use Rattle.av_audit_run.proofs.Findings.{legal-or-stopped}
 use Rattle.av_audit_run.proofs.laws.legal_or_stopped.Goals as goal
 
 pub returns : goal.returns

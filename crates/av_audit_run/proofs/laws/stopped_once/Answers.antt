@@ -1,4 +1,4 @@
-use Rattle.av_audit_run.proofs.Found.{stopped-once}
+use Rattle.av_audit_run.proofs.Findings.{stopped-once}
 use Rattle.av_audit_run.proofs.laws.stopped_once.Goals as goal
 
 pub returns : goal.returns

@@ -16,7 +16,8 @@ returns c =
     let on = c.args.book.now.on.entries in
     let left = ap areas_of (removed-one (is_at (nat_cmp c.args.number)) on _ c.remove.ensures.entries c.remove.ensures.updates.1)
     ∙ where-says nat_cmp area_of (λ q. not (is_at (nat_cmp c.args.number) q)) on
-    ∙ filter-same (λ (a : ℕ × SwapArea). not (is_at (nat_cmp c.args.number) a.0)) (λ a. not (a.0 == c.args.number)) (λ a. other c.args.number a.0) (areas_of on) in
+    ∙ filter-same (λ (a : ℕ × SwapArea). not (is_at (nat_cmp c.args.number) a.0)) (λ a. not (a.0 == c.args.number))
+    (λ a. other c.args.number a.0) (areas_of on) in
     λ i. record {
       entries = entries_of c.args.book.now.pages.entries;
       cache = map cached_of c.args.book.now.pages.cache;

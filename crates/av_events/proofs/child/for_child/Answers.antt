@@ -29,7 +29,8 @@ loop-rest-preserved-in_ok-push c = λ goes is.
     let step = goes-over goes c.args.child first.0 (entry_of first.1) (entries_of others) c.loop-rest.due.now c.in-Some.more.now
     (before.0 ∙ ap (pages_that goes) (sym whole)) c.in-Some.ensures in (
       step.0,
-      copy-added c.loop-rest.made.items c.push.new.self.items (c.args.child, first.0.1) c.not_seen.result _ (child_entries c.args.child goes (entries_of others))
+      copy-added c.loop-rest.made.items c.push.new.self.items (c.args.child, first.0.1) c.not_seen.result
+          _ (child_entries c.args.child goes (entries_of others))
           c.in_ok-push.ensures.items c.not_seen.ensures
           ∙ ap (λ r. entries_of c.loop-rest.made.items ++ r) (sym step.1 ∙ ap (child_entries c.args.child goes) whole) ∙ before.1,
     )

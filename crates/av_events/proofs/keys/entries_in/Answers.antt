@@ -17,4 +17,5 @@ returns c =
     ap entries_of (h ∙ ap (filter (λ (e : Key × Entry). e.0.0 == c.args.process)) (c.range.ensures.between tt)
     ∙ of-pages c.args.process es c.args.from c.args.n)
     ∙ where-says key_cmp entry_of (λ (k : Key). k.0 == c.args.process && within c.args.from c.args.n k.1) es
-    ∙ ap (λ es. where_key key_cmp (λ (k : Key). k.0 == c.args.process && within c.args.from c.args.n k.1) (entries_of es)) c.entries.ensures) c.of_process.ensures
+    ∙ ap (λ es. where_key key_cmp (λ (k : Key). k.0 == c.args.process && within c.args.from c.args.n k.1) (entries_of es))
+    c.entries.ensures) c.of_process.ensures

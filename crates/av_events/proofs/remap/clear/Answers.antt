@@ -12,7 +12,8 @@ pub loop-rest-preserved : goal.loop-rest-preserved
 loop-rest-preserved c =
     let l = ledger_of c.loop-rest.book in
     without-then l (ledger_of c.remove.new.book) (get_or c.loop-rest.rest.now 0 ((0, 0), Zero)) _ c.remove.ensures
-    ∙ ap (λ (es : List (Key × Entry)). without_keys (map (λ (e : Key × Entry). e.0) es) l) (slice-cons c.loop-rest.rest.now ((0, 0), Zero) c.in-len1-up.len_at_least)
+    ∙ ap (λ (es : List (Key × Entry)). without_keys (map (λ (e : Key × Entry). e.0) es) l)
+    (slice-cons c.loop-rest.rest.now ((0, 0), Zero) c.in-len1-up.len_at_least)
     ∙ c.loop-rest.invariant
 
 pub returns : goal.returns

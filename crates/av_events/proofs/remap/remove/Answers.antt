@@ -12,5 +12,6 @@ pub returns : goal.returns
 returns c =
     let k : Key = (c.args.process, c.args.page) in
     let l = ledger_of c.args.book.now in
-    let left = filter-same (λ (e : Key × PlainEntry). not (k.0 == e.0.0 && k.1 == e.0.1)) (λ e. not (is_among (k ∷ []) e.0)) (λ e. ap not (one-key k e.0)) l.entries in
+    let left = filter-same (λ (e : Key × PlainEntry). not (k.0 == e.0.0 && k.1 == e.0.1))
+    (λ e. not (is_among (k ∷ []) e.0)) (λ e. ap not (one-key k e.0)) l.entries in
     c.remove.ensures.others ∙ (λ i. record l { entries = left i })

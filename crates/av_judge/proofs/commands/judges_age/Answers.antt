@@ -18,7 +18,8 @@ pub returns-then-not-branch : goal.returns-then-not-branch
 returns-then-not-branch c = λ m w.
     let l = ledger_of c.args.book.now in
     let l1 = ledger_of c.ages.new.book in
-    ok-unlawful m w l l1 l1 (commands.Age c.args.n) (λ ns. ns ≡ map Aged (from_tail c.args.n l.active)) c.args.text.now c.in-Some.rest.now c.ages.new.unit.rest.now (age-ok m w l c.args.n)
+    ok-unlawful m w l l1 l1 (commands.Age c.args.n) (λ ns. ns ≡ map Aged (from_tail c.args.n l.active))
+    c.args.text.now c.in-Some.rest.now c.ages.new.unit.rest.now (age-ok m w l c.args.n)
     c.in-Some.ensures
     (subst (λ (xs : List ℕ). Reads (λ ns. ns ≡ map Aged xs) l c.in-Some.rest.now false l1 c.ages.new.unit.rest.now)
     (c.as_slice-in-Some.ensures.value ∙ c.in_ok-frames.ensures ∙ ap (λ (xs : List ℕ). take c.args.n (reverse xs)) c.as_slice.ensures.value)
@@ -28,7 +29,8 @@ pub returns : goal.returns
 returns c = λ m w.
     let l = ledger_of c.args.book.now in
     let l1 = ledger_of c.ages.new.book in
-    ok-end m w l l1 (commands.Age c.args.n) (λ ns. ns ≡ map Aged (from_tail c.args.n l.active)) c.args.text.now c.in-Some.rest.now c.ages.new.unit.rest.now c.is_empty.result
+    ok-end m w l l1 (commands.Age c.args.n) (λ ns. ns ≡ map Aged (from_tail c.args.n l.active)) c.args.text.now
+    c.in-Some.rest.now c.ages.new.unit.rest.now c.is_empty.result
     (age-ok m w l c.args.n) c.in-Some.ensures c.is_empty.ensures
     (subst (λ (xs : List ℕ). Reads (λ ns. ns ≡ map Aged xs) l c.in-Some.rest.now true l1 c.ages.new.unit.rest.now)
     (c.as_slice-in-Some.ensures.value ∙ c.in_ok-frames.ensures ∙ ap (λ (xs : List ℕ). take c.args.n (reverse xs)) c.as_slice.ensures.value)

@@ -17,7 +17,8 @@ pub returns-then-not-branch : goal.returns-then-not-branch
 returns-then-not-branch c = λ m w.
     let l = ledger_of c.args.book.now in
     let l1 = ledger_of c.completes.new.book in
-    ok-unlawful m w l l1 l1 (commands.Complete c.args.n) (Completes l (take c.args.n l.flight)) c.args.text.now c.in-Some.rest.now c.completes.new.unit.rest.now (complete-ok m w l c.args.n)
+    ok-unlawful m w l l1 l1 (commands.Complete c.args.n) (Completes l (take c.args.n l.flight)) c.args.text.now
+    c.in-Some.rest.now c.completes.new.unit.rest.now (complete-ok m w l c.args.n)
     c.in-Some.ensures
     (subst (λ (xs : List Slot). Reads (Completes l xs) l c.in-Some.rest.now false l1 c.completes.new.unit.rest.now)
     (c.as_slice-in-Some.ensures.value ∙ c.in_ok-slots.ensures ∙ ap (λ (xs : List Slot). take c.args.n xs) c.as_slice.ensures.value)
@@ -27,7 +28,8 @@ pub returns : goal.returns
 returns c = λ m w.
     let l = ledger_of c.args.book.now in
     let l1 = ledger_of c.completes.new.book in
-    ok-end m w l l1 (commands.Complete c.args.n) (Completes l (take c.args.n l.flight)) c.args.text.now c.in-Some.rest.now c.completes.new.unit.rest.now c.is_empty.result
+    ok-end m w l l1 (commands.Complete c.args.n) (Completes l (take c.args.n l.flight)) c.args.text.now
+    c.in-Some.rest.now c.completes.new.unit.rest.now c.is_empty.result
     (complete-ok m w l c.args.n) c.in-Some.ensures c.is_empty.ensures
     (subst (λ (xs : List Slot). Reads (Completes l xs) l c.in-Some.rest.now true l1 c.completes.new.unit.rest.now)
     (c.as_slice-in-Some.ensures.value ∙ c.in_ok-slots.ensures ∙ ap (λ (xs : List Slot). take c.args.n xs) c.as_slice.ensures.value)

@@ -15,7 +15,8 @@ returns-in-None c = λ w e.
     let m = setting_of c.args.machine.now in
     let l = ledger_of c.args.book.now in
     let sp = spared_of c.args.spared.now in
-    ok-unanswered m w l l (commands.Reclaim c.args.n) (Outcomes m sp l (from_tail c.args.n l.inactive)) c.args.text.now (reclaim-ok m w l c.args.n sp e) c.in-None.ensures
+    ok-unanswered m w l l (commands.Reclaim c.args.n) (Outcomes m sp l (from_tail c.args.n l.inactive))
+    c.args.text.now (reclaim-ok m w l c.args.n sp e) c.in-None.ensures
 
 pub returns-then-not-branch : goal.returns-then-not-branch
 returns-then-not-branch c = λ w e.
@@ -23,7 +24,8 @@ returns-then-not-branch c = λ w e.
     let l = ledger_of c.args.book.now in
     let sp = spared_of c.args.spared.now in
     let l1 = ledger_of c.outcomes.new.book in
-    ok-unlawful m w l l1 l1 (commands.Reclaim c.args.n) (Outcomes m sp l (from_tail c.args.n l.inactive)) c.args.text.now c.in-Some.rest.now c.outcomes.new.unit.rest.now (reclaim-ok m w l c.args.n sp e)
+    ok-unlawful m w l l1 l1 (commands.Reclaim c.args.n) (Outcomes m sp l (from_tail c.args.n l.inactive))
+    c.args.text.now c.in-Some.rest.now c.outcomes.new.unit.rest.now (reclaim-ok m w l c.args.n sp e)
     c.in-Some.ensures
     (subst (λ (xs : List ℕ). Reads (Outcomes m sp l xs) l c.in-Some.rest.now false l1 c.outcomes.new.unit.rest.now)
     (c.as_slice-in-Some.ensures.value ∙ c.in_ok-frames.ensures ∙ ap (λ (xs : List ℕ). take c.args.n (reverse xs)) c.as_slice.ensures.value)
@@ -35,7 +37,8 @@ returns c = λ w e.
     let l = ledger_of c.args.book.now in
     let sp = spared_of c.args.spared.now in
     let l1 = ledger_of c.outcomes.new.book in
-    ok-end m w l l1 (commands.Reclaim c.args.n) (Outcomes m sp l (from_tail c.args.n l.inactive)) c.args.text.now c.in-Some.rest.now c.outcomes.new.unit.rest.now c.is_empty.result
+    ok-end m w l l1 (commands.Reclaim c.args.n) (Outcomes m sp l (from_tail c.args.n l.inactive))
+    c.args.text.now c.in-Some.rest.now c.outcomes.new.unit.rest.now c.is_empty.result
     (reclaim-ok m w l c.args.n sp e) c.in-Some.ensures c.is_empty.ensures
     (subst (λ (xs : List ℕ). Reads (Outcomes m sp l xs) l c.in-Some.rest.now true l1 c.outcomes.new.unit.rest.now)
     (c.as_slice-in-Some.ensures.value ∙ c.in_ok-frames.ensures ∙ ap (λ (xs : List ℕ). take c.args.n (reverse xs)) c.as_slice.ensures.value)

@@ -23,8 +23,8 @@ returns c =
     let l1 = ledger_of c.seeks.new.book in
     let l2 = ledger_of c.loads.new.book in
     if-ok c.loads.result
-    (λ found. Meets (IsLoaded m l1 c.args.slot) (IsUnloaded m l1) l1 c.seeks.new.unit.rest.now (fetched_of found) l2 c.loads.new.unit.rest.now)
-    (λ found. Meets (AreFetched m sp l c.args.slot) (IsUnfetched m sp l) l c.args.unit.now.rest.now (fetched_of found) l2 c.loads.new.unit.rest.now)
-    (λ found h. fetch-sought m sp l l1 l2 c.args.slot c.args.unit.now.rest.now c.seeks.new.unit.rest.now c.loads.new.unit.rest.now (fetched_of found)
+    (λ value. Meets (IsLoaded m l1 c.args.slot) (IsUnloaded m l1) l1 c.seeks.new.unit.rest.now (fetched_of value) l2 c.loads.new.unit.rest.now)
+    (λ value. Meets (AreFetched m sp l c.args.slot) (IsUnfetched m sp l) l c.args.unit.now.rest.now (fetched_of value) l2 c.loads.new.unit.rest.now)
+    (λ value h. fetch-sought m sp l l1 l2 c.args.slot c.args.unit.now.rest.now c.seeks.new.unit.rest.now c.loads.new.unit.rest.now (fetched_of value)
     (reads-is _ _ _ _ _ c.in_ok-seeks.field-0 true c.if-not-branch.false c.in_ok-seeks.ensures) h)
     c.loads.ensures

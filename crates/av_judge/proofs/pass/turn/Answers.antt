@@ -26,10 +26,10 @@ returns-in-Some c =
     let f = c.args.frame in
     let l1 = ledger_of c.unmaps.new.book in
     if-ok c.frees.result
-    (λ found. Gets (IsTurnEnd c.in-Some.slot c.in-Some.dirty) l1 c.unmaps.new.unit.rest.now found (ledger_of c.frees.new.book) c.frees.new.unit.rest.now)
-    (λ found. Gets (IsTurn m sp l f) l c.args.unit.now.rest.now found (ledger_of c.frees.new.book) c.frees.new.unit.rest.now)
-    (λ found h. gets-then (IsTurn m sp l f) (Unmaps m sp l f) IsEnded l l1 (ledger_of c.frees.new.book) c.args.unit.now.rest.now
-    c.unmaps.new.unit.rest.now c.frees.new.unit.rest.now (c.in-Some.slot, c.in-Some.dirty) found (turn-parts m sp l f)
+    (λ value. Gets (IsTurnEnd c.in-Some.slot c.in-Some.dirty) l1 c.unmaps.new.unit.rest.now value (ledger_of c.frees.new.book) c.frees.new.unit.rest.now)
+    (λ value. Gets (IsTurn m sp l f) l c.args.unit.now.rest.now value (ledger_of c.frees.new.book) c.frees.new.unit.rest.now)
+    (λ value h. gets-then (IsTurn m sp l f) (Unmaps m sp l f) IsEnded l l1 (ledger_of c.frees.new.book) c.args.unit.now.rest.now
+    c.unmaps.new.unit.rest.now c.frees.new.unit.rest.now (c.in-Some.slot, c.in-Some.dirty) value (turn-parts m sp l f)
     (gets-is (Unmaps m sp l f) _ _ _ _ c.in_ok-unmaps.field-0 (Some (c.in-Some.slot, c.in-Some.dirty)) c.in-Some.is c.in_ok-unmaps.ensures)
     (λ a g e. h))
     c.frees.ensures

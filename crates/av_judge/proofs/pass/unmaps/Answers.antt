@@ -26,7 +26,7 @@ returns-then-not-branch c =
     let sp = spared_of c.args.spared.now in
     let l = ledger_of c.args.book.now in
     let f = c.args.frame in
-    let x = c.in-Some.found in
+    let x = c.in-Some.place in
     let l1 = ledger_of c.goes_to.new.book in
     let due : not (c.maps-due.result == 0) ≡ not (map_count l1 f == 0) = ap (λ (n : ℕ). not (n == 0)) c.maps-due.ensures in
     gets-then (Unmaps m sp l f) (GoesTo m sp l f) (IsUnmapped l f) l l1
@@ -36,7 +36,8 @@ returns-then-not-branch c =
     (λ a g e. gets-none (λ ns. ns ≡ when (not (c.maps-due.result == 0)) (Unmapped f)) (IsUnmapped l f x a) l1 (ledger_of c.reads_when.new.book)
     (ledger_of c.reads_when.new.book) c.goes_to.new.unit.rest.now c.reads_when.new.unit.rest.now c.reads_when.new.unit.rest.now
     (λ y ns h. h.1 ∙ ap (λ (n : Ledger). when (not (map_count n f == 0)) (Unmapped f)) (sym e) ∙ ap (λ b. when b (Unmapped f)) (sym due))
-    (reads-is (λ ns. ns ≡ when (not (c.maps-due.result == 0)) (Unmapped f)) _ _ _ _ c.in_ok-reads_when-in-Some.field-0 false c.if-not-branch.true c.in_ok-reads_when-in-Some.ensures))
+    (reads-is (λ ns. ns ≡ when (not (c.maps-due.result == 0)) (Unmapped f)) _ _ _ _ c.in_ok-reads_when-in-Some.field-0
+    false c.if-not-branch.true c.in_ok-reads_when-in-Some.ensures))
 
 pub returns-else-not-branch : goal.returns-else-not-branch
 returns-else-not-branch c =
@@ -44,7 +45,7 @@ returns-else-not-branch c =
     let sp = spared_of c.args.spared.now in
     let l = ledger_of c.args.book.now in
     let f = c.args.frame in
-    let x = c.in-Some.found in
+    let x = c.in-Some.place in
     let l1 = ledger_of c.goes_to.new.book in
     let due : not (c.maps-due.result == 0) ≡ not (map_count l1 f == 0) = ap (λ (n : ℕ). not (n == 0)) c.maps-due.ensures in
     gets-then (Unmaps m sp l f) (GoesTo m sp l f) (IsUnmapped l f) l l1
@@ -54,4 +55,5 @@ returns-else-not-branch c =
     (λ a g e. gets-read (λ ns. ns ≡ when (not (c.maps-due.result == 0)) (Unmapped f)) (IsUnmapped l f x a) l1 (ledger_of c.reads_when.new.book)
     c.goes_to.new.unit.rest.now c.reads_when.new.unit.rest.now x
     (λ ns h. (refl, h ∙ ap (λ b. when b (Unmapped f)) due ∙ ap (λ (n : Ledger). when (not (map_count n f == 0)) (Unmapped f)) e))
-    (reads-is (λ ns. ns ≡ when (not (c.maps-due.result == 0)) (Unmapped f)) _ _ _ _ c.in_ok-reads_when-in-Some.field-0 true c.if-not-branch.false c.in_ok-reads_when-in-Some.ensures))
+    (reads-is (λ ns. ns ≡ when (not (c.maps-due.result == 0)) (Unmapped f)) _ _ _ _ c.in_ok-reads_when-in-Some.field-0
+    true c.if-not-branch.false c.in_ok-reads_when-in-Some.ensures))

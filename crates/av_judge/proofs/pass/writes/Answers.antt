@@ -18,10 +18,11 @@ returns-then-not-branch c =
 pub returns : goal.returns
 returns c =
     if-ok c.ending.result
-    (λ found. Gets (IsEnd c.args.slot) (ledger_of c.reads.new.book) c.reads.new.unit.rest.now found (ledger_of c.ending.new.book) c.ending.new.unit.rest.now)
-    (λ found. Gets (AreWriteNotes c.args.slot) (ledger_of c.args.book.now) c.args.unit.now.rest.now found (ledger_of c.ending.new.book) c.ending.new.unit.rest.now)
-    (λ found h. to-then (AreWriteNotes c.args.slot) (λ ns. ns ≡ Started c.args.slot ∷ []) (λ _. IsEnd c.args.slot)
+    (λ value. Gets (IsEnd c.args.slot) (ledger_of c.reads.new.book) c.reads.new.unit.rest.now value (ledger_of c.ending.new.book) c.ending.new.unit.rest.now)
+    (λ value. Gets (AreWriteNotes c.args.slot) (ledger_of c.args.book.now) c.args.unit.now.rest.now value
+    (ledger_of c.ending.new.book) c.ending.new.unit.rest.now)
+    (λ value h. to-then (AreWriteNotes c.args.slot) (λ ns. ns ≡ Started c.args.slot ∷ []) (λ _. IsEnd c.args.slot)
     (ledger_of c.args.book.now) (ledger_of c.reads.new.book) (ledger_of c.ending.new.book) c.args.unit.now.rest.now
-    c.reads.new.unit.rest.now c.ending.new.unit.rest.now found (writes-parts c.args.slot)
+    c.reads.new.unit.rest.now c.ending.new.unit.rest.now value (writes-parts c.args.slot)
     (reads-is _ _ _ _ _ c.in_ok-reads.field-0 true c.if-not-branch.false c.in_ok-reads.ensures.reads) (λ a f e. h))
     c.ending.ensures

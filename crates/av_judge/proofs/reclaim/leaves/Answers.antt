@@ -26,7 +26,8 @@ returns-in-Some c =
     let f = c.args.frame in
     let l1 = ledger_of c.unmaps.new.book in
     if-ok c.starts.result
-    (λ read. Reads (λ ns. ns ≡ behind_of f c.in-Some.slot c.in-Some.dirty) l1 c.unmaps.new.unit.rest.now read (ledger_of c.starts.new.book) c.starts.new.unit.rest.now)
+    (λ read. Reads (λ ns. ns ≡ behind_of f c.in-Some.slot c.in-Some.dirty) l1 c.unmaps.new.unit.rest.now
+    read (ledger_of c.starts.new.book) c.starts.new.unit.rest.now)
     (λ read. Reads (Leaves m sp l f) l c.args.unit.now.rest.now read (ledger_of c.starts.new.book) c.starts.new.unit.rest.now)
     (λ read h. from-then (Leaves m sp l f) (Unmaps m sp l f) (λ x a ns. ns ≡ behind_of f x.0 x.1) l l1 (ledger_of c.starts.new.book) c.args.unit.now.rest.now
     c.unmaps.new.unit.rest.now c.starts.new.unit.rest.now (c.in-Some.slot, c.in-Some.dirty) read (leaves-parts m sp l f)

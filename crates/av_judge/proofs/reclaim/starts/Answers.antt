@@ -29,7 +29,8 @@ returns c =
     if-ok c.reads-3.result
     (λ read. Reads (λ ns. ns ≡ Kept f WriteStarted ∷ []) l1 c.reads-2.new.unit.rest.now read l2 c.reads-3.new.unit.rest.now)
     (λ read. Reads (λ ns. ns ≡ behind_of f s c.args.dirty) l c.args.unit.now.rest.now read l2 c.reads-3.new.unit.rest.now)
-    (λ read h. subst (λ (d : Bool). Reads (λ ns. ns ≡ behind_of f s d) l c.args.unit.now.rest.now read l2 c.reads-3.new.unit.rest.now) (sym c.if-not-dirty.false)
+    (λ read h. subst (λ (d : Bool). Reads (λ ns. ns ≡ behind_of f s d) l c.args.unit.now.rest.now read l2 c.reads-3.new.unit.rest.now)
+    (sym c.if-not-dirty.false)
     (reads-then (λ ns. ns ≡ (Started s ∷ []) ++ (Kept f WriteStarted ∷ [])) (λ ns. ns ≡ Started s ∷ []) (λ _ ns. ns ≡ Kept f WriteStarted ∷ [])
     l l1 l2 c.args.unit.now.rest.now c.reads-2.new.unit.rest.now c.reads-3.new.unit.rest.now read (both-notes (Started s ∷ []) (Kept f WriteStarted ∷ []))
     (reads-is _ _ _ _ _ c.in_ok-reads.field-0 true c.if-not-branch.false c.in_ok-reads.ensures.reads) (λ a g e. h)))

@@ -13,7 +13,7 @@ returns-clause-right c = λ w l at.
     let unit = c.args.unit.now in
     let legal = c.in_ok-legal.legal in
     let new : Auditor = record c.args.self.now { memories = c.is_legal.new.memories; book = c.is_legal.new.book } in
-    subst (λ verdict. IsRight m w l command unit verdict new) (sym c.said.ensures)
+    subst (λ verdict. IsRight m w l command unit verdict new) (sym c.to_verdict.ensures)
     (left-right m w l command unit legal new refl at.sound
     (subst (λ l. IsLeft m w l command unit legal new.memories new.book) (sym at.ledger)
     (c.in_ok-legal.ensures w at.world (subst (AllSound m w) at.ledger at.sound))))

@@ -14,8 +14,8 @@ use Rattle.av_audit_input.specs.Trace.{AreSaid, IsTraceLine, mark}
 use Rattle.av_replay.specs.Replay.{Transcribes}
 use Rattle.av_replay.specs.Turn.{Commands}
 
-abbrev said_by : Option Exchange → Option Command
-said_by did = option_map (λ (e : Exchange). e.command) did
+abbrev command_by : Option Exchange → Option Command
+command_by did = option_map (λ (e : Exchange). e.command) did
 
 abbrev pub commands_of : List Exchange → List Command
 commands_of es = map (λ (e : Exchange). e.command) es
@@ -25,28 +25,28 @@ unfolding after command_of
 mark-none = refl
 
 -- the mark is no line of a trace
-mark-is-none : (said : Option Command) → Says mark said → ⊥
-mark-is-none said says = says_is mark said says refl mark-none
+mark-is-none : (command : Option Command) → Says mark command → ⊥
+mark-is-none command says = says_is mark command says refl mark-none
 
 pub unmarked : (lines : List (List ℕ)) (es : List Exchange) → AllByRecursion IsLine lines → Transcribes lines es
     → AllByRecursion IsTraceLine lines
 unmarked [] es all did = tt
 unmarked (line ∷ lines) es all did = (
-  record { is_line = all.0; unmarked = λ is. mark-is-none (said_by did.0) (subst (λ l. Says l (said_by did.0)) is did.3) },
+  record { is_line = all.0; unmarked = λ is. mark-is-none (command_by did.0) (subst (λ l. Says l (command_by did.0)) is did.3) },
   unmarked lines did.1 all.1 did.4,
 )
 
 -- a line says one thing, so the commands are these
 pub same-commands : (lines : List (List ℕ)) (es : List Exchange) (cs : List Command) → Transcribes lines es → AreSaid lines cs
     → cs ≡ commands_of es
-same-commands [] es cs did said = said ∙ sym (ap commands_of did)
-same-commands (line ∷ lines) es cs did said =
-    let one = says_one line said.0 (said_by did.0) said.3 did.3 in
-    let rest = same-commands lines did.1 said.1 did.4 said.4 in
-    said.2 ∙ (λ i. option_to_list (one i) ++ rest i) ∙ by did.0 did.1 ∙ sym (ap commands_of did.2)
+same-commands [] es cs did says = says ∙ sym (ap commands_of did)
+same-commands (line ∷ lines) es cs did says =
+    let one = says_one line says.0 (command_by did.0) says.3 did.3 in
+    let rest = same-commands lines did.1 says.1 did.4 says.4 in
+    says.2 ∙ (λ i. option_to_list (one i) ++ rest i) ∙ by did.0 did.1 ∙ sym (ap commands_of did.2)
   where
     by : (did : Option Exchange) (others : List Exchange)
-        → option_to_list (said_by did) ++ commands_of others ≡ commands_of (option_to_list did ++ others)
+        → option_to_list (command_by did) ++ commands_of others ≡ commands_of (option_to_list did ++ others)
     by None others = refl
     by (Some e) others = refl
 
@@ -73,6 +73,6 @@ no-more (line ∷ lines) es did =
 
 -- each line says something
 pub says-some : (front : List (List ℕ)) (line : List ℕ) (others : List (List ℕ)) (es : List Exchange) → Transcribes (front ++ line ∷ others) es
-    → (said : Option Command) × Says line said
-says-some [] line others es did = (said_by did.0, did.3)
+    → (command : Option Command) × Says line command
+says-some [] line others es did = (command_by did.0, did.3)
 says-some (x ∷ front) line others es did = says-some front line others did.1 did.4

@@ -1,5 +1,6 @@
 -- What is found of units is found of all of them, and of none two things.
-use Rattle.std.proofs.Common.{◌≡◌, ℕ, suc, ◌+◌, Bool, true, false, List, [], ◌∷◌, ◌++◌, ◌⊎◌, length, length-append, Option, Some, None, refl, sym, ap, subst, ◌∙◌}
+use Rattle.std.proofs.Common.{◌≡◌, ℕ, suc, ◌+◌, Bool, true, false, List, [], ◌∷◌, ◌++◌, ◌⊎◌, length, length-append, Option, Some, None}
+use Rattle.std.proofs.Common.{refl, sym, ap, subst, ◌∙◌}
 use Rattle.std.proofs.Common.{arith, append-nil, append_assoc, inl, inr}
 use Rattle.std.specs.Prelude.{IfSome, unwrap_or}
 use Rattle.av_io.specs.Source.{Took, in_front}
@@ -14,7 +15,7 @@ use Rattle.av_audit_input.specs.Trace.{EndsTrace}
 use Rattle.av_audit_input.specs.Unit.{bytes_of, units_of}
 use Rattle.av_audit_run.specs.declared.transcript.Finding.{Finding}
 use Rattle.av_audit_run.specs.declared.transcript.Finding.TheVariants as findings
-use Rattle.av_audit_run.specs.Transcript.{AreLegal, Audits, Finds, IsAuditOf, IsFoundOf, IsFront, IsWrong, StopsAt}
+use Rattle.av_audit_run.specs.Transcript.{AreLegal, Audits, FindsIn, IsAuditOf, IsFinding, IsFront, IsWrong, StopsAt}
 
 -- what the others are legal from
 behind : (m : Setting) (w : World) (l : Ledger) (done others : List Command) (legal rest : List (List ℕ)) (w1 w' : World) (l1 l' : Ledger)
@@ -134,11 +135,11 @@ wrong-longer : (m : Setting) (more : List (List ℕ)) (w : World) (l : Ledger) (
 wrong-longer m more w l [] u us h = h
 wrong-longer m more w l (c ∷ others) u us h = h
 
-found-all : (finding : Finding) (m : Setting) (commands : List Command) (units more : List (List ℕ)) (Ended : Type 0) → (Ended → more ≡ [])
-    → Finds finding m commands units Ended → IsFoundOf finding m commands (units ++ more)
-found-all findings.Legal m commands units more Ended none h =
+finds-all : (finding : Finding) (m : Setting) (commands : List Command) (units more : List (List ℕ)) (Ended : Type 0) → (Ended → more ≡ [])
+    → FindsIn finding m commands units Ended → IsFinding finding m commands (units ++ more)
+finds-all findings.Legal m commands units more Ended none h =
     subst (AreLegal m commands) (sym (append-nil units) ∙ ap (λ us. units ++ us) (sym (none h.1))) h.0
-found-all (findings.Illegal n) m commands units more Ended none h =
+finds-all (findings.Illegal n) m commands units more Ended none h =
     stopped-more m commands units more n IsWrong (wrong-longer m more) h.0 (elim h.1 [ inl is ↦ inl is | inr ended ↦ inr (none ended) ])
 
 -- ---- an input that is told
@@ -179,7 +180,7 @@ audit-of finding m old new content h told =
       transcript = t.0;
       content_is = t.2;
       front = front-is h.ended h.trace.lines h.trace.bytes h.ahead t.0 old h.between h.trace.ends t.1;
-      found = subst (λ us. IsFoundOf finding m h.commands us) (sym (ap units_of u.2 ∙ first))
-          (found-all finding m h.commands j.units (units_of u.0) (IsEnded h.rest new)
+      finds = subst (λ us. IsFinding finding m h.commands us) (sym (ap units_of u.2 ∙ first))
+          (finds-all finding m h.commands j.units (units_of u.0) (IsEnded h.rest new)
           (λ ended. ap units_of (ended-told h.rest u.0 new u.1 ended)) j.finds);
     }
