@@ -1,0 +1,4 @@
+pub mod Marks
+pub mod Ranges
+pub mod Pieces
+pub mod Holes

@@ -1,0 +1,14 @@
+//! What is said of each page of a process, by ranges: its protection and its flags, if it is
+//! mapped.
+//!
+//! Only tested: nothing.
+#![tactic(auto)]
+
+mod holes;
+mod marks;
+mod pieces;
+mod ranges;
+mod same;
+
+pub use marks::{Change, Marks, Range};
+pub use ranges::Ranges;
