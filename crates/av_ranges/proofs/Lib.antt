@@ -1,3 +1,1 @@
-pub mod HoleLaws
-pub mod PieceLaws
-pub mod SameLaws
+pub mod SaidLaws

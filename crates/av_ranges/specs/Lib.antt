@@ -1,4 +1,2 @@
 pub mod Marks
 pub mod Ranges
-pub mod Pieces
-pub mod Holes

@@ -1,14 +1,25 @@
--- What is said of each page.
-use Rattle.std.specs.Prelude.{ℕ, ◌&&◌, Bool, List, [], ◌∷◌, Option, Some, None}
-use Rattle.std.specs.Prelude.{if◌then◌else◌, nat_le, nat_lt}
+-- What is said of each page, by the bounds at which it changes.
+use Rattle.std.specs.Prelude.{ℕ, suc, zero, List, Option, None}
+use Rattle.std.specs.BTreeMap.{is_at}
+use Rattle.std.specs.Map.{lookup}
+use Rattle.std.specs.Option.{unwrap_or}
+use Rattle.std.specs.Ordering.{nat_cmp}
 use Rattle.av_ranges.specs.declared.marks.Marks.{Marks}
-use Rattle.av_ranges.specs.declared.marks.Range.{Range}
 
--- whether the page is in the range
-abbrev pub has : Range → ℕ → Bool
-has r page = nat_le r.start page && nat_lt page r.end
+-- what stands at a page, if it is a bound
+abbrev pub bound_at : List (ℕ × Option Marks) → ℕ → Option (Option Marks)
+bound_at bounds page = lookup (is_at (nat_cmp page)) bounds
 
--- what is said of a page, by the first range that has it
-abbrev pub marks_at : List Range → ℕ → Option Marks
-marks_at [] page = None
-marks_at (r ∷ rs) page = if has r page then Some r.marks else marks_at rs page
+-- what is said of a page: what stands at it, if it is a bound, or else what is said of the page
+-- below
+unfoldable pub said : (ℕ → Option (Option Marks)) → ℕ → Option Marks
+said bound zero = unwrap_or (bound 0) None
+said bound (suc page) = unwrap_or (bound (suc page)) (said bound page)
+
+abbrev pub marks_at : List (ℕ × Option Marks) → ℕ → Option Marks
+marks_at bounds page = said (bound_at bounds) page
+
+-- what is said of the page below one
+abbrev pub marks_below : List (ℕ × Option Marks) → ℕ → Option Marks
+marks_below bounds zero = None
+marks_below bounds (suc page) = marks_at bounds page

@@ -4,11 +4,9 @@
 //! Only tested: nothing.
 #![tactic(auto)]
 
-mod holes;
+mod bounds;
 mod marks;
-mod pieces;
 mod ranges;
-mod same;
 
 pub use marks::{Change, Marks, Range};
 pub use ranges::Ranges;

@@ -1,7 +1,7 @@
 //! What is said of a page, and its changes.
 
-ghost use Rattle.std.specs.Prelude.{◌≡◌};
-ghost use Rattle.av_ranges.specs.Marks.{change_of, is_locked};
+ghost use Rattle.std.specs.Prelude.{◌≡◌, ◌≢◌, false, true};
+ghost use Rattle.av_ranges.specs.Marks.{change_of, is_locked, marks_after};
 
 use av_base::{Flag, Flags, Prot};
 
@@ -41,6 +41,55 @@ impl Change {
                 ..marks
             }),
         }
+    }
+}
+
+/// What becomes of what is said of a page: it changes, if the page is mapped, or it is this.
+#[derive(Clone, Copy, Drop)]
+pub enum Rewrite {
+    By(Change),
+    To(Marks),
+}
+
+impl Rewrite {
+    /// What is said afterwards.
+    pub fn of(self, marks: Option<Marks>) -> Option<Marks>
+        ensures { result ≡ marks_after self marks }
+    {
+        match self {
+            Rewrite::By(change) => change.of(marks?),
+            Rewrite::To(marks) => Some(marks),
+        }
+    }
+}
+
+/// Whether two protections are one.
+fn same_prot(one: Prot, other: Prot) -> bool
+    ensures same { result ≡ true → one ≡ other }
+    ensures other { result ≡ false → one ≢ other }
+{
+    one == other
+}
+
+/// Whether the same flags are set.
+fn same_flags(one: Flags, other: Flags) -> bool
+    ensures same { result ≡ true → one ≡ other }
+    ensures other { result ≡ false → one ≢ other }
+{
+    one == other
+}
+
+/// Whether the same is said of two pages.
+pub fn same(one: Option<Marks>, other: Option<Marks>) -> bool
+    ensures same { result ≡ true → one ≡ other }
+    ensures other { result ≡ false → one ≢ other }
+{
+    match (one, other) {
+        (None, None) => true,
+        (Some(one), Some(other)) => {
+            same_prot(one.prot, other.prot) && same_flags(one.flags, other.flags)
+        }
+        _ => false,
     }
 }
 

@@ -1,18 +1,16 @@
 //! What is said of each page.
 
 ghost use Rattle.std.specs.Prelude.{◌≡◌, ℕ, ◌+◌, ◌<◌, ◌≤◌, ◌^◌, Some, None, true, false};
-ghost use Rattle.std.specs.Prelude.{if◌then◌else◌, MatchOption, OnErr, OnOk, option_and_then};
-ghost use Rattle.std.specs.Prelude.{IfSome, is_some};
+ghost use Rattle.std.specs.Prelude.{if◌then◌else◌, IfSome, MatchOption, OnErr, OnOk, is_some};
+ghost use Rattle.std.specs.Prelude.{option_and_then};
 ghost use Rattle.av_base.specs.Limits.{top_page};
 ghost use Rattle.av_base.specs.Words.{within};
 ghost use Rattle.av_vma.specs.Gap.{IsGap};
 ghost use Rattle.av_ranges.specs.Marks.{change_of, is_locked};
 ghost use Rattle.av_ranges.specs.Ranges.{marks_at};
 
-use crate::holes::{end, first_met};
-use crate::marks::{Change, Marks, Range, locks};
-use crate::pieces::with_change;
-use crate::same::same_up_to;
+use crate::bounds::Bounds;
+use crate::marks::{Change, Marks, Rewrite, locks};
 use av_base::{LOW_PAGE, TOP_PAGE};
 use std::alloc::{AllocError, Global};
 use std::marker::Model;
@@ -20,18 +18,20 @@ use std::marker::Model;
 /// What is said of each page that is mapped.
 #[derive(Drop)]
 pub struct Ranges {
-    alloc: Global,
-    // Of a page that two ranges have the first one counts.
-    ranges: Vec<Range>,
+    bounds: Bounds,
 }
 
 impl Model for Ranges {
-    ghost use Rattle.std.specs.Prelude.{List};
-    ghost use Rattle.av_ranges.specs.declared.marks.Range.{Range};
+    ghost use Rattle.std.specs.Prelude.{◌≡◌, ℕ, ◌+◌, ◌≤◌, ◌^◌, List, Option, None};
+    ghost use Rattle.av_ranges.specs.declared.marks.Marks.{Marks};
+    ghost use Rattle.av_ranges.specs.Ranges.{marks_at};
 
-    ghost Value = { List Range };
+    ghost Value = { List (ℕ × Option Marks) };
 
-    ghost view = { λ a. a.ranges.items };
+    ghost view = { λ a. a.bounds };
+
+    // The last page that a number can have isn't mapped, and none above it.
+    ghost invariant = { λ a. (q : ℕ) → 2 ^ 64 ≤ q + 1 → marks_at a.bounds q ≡ None };
 }
 
 impl Ranges {
@@ -40,8 +40,7 @@ impl Ranges {
         ensures { (page : ℕ) → marks_at result page ≡ None }
     {
         Ranges {
-            alloc,
-            ranges: Vec::new(alloc),
+            bounds: Bounds::new(alloc),
         }
     }
 
@@ -49,28 +48,18 @@ impl Ranges {
     pub fn marks(&self, page: u64) -> Option<Marks>
         ensures { result ≡ marks_at self.now page }
     {
-        let mut rest = self.ranges.as_slice();
-        while let [first, others @ ..] = rest {
-            if first.start <= page && page < first.end {
-                return Some(first.marks);
-            }
-            rest = others;
-        }
-        None
+        let (_, marks) = self.bounds.run(page);
+        marks
     }
 
-    /// The next page above at which something else may be said. None where nothing is mapped from
+    /// The nearest page above at which something else is said. None where nothing is mapped from
     /// this page on.
     pub fn bound_above(&self, page: u64) -> Option<u64>
         ensures { MatchOption result ((q : ℕ) → page ≤ q → marks_at self.now q ≡ None)
             (λ next. (page < next) × ((q : ℕ) → page ≤ q → q < next
             → marks_at self.now q ≡ marks_at self.now page)) }
     {
-        let end = end(self.ranges.as_slice());
-        if page >= end {
-            return None;
-        }
-        Some(same_up_to(self.ranges.as_slice(), page, end))
+        self.bounds.next(page)
     }
 
     /// How far the same is said of each page from one on, `end` at the most.
@@ -81,7 +70,10 @@ impl Ranges {
         ensures same { (q : ℕ) → page ≤ q → q < result
             → marks_at self.now q ≡ marks_at self.now page }
     {
-        same_up_to(self.ranges.as_slice(), page, end)
+        match self.bound_above(page) {
+            None => end,
+            Some(next) => next.min(end),
+        }
     }
 
     /// What is said of n pages from one on changes. Without memory all stays.
@@ -89,12 +81,10 @@ impl Ranges {
         requires { from + n < 2 ^ 64 }
         ensures ok { OnOk result ((page : ℕ) → marks_at self.new page
             ≡ (if within from n page then option_and_then (change_of change) (marks_at self.old page)
-            else marks_at self.old page)) }
+              else marks_at self.old page)) }
         ensures err { OnErr result ((page : ℕ) → marks_at self.new page ≡ marks_at self.old page) }
     {
-        let ranges = with_change(self.alloc, self.ranges.as_slice(), from, from + n, change)?;
-        self.ranges = ranges;
-        Ok(())
+        self.bounds.rewrite(from, n, Rewrite::By(change))
     }
 
     /// n pages from one on are mapped, and this is said of them. Without memory all stays.
@@ -104,15 +94,7 @@ impl Ranges {
             ≡ (if within from n page then Some marks else marks_at self.old page)) }
         ensures err { OnErr result ((page : ℕ) → marks_at self.new page ≡ marks_at self.old page) }
     {
-        let end = from + n;
-        let mut ranges = with_change(self.alloc, self.ranges.as_slice(), from, end, Change::Unmap)?;
-        ranges.push(Range {
-            start: from,
-            end,
-            marks,
-        })?;
-        self.ranges = ranges;
-        Ok(())
+        self.bounds.rewrite(from, n, Rewrite::To(marks))
     }
 
     /// Whether a page is locked.
@@ -137,18 +119,18 @@ impl Ranges {
         ensures fits { IfSome result (λ page. page + n ≤ top_page) }
         ensures gap { IsGap (λ page. is_some (marks_at self.now page)) n result }
     {
-        let mut from = TOP_PAGE - n;
-        while from >= LOW_PAGE {
-            match first_met(self.ranges.as_slice(), from, n) {
-                None => return Some(from),
-                Some(met) => {
-                    if met < n {
-                        return None;
-                    }
-                    from = met - n;
-                }
+        let mut end = TOP_PAGE;
+        let mut hole = TOP_PAGE;
+        while end - hole < n {
+            if hole <= LOW_PAGE {
+                return None;
+            }
+            let (start, marks) = self.bounds.run(hole - 1);
+            hole = start.max(LOW_PAGE);
+            if marks.is_some() {
+                end = hole;
             }
         }
-        None
+        Some(end - n)
     }
 }
