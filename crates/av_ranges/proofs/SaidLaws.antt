@@ -1,5 +1,5 @@
 -- What is said of a page, by the bounds below it.
-use Rattle.std.proofs.Common.{◌≡◌, ℕ, zero, suc, ◌+◌, ◌-◌, ◌<◌, ◌≤◌, ◌^◌, Bool, true, false, cond, ◌&&◌, nat_le, nat_lt, Option, Some, None, is_some, List, refl, sym, ap, subst, ◌∙◌, arith}
+use Rattle.std.proofs.Common.{◌≡◌, ◌≢◌, ℕ, zero, suc, ◌+◌, ◌-◌, ◌<◌, ◌≤◌, ◌^◌, Bool, true, false, cond, ◌&&◌, nat_le, nat_lt, Option, Some, None, is_some, List, refl, sym, ap, subst, ◌∙◌, arith}
 use Rattle.std.specs.Prelude.{MatchOption, max}
 use Rattle.std.specs.BTreeMap.{is_at}
 use Rattle.std.proofs.lemmas.Bool.Decides.{nat_tests}
@@ -9,16 +9,11 @@ use Rattle.std.proofs.lemmas.Map.Lookups.{exact_unsigned}
 use Rattle.std.proofs.lemmas.Map.Views.{tells_apart}
 use Rattle.std.proofs.lemmas.Map.Keys.{ge_from_not_lt, le_from_not_gt}
 use Rattle.av_vma.specs.Gap.{IsRoom}
-use Rattle.av_ranges.specs.Ranges.{bound_at, said, marks_at, marks_below}
+use Rattle.av_ranges.specs.Ranges.{AreRanges, IsTightAt, bound_at, marks_at, marks_below, said, said_below}
 use Rattle.av_ranges.specs.declared.marks.Marks.{Marks}
 
 abbrev pub Bound : Type 0
 Bound = ℕ → Option (Option Marks)
-
--- what is said of the page below one
-abbrev pub said_below : Bound → ℕ → Option Marks
-said_below f zero = None
-said_below f (suc p) = said f p
 
 pub said-step : (f : Bound) (p : ℕ) → said f p ≡ unwrap_or (f p) (said_below f p)
 unfolding said
@@ -30,10 +25,6 @@ said-at f p v is = said-step f p ∙ ap (λ o. unwrap_or o (said_below f p)) is
 
 pub said-up : (f : Bound) (p : ℕ) → f p ≡ None → said f p ≡ said_below f p
 said-up f p is = said-step f p ∙ ap (λ o. unwrap_or o (said_below f p)) is
-
-pub below-is : (bounds : List (ℕ × Option Marks)) (p : ℕ) → marks_below bounds p ≡ said_below (bound_at bounds) p
-below-is bounds zero = refl
-below-is bounds (suc p) = refl
 
 -- ---- by the same bounds
 
@@ -200,17 +191,28 @@ IsNext bounds page next = MatchOption next ((q : ℕ) → page < q → bound_at 
 
 abbrev pub IsBoundAbove : List (ℕ × Option Marks) → ℕ → Option ℕ → Type 0
 IsBoundAbove bounds page next = MatchOption next ((q : ℕ) → page ≤ q → marks_at bounds q ≡ None)
-    (λ next. (page < next) × ((q : ℕ) → page ≤ q → q < next → marks_at bounds q ≡ marks_at bounds page))
+    (λ next. (page < next) × ((q : ℕ) → page ≤ q → q < next → marks_at bounds q ≡ marks_at bounds page)
+    × (marks_at bounds next ≢ marks_at bounds page))
 
--- where nothing is mapped at the top, the next bound is where something else may be said
-pub next-above : (bounds : List (ℕ × Option Marks)) (page : ℕ) (next : Option ℕ)
-    → ((q : ℕ) → 2 ^ 64 ≤ q + 1 → marks_at bounds q ≡ None) → IsNext bounds page next → IsBoundAbove bounds page next
-next-above bounds page None top none = λ q low.
+-- the next bound is where something else is said
+pub next-above : (bounds : List (ℕ × Option Marks)) (page : ℕ) (next : Option ℕ) → AreRanges bounds → IsNext bounds page next → IsBoundAbove bounds page next
+next-above bounds page None are none = λ q low.
     said-run (bound_at bounds) page q low (λ p a b. none p a)
     ∙ sym (said-run (bound_at bounds) page (page + 2 ^ 64) (omega arith) (λ p a b. none p a))
-    ∙ top (page + 2 ^ 64) (omega arith)
-next-above bounds page (Some next) top h =
-    (h.0, λ q low high. said-run (bound_at bounds) page q low (λ p a b. h.2 p a (omega (arith, b, high))))
+    ∙ are.top (page + 2 ^ 64) (omega arith)
+next-above bounds page (Some next) are h = (
+  h.0,
+  λ q low high. said-run (bound_at bounds) page q low (λ p a b. h.2 p a (omega (arith, b, high))),
+  λ same. at (bound_at bounds next) refl h.1 same,
+)
+  where
+    at : (o : Option (Option Marks)) → bound_at bounds next ≡ o → IsSome o → marks_at bounds next ≡ marks_at bounds page → ⊥
+    at None is some same = absurd (none-some some)
+      where
+        none-some : false ≡ true → ⊥
+        none-some e = cc
+    at (Some v) is some same =
+        are.tight next (is ∙ ap Some (sym (said-at (bound_at bounds) next v is) ∙ same ∙ sym (below-run (bound_at bounds) page next h.0 h.2)))
 
 -- ---- holes
 
@@ -245,3 +247,83 @@ next-bound f g next end most same some last = by (nat_lt next end) refl
         let above = lt-not next end is in
         let here : end ≡ next = omega (arith, above, most) in
         subst (λ q. IsSome (f q)) here last
+
+-- ---- bounds at which nothing changes
+
+-- where the bounds up to a page are the same, one is tight as it was
+tight-same : (a b : List (ℕ × Option Marks)) (page : ℕ) → ((q : ℕ) → q ≤ page → bound_at b q ≡ bound_at a q) → IsTightAt a page → IsTightAt b page
+tight-same a b page same tight = λ is. tight
+    (sym (same page (omega arith)) ∙ is ∙ ap Some (below-same (bound_at b) (bound_at a) page (λ q low. same q (omega (arith, low)))))
+
+-- and where the same is said of each page
+tight-said : (a b : List (ℕ × Option Marks)) (page : ℕ) → bound_at b page ≡ bound_at a page → ((q : ℕ) → marks_at b q ≡ marks_at a q)
+    → IsTightAt a page → IsTightAt b page
+tight-said a b page same said tight = λ is. tight (sym same ∙ is ∙ ap Some (below page))
+  where
+    below : (page : ℕ) → marks_below b page ≡ marks_below a page
+    below zero = refl
+    below (suc page) = said page
+
+pub tight-none : (b : List (ℕ × Option Marks)) (page : ℕ) → bound_at b page ≡ None → IsTightAt b page
+tight-none b page none = λ is. no (sym none ∙ is)
+  where
+    no : {X : Type 0} {x : X} → None ≡ Some x → ⊥
+    no e = cc
+
+-- no bound stands in vain from a page on, up to the next bound
+pub tight-step : (now new : List (ℕ × Option Marks)) (from at next : ℕ)
+    → ((q : ℕ) → from ≤ q → q < at → IsTightAt now q) → IsTightAt new at
+    → ((q : ℕ) → q ≢ at → bound_at new q ≡ bound_at now q) → ((q : ℕ) → at < q → q < next → bound_at now q ≡ None)
+    → (q : ℕ) → from ≤ q → q < next → IsTightAt new q
+tight-step now new from at next done here others none q low high = by (nat_lt q at) (nat_lt at q) refl refl
+  where
+    by : (s t : Bool) → nat_lt q at ≡ s → nat_lt at q ≡ t → IsTightAt new q
+    by true t is more =
+        let less = lt-is q at is in
+        tight-same now new q (λ p h. others p (λ e. omega (arith, e, h, less))) (done q low less)
+    by false true is more =
+        let above = lt-is at q more in
+        tight-none new q (others q (λ e. omega (arith, e, above)) ∙ none q above high)
+    by false false is more =
+        let a = lt-not q at is in
+        let b = lt-not at q more in
+        let same : at ≡ q = omega (arith, a, b) in
+        subst (IsTightAt new) same here
+
+-- nor once both ends were bounds, and the last one is looked at
+pub tight-all : (old cut done new : List (ℕ × Option Marks)) (from end : ℕ) → from ≤ end
+    → ((q : ℕ) → IsTightAt old q) → IsSome (bound_at cut end)
+    → ((q : ℕ) → q ≢ from → q ≢ end → bound_at cut q ≡ bound_at old q) → ((q : ℕ) → marks_at cut q ≡ marks_at old q)
+    → ((q : ℕ) → q < from → bound_at done q ≡ bound_at cut q) → ((q : ℕ) → from ≤ q → q < end → IsTightAt done q)
+    → ((q : ℕ) → end ≤ q → bound_at done q ≡ bound_at cut q)
+    → ((q : ℕ) → q ≢ end → bound_at new q ≡ bound_at done q) → ((q : ℕ) → marks_at new q ≡ marks_at done q) → IsTightAt new end
+    → (q : ℕ) → IsTightAt new q
+tight-all old cut done new from end order tight some same said before between above others joins last q =
+    by (nat_lt q from) (nat_lt q end) (nat_lt end q) refl refl refl
+  where
+    kept : (q : ℕ) → q ≢ from → q ≢ end → IsTightAt cut q
+    kept q a b = tight-said old cut q (same q a b) said (tight q)
+
+    -- above the end the same is said as before
+    after : (q : ℕ) → end < q → marks_below done q ≡ marks_below cut q
+    after zero low = absurd (omega (arith, low))
+    after (suc p) low = said-above (bound_at cut) (bound_at done) end some above p (omega (arith, low))
+
+    by : (s t u : Bool) → nat_lt q from ≡ s → nat_lt q end ≡ t → nat_lt end q ≡ u → IsTightAt new q
+    by true t u is inn more =
+        let less = lt-is q from is in
+        tight-said done new q (others q (λ e. omega (arith, e, less, order))) joins
+        (tight-same cut done q (λ p h. before p (omega (arith, h, less))) (kept q (λ e. omega (arith, e, less)) (λ e. omega (arith, e, less, order))))
+    by false true u is inn more =
+        let less = lt-is q end inn in
+        tight-said done new q (others q (λ e. omega (arith, e, less))) joins (between q (lt-not q from is) less)
+    by false false true is inn more =
+        let high = lt-is end q more in
+        tight-said done new q (others q (λ e. omega (arith, e, high))) joins
+        (λ is. kept q (λ e. omega (arith, e, high, order)) (λ e. omega (arith, e, high))
+        (sym (above q (omega (arith, high))) ∙ is ∙ ap Some (after q high)))
+    by false false false is inn more =
+        let a = lt-not q end inn in
+        let b = lt-not end q more in
+        let here : end ≡ q = omega (arith, a, b) in
+        subst (IsTightAt new) here last

@@ -1,5 +1,5 @@
 -- What is said of each page, by the bounds at which it changes.
-use Rattle.std.specs.Prelude.{ℕ, suc, zero, List, Option, None}
+use Rattle.std.specs.Prelude.{◌≡◌, ◌≢◌, ℕ, suc, zero, ◌+◌, ◌^◌, ◌≤◌, List, Option, Some, None}
 use Rattle.std.specs.BTreeMap.{is_at}
 use Rattle.std.specs.Map.{lookup}
 use Rattle.std.specs.Option.{unwrap_or}
@@ -16,10 +16,23 @@ unfoldable pub said : (ℕ → Option (Option Marks)) → ℕ → Option Marks
 said bound zero = unwrap_or (bound 0) None
 said bound (suc page) = unwrap_or (bound (suc page)) (said bound page)
 
+-- what is said of the page below one
+abbrev pub said_below : (ℕ → Option (Option Marks)) → ℕ → Option Marks
+said_below bound zero = None
+said_below bound (suc page) = said bound page
+
 abbrev pub marks_at : List (ℕ × Option Marks) → ℕ → Option Marks
 marks_at bounds page = said (bound_at bounds) page
 
--- what is said of the page below one
 abbrev pub marks_below : List (ℕ × Option Marks) → ℕ → Option Marks
-marks_below bounds zero = None
-marks_below bounds (suc page) = marks_at bounds page
+marks_below bounds page = said_below (bound_at bounds) page
+
+-- at a bound something else is said than of the page below
+abbrev pub IsTightAt : List (ℕ × Option Marks) → ℕ → Type 0
+IsTightAt bounds page = bound_at bounds page ≢ Some (marks_below bounds page)
+
+-- of a process's pages: those at the top of what a number can say aren't mapped, and no bound stands
+-- where nothing changes
+pub record AreRanges (bounds : List (ℕ × Option Marks)) : Type 0 where
+  pub top : (page : ℕ) → 2 ^ 64 ≤ page + 1 → marks_at bounds page ≡ None
+  pub tight : (page : ℕ) → IsTightAt bounds page

@@ -4,7 +4,7 @@ ghost use Rattle.std.specs.Prelude.{◌≡◌, ◌≢◌, ℕ, ◌+◌, ◌<◌,
 ghost use Rattle.std.specs.Prelude.{if◌then◌else◌, IsSome, MatchOption, OnErr, OnOk};
 ghost use Rattle.av_base.specs.Words.{within};
 ghost use Rattle.av_ranges.specs.Marks.{marks_after};
-ghost use Rattle.av_ranges.specs.Ranges.{bound_at, marks_at, marks_below};
+ghost use Rattle.av_ranges.specs.Ranges.{IsTightAt, bound_at, marks_at, marks_below};
 
 use crate::marks::{Marks, Rewrite, same};
 use std::alloc::{AllocError, Global};
@@ -77,7 +77,9 @@ impl Bounds {
     fn cut(&mut self, at: u64) -> Result<(), AllocError>
         ensures bound { OnOk result (IsSome (bound_at self.new at)) }
         ensures others { (q : ℕ) → IsSome (bound_at self.old q) → IsSome (bound_at self.new q) }
+        ensures kept { (q : ℕ) → q ≢ at → bound_at self.new q ≡ bound_at self.old q }
         ensures same { (q : ℕ) → marks_at self.new q ≡ marks_at self.old q }
+        ensures err { OnErr result (self.new ≡ self.old) }
     {
         if self.map.contains_key(&at) {
             return Ok(());
@@ -93,6 +95,7 @@ impl Bounds {
         requires bound { IsSome (bound_at self.old at) }
         requires below { below ≡ marks_below self.old at }
         ensures at { marks_at self.new at ≡ marks }
+        ensures tight { IsTightAt self.new at }
         ensures others { (q : ℕ) → q ≢ at → bound_at self.new q ≡ bound_at self.old q }
     {
         if same(below, marks) {
@@ -105,7 +108,9 @@ impl Bounds {
     /// A bound is none any more where the same is said of the page below.
     fn join(&mut self, at: u64)
         requires { IsSome (bound_at self.old at) }
-        ensures { (q : ℕ) → marks_at self.new q ≡ marks_at self.old q }
+        ensures said { (q : ℕ) → marks_at self.new q ≡ marks_at self.old q }
+        ensures tight { IsTightAt self.new at }
+        ensures others { (q : ℕ) → q ≢ at → bound_at self.new q ≡ bound_at self.old q }
     {
         let below = self.below(at);
         let (_, marks) = self.run(at);
@@ -135,6 +140,8 @@ impl Bounds {
             ≡ (if nat_le from q then marks_after rewrite (marks_at self.old q)
               else marks_at self.old q) }
         ensures above { (q : ℕ) → end ≤ q → bound_at self.new q ≡ bound_at self.old q }
+        ensures before { (q : ℕ) → q < from → bound_at self.new q ≡ bound_at self.old q }
+        ensures tight { (q : ℕ) → from ≤ q → q < end → IsTightAt self.new q }
     {
         let mut at = from;
         let mut below = self.below(from);
@@ -155,6 +162,7 @@ impl Bounds {
             ≡ (if within from n q then marks_after rewrite (marks_at self.old q)
               else marks_at self.old q)) }
         ensures err { OnErr result ((q : ℕ) → marks_at self.new q ≡ marks_at self.old q) }
+        ensures tight { ((q : ℕ) → IsTightAt self.old q) → (q : ℕ) → IsTightAt self.new q }
     {
         let end = from + n;
         self.cut(from)?;

@@ -1,6 +1,6 @@
 //! What is said of each page.
 
-ghost use Rattle.std.specs.Prelude.{◌≡◌, ℕ, ◌+◌, ◌<◌, ◌≤◌, ◌^◌, Some, None, true, false};
+ghost use Rattle.std.specs.Prelude.{◌≡◌, ◌≢◌, ℕ, ◌+◌, ◌<◌, ◌≤◌, ◌^◌, Some, None, true, false};
 ghost use Rattle.std.specs.Prelude.{if◌then◌else◌, IfSome, MatchOption, OnErr, OnOk, is_some};
 ghost use Rattle.std.specs.Prelude.{option_and_then};
 ghost use Rattle.av_base.specs.Limits.{top_page};
@@ -22,16 +22,15 @@ pub struct Ranges {
 }
 
 impl Model for Ranges {
-    ghost use Rattle.std.specs.Prelude.{◌≡◌, ℕ, ◌+◌, ◌≤◌, ◌^◌, List, Option, None};
+    ghost use Rattle.std.specs.Prelude.{ℕ, List, Option};
     ghost use Rattle.av_ranges.specs.declared.marks.Marks.{Marks};
-    ghost use Rattle.av_ranges.specs.Ranges.{marks_at};
+    ghost use Rattle.av_ranges.specs.Ranges.{AreRanges};
 
     ghost Value = { List (ℕ × Option Marks) };
 
     ghost view = { λ a. a.bounds };
 
-    // The last page that a number can have isn't mapped, and none above it.
-    ghost invariant = { λ a. (q : ℕ) → 2 ^ 64 ≤ q + 1 → marks_at a.bounds q ≡ None };
+    ghost invariant = { λ a. AreRanges a.bounds };
 }
 
 impl Ranges {
@@ -57,7 +56,8 @@ impl Ranges {
     pub fn bound_above(&self, page: u64) -> Option<u64>
         ensures { MatchOption result ((q : ℕ) → page ≤ q → marks_at self.now q ≡ None)
             (λ next. (page < next) × ((q : ℕ) → page ≤ q → q < next
-            → marks_at self.now q ≡ marks_at self.now page)) }
+            → marks_at self.now q ≡ marks_at self.now page)
+            × (marks_at self.now next ≢ marks_at self.now page)) }
     {
         self.bounds.next(page)
     }

@@ -3,7 +3,7 @@ use Rattle.std.specs.Option.{IsSome}
 use Rattle.std.proofs.lemmas.Bool.Decides.{nat_tests}
 use Rattle.av_ranges.specs.Marks.{marks_after}
 use Rattle.av_ranges.specs.Ranges.{bound_at}
-use Rattle.av_ranges.proofs.SaidLaws.{Bound, below-is, below-run, next-bound, rewrite-step}
+use Rattle.av_ranges.proofs.SaidLaws.{below-run, next-bound, rewrite-step, tight-step}
 use Rattle.av_ranges.proofs.bounds.Bounds.rewrite_between.Goals as goal
 
 pub loop-at-preserved : goal.loop-at-preserved
@@ -23,11 +23,12 @@ loop-at-preserved c =
       high = c.next_up_to-next.ensures.most;
       bound = next-bound old now next c.args.end c.next_up_to-next.ensures.most
           (rest next (omega (arith, above))) c.next_up_to-next.ensures.bound c.requires.end;
-      below = sym (below-is c.say.new.self next
-          ∙ below-run new at next above (λ q a b. others q (λ e. omega (arith, e, a)) ∙ none q a b)
+      below = sym (below-run new at next above (λ q a b. others q (λ e. omega (arith, e, a)) ∙ none q a b)
           ∙ c.say.ensures.at);
       done = rewrite-step old now new c.args.from at next (marks_after c.args.rewrite) low c.loop-at.invariant.bound rest
           c.loop-at.invariant.done none others
           (c.say.ensures.at ∙ c.of-marks.ensures ∙ ap (marks_after c.args.rewrite) c.run-old.ensures.marks);
+      before = λ q a. others q (λ e. omega (arith, e, a, low)) ∙ c.loop-at.invariant.before q a;
+      tight = tight-step c.loop-at.self c.say.new.self c.args.from at next c.loop-at.invariant.tight c.say.ensures.tight others none;
       rest = λ q a. others q (λ e. omega (arith, e, a, above)) ∙ rest q (omega (arith, a, above));
     }
