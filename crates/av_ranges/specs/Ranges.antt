@@ -1,9 +1,12 @@
 -- What is said of each page, by the bounds at which it changes.
 use Rattle.std.specs.Prelude.{◌≡◌, ◌≢◌, ℕ, suc, zero, ◌+◌, ◌^◌, ◌≤◌, List, Option, Some, None}
 use Rattle.std.specs.BTreeMap.{is_at}
-use Rattle.std.specs.Map.{lookup}
+use Rattle.std.specs.List.{count_by}
+use Rattle.std.specs.List.Sorted.{IsStrictlySortedBy}
+use Rattle.std.specs.Map.{keys_of, lookup, values_of}
 use Rattle.std.specs.Option.{unwrap_or}
 use Rattle.std.specs.Ordering.{nat_cmp}
+use Rattle.av_ranges.specs.Marks.{is_locked}
 use Rattle.av_ranges.specs.declared.marks.Marks.{Marks}
 
 -- what stands at a page, if it is a bound
@@ -30,6 +33,15 @@ marks_below bounds page = said_below (bound_at bounds) page
 -- at a bound something else is said than of the page below
 abbrev pub IsTightAt : List (ℕ × Option Marks) → ℕ → Type 0
 IsTightAt bounds page = bound_at bounds page ≢ Some (marks_below bounds page)
+
+-- at how many bounds locked pages begin
+abbrev pub locked_bounds : List (ℕ × Option Marks) → ℕ
+locked_bounds bounds = count_by is_locked (values_of bounds)
+
+-- the bounds rise, and these are locked
+pub record AreCounted (bounds : List (ℕ × Option Marks)) (locked : ℕ) : Type 0 where
+  pub rising : IsStrictlySortedBy nat_cmp (keys_of bounds)
+  pub counted : locked ≡ locked_bounds bounds
 
 -- of a process's pages: those at the top of what a number can say aren't mapped, and no bound stands
 -- where nothing changes

@@ -1,12 +1,12 @@
 //! Where something else is said than of the page below.
 
 ghost use Rattle.std.specs.Prelude.{◌≡◌, ◌≢◌, ℕ, ◌+◌, ◌<◌, ◌≤◌, ◌^◌, nat_le, None};
-ghost use Rattle.std.specs.Prelude.{if◌then◌else◌, IsSome, MatchOption, OnErr, OnOk};
+ghost use Rattle.std.specs.Prelude.{false, if◌then◌else◌, true, IsSome, MatchOption, OnErr, OnOk};
 ghost use Rattle.av_base.specs.Words.{within};
-ghost use Rattle.av_ranges.specs.Marks.{marks_after};
+ghost use Rattle.av_ranges.specs.Marks.{is_locked, marks_after};
 ghost use Rattle.av_ranges.specs.Ranges.{IsTightAt, bound_at, marks_at, marks_below};
 
-use crate::marks::{Marks, Rewrite, same};
+use crate::marks::{Marks, Rewrite, locks, same};
 use std::alloc::{AllocError, Global};
 use std::collections::BTreeMap;
 use std::marker::Model;
@@ -18,6 +18,8 @@ use std::ops::Bound;
 pub struct Bounds {
     // What is said of the pages from each bound on, up to the next.
     map: BTreeMap<u64, Option<Marks>>,
+    // At how many of them locked pages begin.
+    locked: u64,
 }
 
 impl Model for Bounds {
@@ -27,6 +29,10 @@ impl Model for Bounds {
     ghost Value = { List (ℕ × Option Marks) };
 
     ghost view = { λ a. a.map.entries };
+
+    ghost use Rattle.av_ranges.specs.Ranges.{AreCounted};
+
+    ghost invariant = { λ a. AreCounted a.map.entries a.locked };
 }
 
 impl Bounds {
@@ -36,6 +42,7 @@ impl Bounds {
     {
         Bounds {
             map: BTreeMap::new(alloc),
+            locked: 0,
         }
     }
 
@@ -49,6 +56,14 @@ impl Bounds {
             None => (0, None),
             Some((start, marks)) => (*start, *marks),
         }
+    }
+
+    /// Whether a page is locked.
+    pub fn has_lock(&self) -> bool
+        ensures some { result ≡ true → (page : ℕ) × (is_locked (marks_at self.now page) ≡ true) }
+        ensures none { result ≡ false → (page : ℕ) → is_locked (marks_at self.now page) ≡ false }
+    {
+        self.locked > 0
     }
 
     /// The next bound above a page.
@@ -86,6 +101,9 @@ impl Bounds {
         }
         let (_, marks) = self.run(at);
         self.map.insert(at, marks)?;
+        // There are fewer than 2^63 of them.
+        let _ = self.map.len();
+        self.locked += locks(marks);
         Ok(())
     }
 
@@ -99,9 +117,16 @@ impl Bounds {
         ensures others { (q : ℕ) → q ≢ at → bound_at self.new q ≡ bound_at self.old q }
     {
         if same(below, marks) {
-            let _ = self.map.remove(&at);
-        } else if let Some(stands) = self.map.get_mut(&at) {
+            let gone = self.map.remove(&at).unwrap_or(None);
+            self.locked -= locks(gone);
+            return;
+        }
+        // There are fewer than 2^63 of them.
+        let _ = self.map.len();
+        if let Some(stands) = self.map.get_mut(&at) {
+            let gone = *stands;
             *stands = marks;
+            self.locked = self.locked + locks(marks) - locks(gone);
         }
     }
 

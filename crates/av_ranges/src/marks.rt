@@ -1,6 +1,6 @@
 //! What is said of a page, and its changes.
 
-ghost use Rattle.std.specs.Prelude.{◌≡◌, ◌≢◌, false, true};
+ghost use Rattle.std.specs.Prelude.{◌≡◌, ◌≢◌, false, if◌then◌else◌, true};
 ghost use Rattle.av_ranges.specs.Marks.{change_of, is_locked, marks_after};
 
 use av_base::{Flag, Flags, Prot};
@@ -93,12 +93,12 @@ pub fn same(one: Option<Marks>, other: Option<Marks>) -> bool
     }
 }
 
-/// Whether a page of which this is said is mapped and locked.
-pub fn locks(marks: Option<Marks>) -> bool
-    ensures { result ≡ is_locked marks }
+/// 1 where a page of which this is said is mapped and locked, else 0.
+pub fn locks(marks: Option<Marks>) -> u64
+    ensures { result ≡ (if is_locked marks then 1 else 0) }
 {
     match marks {
-        None => false,
-        Some(marks) => marks.flags.locked,
+        Some(marks) if marks.flags.locked => 1,
+        _ => 0,
     }
 }

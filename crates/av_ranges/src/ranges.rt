@@ -10,7 +10,7 @@ ghost use Rattle.av_ranges.specs.Marks.{change_of, is_locked};
 ghost use Rattle.av_ranges.specs.Ranges.{marks_at};
 
 use crate::bounds::Bounds;
-use crate::marks::{Change, Marks, Rewrite, locks};
+use crate::marks::{Change, Marks, Rewrite};
 use av_base::{LOW_PAGE, TOP_PAGE};
 use std::alloc::{AllocError, Global};
 use std::marker::Model;
@@ -102,14 +102,7 @@ impl Ranges {
         ensures some { result ≡ true → (page : ℕ) × (is_locked (marks_at self.now page) ≡ true) }
         ensures none { result ≡ false → (page : ℕ) → is_locked (marks_at self.now page) ≡ false }
     {
-        let mut page = 0;
-        while let Some(next) = self.bound_above(page) {
-            if locks(self.marks(page)) {
-                return true;
-            }
-            page = next;
-        }
-        false
+        self.bounds.has_lock()
     }
 
     /// Where n pages go: the greatest place at which none is mapped.

@@ -1,6 +1,10 @@
-use Rattle.std.proofs.Common.{◌≡◌, Some, ap, arith, is_some, sym, ◌∙◌}
-use Rattle.std.specs.Option.{option_copied_mut}
-use Rattle.av_ranges.specs.Ranges.{bound_at, marks_below}
+use Rattle.std.proofs.Common.{◌≡◌, Some, None, ap, arith, is_some, sym, ◌∙◌}
+use Rattle.std.specs.BTreeMap.{is_at}
+use Rattle.std.specs.Map.{remove_entry, set_value}
+use Rattle.std.specs.Option.{option_copied_mut, unwrap_or}
+use Rattle.std.specs.Ordering.{nat_cmp}
+use Rattle.av_ranges.specs.Ranges.{bound_at, locked_bounds, marks_below}
+use Rattle.av_ranges.proofs.CountLaws.{count-less, count-set, locked-removed, locked-set, one}
 use Rattle.av_ranges.proofs.SaidLaws.{below-same, not-at, said-at, said-gone}
 use Rattle.av_ranges.proofs.bounds.Bounds.say.Goals as goal
 
@@ -28,3 +32,37 @@ returns-in-Some-clause-tight c = λ is.
   where
     inner : {X : Type 0} {x y : X} → Some x ≡ Some y → x ≡ y
     inner e = cc
+
+-- ---- the count
+
+pub overflow_sub-self : goal.overflow_sub-self
+overflow_sub-self c =
+    let old = c.self.inside.map.entries in
+    let gone = c.locks.ensures ∙ ap one (c.unwrap_or-gone.ensures ∙ ap (λ o. unwrap_or o None) c.remove.ensures.value) in
+    (count-less c.self.inside.locked c.locks.result (locked_bounds (remove_entry (is_at (nat_cmp c.args.at)) old)) (locked_bounds old)
+      (one (unwrap_or (bound_at old c.args.at) None)) gone c.self.invariant.counted (locked-removed old c.args.at)).0
+
+pub invariant_of-self : goal.invariant_of-self
+invariant_of-self c =
+    let old = c.self.inside.map.entries in
+    let gone = c.locks.ensures ∙ ap one (c.unwrap_or-gone.ensures ∙ ap (λ o. unwrap_or o None) c.remove.ensures.value) in
+    record {
+      rising = c.remove.ensures.ordered;
+      counted = (count-less c.self.inside.locked c.locks.result (locked_bounds (remove_entry (is_at (nat_cmp c.args.at)) old)) (locked_bounds old)
+          (one (unwrap_or (bound_at old c.args.at) None)) gone c.self.invariant.counted (locked-removed old c.args.at)).1
+          ∙ ap locked_bounds (sym c.remove.ensures.entries);
+    }
+
+pub invariant_of-self-in-Some : goal.invariant_of-self-in-Some
+invariant_of-self-in-Some c =
+    let old = c.self.inside.map.entries in
+    let stood = c.in-Some.stands.now in
+    let w = c.get_mut.follows.holds c.args.marks in
+    let is = sym c.get_mut.ensures.value ∙ ap option_copied_mut c.in-Some.is in
+    record {
+      rising = w.4;
+      counted = count-set c.self.inside.locked c.locks-in-Some.result c.locks-in-Some-2.result
+          (locked_bounds (set_value (is_at (nat_cmp c.args.at)) old c.args.marks)) (locked_bounds old) (one c.args.marks) (one stood)
+          c.self.invariant.counted c.locks-in-Some.ensures c.locks-in-Some-2.ensures (locked-set old c.args.at stood c.args.marks is)
+          ∙ ap locked_bounds (sym w.0);
+    }
