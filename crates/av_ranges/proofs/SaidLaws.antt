@@ -7,7 +7,7 @@ use Rattle.std.specs.Option.{IsSome, unwrap_or}
 use Rattle.std.specs.Ordering.{is_gt, is_lt, nat_cmp}
 use Rattle.std.proofs.lemmas.Map.Lookups.{exact_unsigned}
 use Rattle.std.proofs.lemmas.Map.Views.{tells_apart}
-use Rattle.std.proofs.lemmas.Map.Keys.{ge_from_not_lt, le_from_not_gt}
+use Rattle.std.proofs.lemmas.Map.Keys.{ge_from_not_lt}
 use Rattle.av_vma.specs.Gap.{IsRoom}
 use Rattle.av_ranges.specs.Ranges.{AreRanges, IsTightAt, bound_at, marks_at, marks_below, said, said_below}
 use Rattle.av_ranges.specs.declared.marks.Marks.{Marks}
@@ -233,8 +233,8 @@ room-below bounds n page end hole start low marks room high small order above be
         let q = max page (max start low) in
         let less = lt-is (max start low) (page + n) is in
         absurd (none-true (is_mapped bounds q)
-          (ap is_some (same q (omega arith) (omega (arith, begins, above, high, small, order))) ∙ some)
-          (room.free q (omega arith) (omega (arith, less, small))))
+        (ap is_some (same q (omega arith) (omega (arith, begins, above, high, small, order))) ∙ some)
+        (room.free q (omega arith) (omega (arith, less, small))))
     by false is = lt-not (max start low) (page + n) is
 
 -- a bound that is reached is one still, or it is the last

@@ -163,7 +163,7 @@ impl Bounds {
         requires end { IsSome (bound_at self.old end) }
         ensures below { (q : ℕ) → q < end → marks_at self.new q
             ≡ (if nat_le from q then marks_after rewrite (marks_at self.old q)
-              else marks_at self.old q) }
+            else marks_at self.old q) }
         ensures above { (q : ℕ) → end ≤ q → bound_at self.new q ≡ bound_at self.old q }
         ensures before { (q : ℕ) → q < from → bound_at self.new q ≡ bound_at self.old q }
         ensures tight { (q : ℕ) → from ≤ q → q < end → IsTightAt self.new q }
@@ -185,7 +185,7 @@ impl Bounds {
         requires { from + n < 2 ^ 64 }
         ensures ok { OnOk result ((q : ℕ) → marks_at self.new q
             ≡ (if within from n q then marks_after rewrite (marks_at self.old q)
-              else marks_at self.old q)) }
+            else marks_at self.old q)) }
         ensures err { OnErr result ((q : ℕ) → marks_at self.new q ≡ marks_at self.old q) }
         ensures tight { ((q : ℕ) → IsTightAt self.old q) → (q : ℕ) → IsTightAt self.new q }
     {

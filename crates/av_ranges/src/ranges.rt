@@ -81,7 +81,7 @@ impl Ranges {
         requires { from + n < 2 ^ 64 }
         ensures ok { OnOk result ((page : ℕ) → marks_at self.new page
             ≡ (if within from n page then option_and_then (change_of change) (marks_at self.old page)
-              else marks_at self.old page)) }
+            else marks_at self.old page)) }
         ensures err { OnErr result ((page : ℕ) → marks_at self.new page ≡ marks_at self.old page) }
     {
         self.bounds.rewrite(from, n, Rewrite::By(change))

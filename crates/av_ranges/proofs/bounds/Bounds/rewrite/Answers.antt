@@ -1,7 +1,7 @@
 use Rattle.std.proofs.Common.{◌+◌, arith, cond, ◌∙◌}
 use Rattle.av_base.specs.Words.{within}
 use Rattle.av_ranges.specs.Marks.{marks_after}
-use Rattle.av_ranges.specs.Ranges.{bound_at, marks_at}
+use Rattle.av_ranges.specs.Ranges.{bound_at}
 use Rattle.av_ranges.proofs.SaidLaws.{rewrite-all, tight-all}
 use Rattle.av_ranges.proofs.bounds.Bounds.rewrite.Goals as goal
 

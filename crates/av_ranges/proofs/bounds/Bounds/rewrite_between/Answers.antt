@@ -1,6 +1,4 @@
-use Rattle.std.proofs.Common.{◌≡◌, ℕ, ◌<◌, ◌≤◌, Bool, true, false, nat_lt, arith, subst, sym, ap, ◌∙◌}
-use Rattle.std.specs.Option.{IsSome}
-use Rattle.std.proofs.lemmas.Bool.Decides.{nat_tests}
+use Rattle.std.proofs.Common.{arith, sym, ap, ◌∙◌}
 use Rattle.av_ranges.specs.Marks.{marks_after}
 use Rattle.av_ranges.specs.Ranges.{bound_at}
 use Rattle.av_ranges.proofs.SaidLaws.{below-run, next-bound, rewrite-step, tight-step}

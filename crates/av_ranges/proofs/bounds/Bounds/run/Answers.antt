@@ -1,4 +1,4 @@
-use Rattle.std.proofs.Common.{◌≡◌, ◌≤◌, None, arith, subst, sym}
+use Rattle.std.proofs.Common.{◌≡◌, None, arith, subst, sym}
 use Rattle.std.proofs.lemmas.Map.Keys.{le_from_not_gt}
 use Rattle.av_ranges.specs.Ranges.{bound_at, marks_at}
 use Rattle.av_ranges.proofs.SaidLaws.{said-by-last, said-by-none}

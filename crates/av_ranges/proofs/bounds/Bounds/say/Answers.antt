@@ -3,7 +3,7 @@ use Rattle.std.specs.BTreeMap.{is_at}
 use Rattle.std.specs.Map.{remove_entry, set_value}
 use Rattle.std.specs.Option.{option_copied_mut, unwrap_or}
 use Rattle.std.specs.Ordering.{nat_cmp}
-use Rattle.av_ranges.specs.Ranges.{bound_at, locked_bounds, marks_below}
+use Rattle.av_ranges.specs.Ranges.{bound_at, locked_bounds}
 use Rattle.av_ranges.proofs.CountLaws.{count-less, count-set, locked-removed, locked-set, one}
 use Rattle.av_ranges.proofs.SaidLaws.{below-same, not-at, said-at, said-gone}
 use Rattle.av_ranges.proofs.bounds.Bounds.say.Goals as goal
@@ -27,7 +27,7 @@ returns-in-Some-clause-tight c = λ is.
     let u = (c.get_mut.follows.holds c.args.marks).3 some in
     let new = (c.get_mut.follows.lender c.args.marks).entries in
     let below = below-same (bound_at new) (bound_at c.args.self.now) c.args.at
-        (λ p low. u.2 p (not-at c.args.at p (λ e. omega (arith, e, low))) ∙ ap (λ b. bound_at b p) c.self.view_is) in
+    (λ p low. u.2 p (not-at c.args.at p (λ e. omega (arith, e, low))) ∙ ap (λ b. bound_at b p) c.self.view_is) in
     c.same.ensures.other c.if-same.false (c.requires.below ∙ sym (inner (sym u.1 ∙ is) ∙ below))
   where
     inner : {X : Type 0} {x y : X} → Some x ≡ Some y → x ≡ y
@@ -40,7 +40,7 @@ overflow_sub-self c =
     let old = c.self.inside.map.entries in
     let gone = c.locks.ensures ∙ ap one (c.unwrap_or-gone.ensures ∙ ap (λ o. unwrap_or o None) c.remove.ensures.value) in
     (count-less c.self.inside.locked c.locks.result (locked_bounds (remove_entry (is_at (nat_cmp c.args.at)) old)) (locked_bounds old)
-      (one (unwrap_or (bound_at old c.args.at) None)) gone c.self.invariant.counted (locked-removed old c.args.at)).0
+    (one (unwrap_or (bound_at old c.args.at) None)) gone c.self.invariant.counted (locked-removed old c.args.at)).0
 
 pub invariant_of-self : goal.invariant_of-self
 invariant_of-self c =

@@ -1,5 +1,4 @@
 use Rattle.std.proofs.Common.{◌+◌, ◌-◌, ◌≤◌, Some, None, ap, arith, is_some, subst, sym, ◌∙◌}
-use Rattle.std.specs.Prelude.{max}
 use Rattle.av_vma.specs.Gap.{IsGap}
 use Rattle.av_ranges.proofs.SaidLaws.{is_mapped, room-below}
 use Rattle.av_ranges.proofs.ranges.Ranges.gap.Goals as goal
@@ -38,10 +37,10 @@ returns-clause-gap c =
     let top = c.loop-end.invariant.high in
     let long = c.loop-end-test.false in
     subst (λ b. IsGap (is_mapped b) c.args.n (Some (c.loop-end.end - c.args.n))) c.self.view_is (
-    record {
-      lowest = omega (arith, low, order, long);
-      highest = omega (arith, low, order, long, top);
-      free = λ q a b. ap is_some (c.loop-end.invariant.free q (omega (arith, a, order, long)) (omega (arith, b, order, long)));
-    },
-    λ other room. let high = c.loop-end.invariant.below other room in omega (arith, high),
-  )
+      record {
+        lowest = omega (arith, low, order, long);
+        highest = omega (arith, low, order, long, top);
+        free = λ q a b. ap is_some (c.loop-end.invariant.free q (omega (arith, a, order, long)) (omega (arith, b, order, long)));
+      },
+      λ other room. let high = c.loop-end.invariant.below other room in omega (arith, high),
+    )
