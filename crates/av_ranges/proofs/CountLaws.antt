@@ -1,5 +1,6 @@
 -- How many bounds are locked.
-use Rattle.std.proofs.Common.{◌≡◌, ℕ, zero, suc, ◌+◌, ◌-◌, ◌<◌, ◌≤◌, Bool, true, false, cond, Option, Some, None, is_some, List, [], ◌∷◌, length, refl, sym, ap, ◌∙◌, arith}
+use Rattle.std.proofs.Common.{◌≡◌, ℕ, zero, suc, ◌+◌, ◌-◌, ◌<◌, ◌≤◌, Bool, true, false, cond}
+use Rattle.std.proofs.Common.{Option, Some, None, is_some, List, [], ◌∷◌, length, refl, sym, ap, ◌∙◌, arith}
 use Rattle.std.specs.BTreeMap.{insert_entry, is_at}
 use Rattle.std.specs.Cmp.{nat_cmp_total}
 use Rattle.std.specs.List.{AllByRecursion}
@@ -45,7 +46,8 @@ locked-inserted es k v rise none =
     zero-right n = omega arith
 
 -- one that goes isn't
-pub locked-removed : (es : List (ℕ × Option Marks)) (k : ℕ) → locked_bounds (remove_entry (is_at (nat_cmp k)) es) + one (unwrap_or (bound_at es k) None) ≡ locked_bounds es
+pub locked-removed : (es : List (ℕ × Option Marks)) (k : ℕ)
+    → locked_bounds (remove_entry (is_at (nat_cmp k)) es) + one (unwrap_or (bound_at es k) None) ≡ locked_bounds es
 locked-removed es k = ap (λ n. locked_bounds (remove_entry (is_at (nat_cmp k)) es) + n) (by (bound_at es k)) ∙ sum_by-remove_entry one (is_at (nat_cmp k)) es
   where
     by : (o : Option (Option Marks)) → one (unwrap_or o None) ≡ unwrap_or (option_map one o) 0

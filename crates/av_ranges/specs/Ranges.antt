@@ -43,8 +43,8 @@ pub record AreCounted (bounds : List (ℕ × Option Marks)) (locked : ℕ) : Typ
   pub rising : IsStrictlySortedBy nat_cmp (keys_of bounds)
   pub counted : locked ≡ locked_bounds bounds
 
--- of a process's pages: those at the top of what a number can say aren't mapped, and no bound stands
--- where nothing changes
+-- the page at the top of what a number can say isn't mapped, and no bound stands where nothing
+-- changes
 pub record AreRanges (bounds : List (ℕ × Option Marks)) : Type 0 where
   pub top : (page : ℕ) → 2 ^ 64 ≤ page + 1 → marks_at bounds page ≡ None
   pub tight : (page : ℕ) → IsTightAt bounds page
