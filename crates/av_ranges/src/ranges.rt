@@ -69,6 +69,7 @@ impl Ranges {
         ensures most { result ≤ end }
         ensures same { (q : ℕ) → page ≤ q → q < result
             → marks_at self.now q ≡ marks_at self.now page }
+        ensures next { result < end → marks_at self.now result ≢ marks_at self.now page }
     {
         match self.bound_above(page) {
             None => end,
