@@ -113,6 +113,8 @@ impl Kernel {
     /// notes, its rows and the bytes that a whole read shows serves again.
     ///
     /// After want of memory nothing is promised of the reply.
+    // Inlined, as `perform` is: `run` and `work` each have a loop that calls it.
+    #[inline(always)]
     pub fn answer<D: SwapDev>(
         &mut self,
         alloc: Global,

@@ -32,6 +32,8 @@ fn check_new(spaces: &Spaces, process: u16) -> Result<(), Errno>
 }
 
 /// Does a `spawn`: the process lives then, without any page.
+// Inlined: what it does is less than a call.
+#[inline(always)]
 pub fn spawn(mem: &mut Mem, alloc: Global, process: u16, reply: &mut Reply) -> Result<(), Refusal>
     requires steady { IsSteady mem.old }
     requires cleared { IsCleared reply.old }

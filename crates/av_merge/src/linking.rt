@@ -32,6 +32,7 @@ pub fn chain_len(anons: &Anons, number: AreaId, own: Option<u64>) -> u64
 }
 
 /// Takes an area out, which leaves its anon_vmas first.
+#[inline(always)]
 pub fn take(areas: &mut Areas, anons: &mut Anons, number: AreaId)
     requires order { AreInOrder areas.old anons.old }
     requires used { IsSome (area_of areas.old number) }
@@ -70,6 +71,8 @@ fn leave_by<L: Ledger>(areas: &mut Areas, anons: &mut Anons, number: AreaId, bla
 }
 
 /// Gives an area other bounds and another offset, and its spans with it.
+// Inlined: an area that is handed to a call is copied twice.
+#[inline(always)]
 pub fn put(
     areas: &mut Areas,
     anons: &mut Anons,
