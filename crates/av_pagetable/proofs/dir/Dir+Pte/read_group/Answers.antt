@@ -1,5 +1,5 @@
-use Rattle.std.proofs.Common.{◌≡◌, ℕ, ◌+◌, ◌-◌, ◌<◌, drop, length, get_or, sym, subst, ap, ◌∙◌, arith, length-set}
-use Rattle.std.proofs.lemmas.List.{drop_more, length-drop}
+use Rattle.std.proofs.Common.{◌≡◌, ℕ, ◌+◌, ◌-◌, ◌<◌, drop, take, length, get_or, sym, subst, ap, ◌∙◌, arith, length-set}
+use Rattle.std.proofs.lemmas.List.{drop_more, length-drop, take_all}
 use Rattle.av_pagetable.specs.Dir.{alone, AreParts}
 use Rattle.av_pagetable.specs.declared.pte.Pte.{Pte}
 use Rattle.av_pagetable.specs.declared.pte.Pte.TheVariants.{Empty}
@@ -33,7 +33,9 @@ loop-part-init c =
     let v = c.args.self.now in
     let good : AreParts alone 1 v = subst (λ v. AreParts alone 1 v) c.self.view_is c.self.invariant in
     let k = c.match-place.start in
-    let left : drop k c.as_slice-parts.result.now ≡ drop k v = ap (drop k) (c.as_slice-parts.ensures.value ∙ c.self.view_is) in
+    let front = c.as_slice-parts.result.now in
+    let left : take (length front - k) (drop k front) ≡ drop k v = take_all _ (drop k front) (omega (arith, length-drop k front))
+    ∙ ap (drop k) (c.as_slice-parts.ensures.value ∙ c.self.view_is) in
     record {
       long = omega (arith, c.no_entries.type_inv);
       gathered = at_start v good c.args.first k _ _ (elim c.match-place.branch [
@@ -49,20 +51,25 @@ loop-part-init c =
 pub overflow_sub-i : goal.overflow_sub-i
 overflow_sub-i c =
     let good : AreParts alone 1 c.args.self.now = subst (λ v. AreParts alone 1 v) c.self.view_is c.self.invariant in
-    let next = drop_more (drop c.match-place.start c.as_slice-parts.result.now) c.loop-part.part-index (0, Empty) c.loop-part-test.true in
+    let front = c.as_slice-parts.result.now in
+    let k = c.match-place.start in
+    let items = take (length front - k) (drop k front) in
+    let next = drop_more items c.loop-part.part-index (0, Empty) c.loop-part-test.true in
     omega (arith, c.from.ensures, no_less c.args.self.now good c.args.first _ _ c.loop-part.invariant.gathered _ _ next)
 
 pub returns-then-i : goal.returns-then-i
 returns-then-i c =
     let good : AreParts alone 1 c.args.self.now = subst (λ v. AreParts alone 1 v) c.self.view_is c.self.invariant in
-    let next = drop_more (drop c.match-place.start c.as_slice-parts.result.now) c.loop-part.part-index (0, Empty) c.loop-part-test.true in
+    let next = drop_more _ c.loop-part.part-index (0, Empty) c.loop-part-test.true in
     past_group c.args.self.now good c.args.first _ _ c.loop-part.invariant.gathered _ _ next
     (omega (arith, c.if-i.true, c.from.ensures))
 
 pub loop-part-preserved : goal.loop-part-preserved
 loop-part-preserved c =
     let good : AreParts alone 1 c.args.self.now = subst (λ v. AreParts alone 1 v) c.self.view_is c.self.invariant in
-    let items = drop c.match-place.start c.as_slice-parts.result.now in
+    let front = c.as_slice-parts.result.now in
+    let k = c.match-place.start in
+    let items = take (length front - k) (drop k front) in
     let p = get_or items c.loop-part.part-index (0, Empty) in
     let next = drop_more items c.loop-part.part-index (0, Empty) c.loop-part-test.true in
     let i = c.from.result - c.args.first in
@@ -75,6 +82,8 @@ loop-part-preserved c =
 pub returns : goal.returns
 returns c =
     let good : AreParts alone 1 c.args.self.now = subst (λ v. AreParts alone 1 v) c.self.view_is c.self.invariant in
-    let items = drop c.match-place.start c.as_slice-parts.result.now in
+    let front = c.as_slice-parts.result.now in
+    let k = c.match-place.start in
+    let items = take (length front - k) (drop k front) in
     at_end c.args.self.now good c.args.first _ _ c.loop-part.invariant.gathered
     (omega (arith, c.loop-part-test.false, length-drop c.loop-part.part-index items))

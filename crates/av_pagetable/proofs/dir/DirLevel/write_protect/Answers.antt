@@ -1,4 +1,4 @@
-use Rattle.std.proofs.Common.{◌≡◌, ◌≤◌, ◌<◌, ◌∙◌, ℕ, ap, arith, length, length-set, refl}
+use Rattle.std.proofs.Common.{◌≤◌, ◌<◌, ◌∙◌, ℕ, ap, arith, length, length-set, refl}
 use Rattle.av_pagetable.specs.Dir.{entries}
 use Rattle.av_pagetable.specs.Table.{read_only}
 use Rattle.av_pagetable.proofs.DirImages.{read_only_none, entries_image, good_image, set_image, set_others}
