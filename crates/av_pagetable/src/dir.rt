@@ -11,7 +11,6 @@ use crate::level::Level;
 use crate::pte::Pte;
 use crate::table::{GROUP, no_entries};
 use std::alloc::{AllocError, Global};
-use std::collections::VecDeque;
 use std::marker::Model;
 
 /// A table of 512 parts: of a page table's tables below, or of its entries. It keeps the parts that
@@ -21,8 +20,8 @@ use std::marker::Model;
 #[derive(Drop)]
 pub struct Dir<C: Level> {
     alloc: Global,
-    // A queue: a range is taken out from its lowest page on, so parts go from the front.
-    parts: VecDeque<(u16, C)>,
+    // An array and not a queue: a look asks each level for its first part, and little else.
+    parts: Vec<(u16, C)>,
 }
 
 impl<C: Level> Model for Dir<C> {
@@ -54,7 +53,7 @@ impl<C: Level> Level for Dir<C> {
 
     fn new(alloc: Global) -> Result<Self, AllocError> {
         // Where pages stand far apart, each part has one below it.
-        let parts = VecDeque::with_capacity(alloc, 1)?;
+        let parts = Vec::with_capacity(alloc, 1)?;
         Ok(Dir { alloc, parts })
     }
 
@@ -126,7 +125,7 @@ impl<C: Level> Level for Dir<C> {
                 let part = &mut self.parts[place];
                 let entry = part.1.take(page % span);
                 if part.1.is_empty() {
-                    let _ = self.parts.remove(place);
+                    self.parts.remove(place);
                 }
                 entry
             }
@@ -165,14 +164,13 @@ impl<C: Level> Level for Dir<C> {
         }
         Ok(Dir {
             alloc: self.alloc,
-            parts: VecDeque::from_vec(parts),
+            parts,
         })
     }
 
     fn write_protect(&mut self) {
-        let parts = self.parts.make_contiguous();
-        for place in 0..parts.len() {
-            let part = &mut parts[place];
+        for place in 0..self.parts.len() {
+            let part = &mut self.parts[place];
             part.1.write_protect();
         }
     }
@@ -364,13 +362,13 @@ impl Dir<Pte> {
             Ok(place) => place,
             Err(place) => place,
         };
-        let (parts, _) = self.parts.as_slices();
+        let parts = self.parts.as_slice();
         if is_whole(parts, start, first) {
             copy_entries(parts, start, group);
             return;
         }
         *group = no_entries();
-        for part in self.parts.range(start..) {
+        for part in &parts[start..] {
             let i = u64::from(part.0) - first;
             if i >= GROUP as u64 {
                 return;

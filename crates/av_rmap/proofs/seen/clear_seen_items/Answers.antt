@@ -35,7 +35,8 @@ returns-clause-seen g c =
     let now = g.K.Look.view c.loop-item.look in
     let f = c.args.frame in
     let h = c.loop-item.invariant in
-    let cleared = ap (λ items. changed_from_all (unseen f) items now) (sym (drop_all c.loop-item.item-index c.args.items.now c.loop-item-test.false)) ∙ h.cleared
+    let none-left = drop_all c.loop-item.item-index c.args.items.now c.loop-item-test.false in
+    let cleared = ap (λ items. changed_from_all (unseen f) items now) (sym none-left) ∙ h.cleared
     ∙ all-changed (clears f) c.args.items.now before c.requires.spanned c.requires.covered in
     seen-or-none f before now c.loop-item.any_seen cleared h.seen
 

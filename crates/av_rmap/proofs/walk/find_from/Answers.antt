@@ -67,7 +67,8 @@ loop-area-preserved-in-Some-look_at g c =
     record {
       held = (subst (AllByRecursion (IsHeld view i)) left h.held).1;
       found = found-with c.loop-area.into.items c.push_reserved.new.self.items
-          (found_in view f i (view.areas c.in-Some.area)) (walk_of view f i (ahead c.next.new.self view)) (c.args.into.now.items ++ found_from view f c.args.home)
+          (found_in view f i (view.areas c.in-Some.area)) (walk_of view f i (ahead c.next.new.self view))
+          (c.args.into.now.items ++ found_from view f c.args.home)
           c.in-Some-look_at.key (ap (λ areas. c.loop-area.into.items ++ walk_of view f i areas) (sym left) ∙ h.found) found
           c.push_reserved.ensures.items;
       room = omega (arith, one, all, room, len, cap);

@@ -1,4 +1,4 @@
-use Rattle.std.proofs.Common.{◌≡◌, ◌<◌, ◌≤◌, ap, length, sym, ◌∙◌, arith}
+use Rattle.std.proofs.Common.{◌≡◌, ap, sym, ◌∙◌, arith}
 use Rattle.av_pagetable.specs.Dir.{part_of}
 use Rattle.av_pagetable.proofs.DirEntries.{part_there}
 use Rattle.av_pagetable.proofs.dir.Dir.near_part.Goals as goal

@@ -1,4 +1,4 @@
-use Rattle.std.proofs.Common.{◌≡◌, ◌<◌, ◌≤◌, ap, length, sym, ◌∙◌, arith}
+use Rattle.std.proofs.Common.{◌≡◌, ◌<◌, ◌≤◌, ap, length, ◌∙◌}
 use Rattle.std.specs.List.{AllWithin}
 use Rattle.av_pagetable.specs.Dir.{part_of}
 use Rattle.av_pagetable.proofs.DirEntries.{part_absent, part_there}

@@ -1,6 +1,7 @@
-use Rattle.std.proofs.Common.{◌≡◌, ◌-◌, ◌<◌, get_or, length, arith, rules, subst}
+use Rattle.std.proofs.Common.{◌≡◌, ◌-◌, ◌<◌, get_or, length, arith, rules, subst, ◌∙◌}
 use Rattle.std.proofs.lemmas.List.Sorted.{answers_always}
-use Rattle.std.specs.List.Sorted.{IsSearchInRange}
+use Rattle.std.specs.List.{AllPairs}
+use Rattle.av_pagetable.specs.Dir.{IsPlace}
 use Rattle.av_pagetable.proofs.DirParts.{after_last, before_first, searched}
 use Rattle.av_pagetable.proofs.dir.Dir.place_past.Goals as goal
 
@@ -32,8 +33,9 @@ returns-then-from-number g c =
 
 pub returns : goal.returns
 returns g c =
-    let d = c.self.inside in
     let facts = c.binary_search_by_key.ensures in
     let by_key = facts.position (λ part. part.0) (answers_always _ _ _ (λ f a r g called. search rules)) in
-    rw (← c.self.view_is) (searched d.parts.items c.args.number c.binary_search_by_key.result c.self.invariant.rising
-    (subst (IsSearchInRange c.binary_search_by_key.result) d.parts.ok.0 facts.bound) by_key)
+    let same = c.deref.ensures.value in
+    let rising : AllPairs (λ part later. part.0 < later.0) c.deref.result.now = rw same c.self.invariant.rising in
+    subst (λ v. IsPlace c.args.number v c.binary_search_by_key.result) (same ∙ c.self.view_is)
+    (searched c.deref.result.now c.args.number c.binary_search_by_key.result rising facts.bound by_key)

@@ -1,5 +1,4 @@
-use Rattle.std.proofs.Common.{arith, rules, ◌≡◌, ◌<◌, ◌≤◌, ◌/◌, ◌%◌, ◌∙◌, sym, ap, refl, length, List, Option, Some, None}
-use Rattle.std.specs.Prelude.{OnSome}
+use Rattle.std.proofs.Common.{◌≡◌, ◌<◌, ◌≤◌, ◌/◌, ◌%◌, ◌∙◌, sym, ap, refl, length}
 use Rattle.std.specs.List.{AllWithin}
 use Rattle.std.proofs.lemmas.Nat.{mod_below}
 use Rattle.av_base.specs.Words.{with_at}
@@ -8,10 +7,6 @@ use Rattle.av_pagetable.specs.Dir.{entries}
 use Rattle.av_pagetable.proofs.DirParts.{set_good, remove_good, set_removed}
 use Rattle.av_pagetable.proofs.DirEntries.{written, dropped, entry_there, absent}
 use Rattle.av_pagetable.proofs.dir.DirLevel.take.Goals as goal
-
-removed_from : {X : Type 0} {x : X} (r : Option X) (xs ys : List X) → OnSome r (xs ≡ ys) → r ≡ Some x → xs ≡ ys
-removed_from None xs ys h is = cc
-removed_from (Some y) xs ys h is = h
 
 pub invariant_of-self : goal.invariant_of-self
 invariant_of-self g c =
@@ -24,9 +19,8 @@ invariant_of-self g c =
     let here : p.0 ≡ c.args.page / C.span = ap (λ part. part.0) is ∙ rw (c.self.view_is, ← c.span-span.ensures.is) (c.in-Ok.ensures.1 p) in
     let under : c.args.page % c.span-span.result < C.span = rw c.span-span.ensures.is (mod_below c.args.page C.span c.span-span.ensures.some) in
     rw (
-      removed_from c.remove.result _ _ c.remove.ensures.items (c.remove.ensures.succeeds p (omega (arith, within, d.parts.ok.0))),
-      set_removed d.parts.items k
-          (p.0, c.take-entry.new.self),
+      c.remove.ensures.items,
+      set_removed d.parts.items k (p.0, c.take-entry.new.self),
     ) (remove_good C.at C.span d.parts.items c.self.invariant k p within is)
 
 pub invariant_of-self-else-is_empty : goal.invariant_of-self-else-is_empty
@@ -79,9 +73,8 @@ returns-then-is_empty-clause-takes g c =
     let within : k < length d.parts.items = rw c.self.view_is c.in-Ok.ensures.0 in
     let here : p.0 ≡ c.args.page / C.span = ap (λ part. part.0) is ∙ rw (c.self.view_is, ← c.span-span.ensures.is) (c.in-Ok.ensures.1 p) in
     let under : c.args.page % c.span-span.result < C.span = rw c.span-span.ensures.is (mod_below c.args.page C.span c.span-span.ensures.some) in
-    let same : c.match-remove.self ≡ c.remove.new.self.items = search rules in
     ap (entries C.at C.span)
-    (same ∙ removed_from c.remove.result _ _ c.remove.ensures.items (c.remove.ensures.succeeds p (omega (arith, within, d.parts.ok.0)))
+    (c.remove.ensures.items
     ∙ set_removed d.parts.items k (p.0, c.take-entry.new.self))
     ∙ dropped C.at C.span d.parts.items c.self.invariant k p within is c.args.page c.take-entry.new.self here
     (rw (← c.span-span.ensures.is) c.take-entry.ensures.takes) c.if-is_empty.ensures

@@ -4,9 +4,12 @@ use Rattle.av_pagetable.proofs.DirImages.{AreImages}
 use Rattle.av_pagetable.proofs.dir.DirLevel.write_protect.Given as goal
 
 abbrev pub invariant-loop-place : goal.invariant-loop-place
-invariant-loop-place g l = record {
-  long : length l.parts ≡ length l.initial.parts;
-  within : l.place ≤ length l.initial.parts;
-  images : AreImages g.C.Level.at read_only l.place l.initial.parts l.parts;
-  others : (i : ℕ) (d : ℕ × g.row.C.Denot) → l.place ≤ i → i < length l.initial.parts → get_or l.parts i d ≡ get_or l.initial.parts i d;
-}
+invariant-loop-place g l =
+    let olds = l.initial.self-inside.parts.items in
+    let now = l.self-inside.parts.items in
+    record {
+      long : length now ≡ length olds;
+      within : l.place ≤ length olds;
+      images : AreImages g.C.Level.at read_only l.place olds now;
+      others : (i : ℕ) (d : ℕ × g.row.C.Denot) → l.place ≤ i → i < length olds → get_or now i d ≡ get_or olds i d;
+    }
