@@ -1,7 +1,7 @@
 -- The two maps that a list of links is.
 use Rattle.av_base.specs.Words.{how_many, is_in, with_at, without}
 use Rattle.std.proofs.Common.{◌≡◌, ℕ, zero, suc, ◌+◌, ◌<◌, length, take, get_or, append_assoc, arith, true, false, cond, ◌||◌, ◌==◌, List, [], ◌∷◌, ◌++◌, refl, sym, ap, ◌∙◌, Option, Some, None, append-nil, not}
-use Rattle.std.specs.Prelude.{Result, Ok, Err, OnOk}
+use Rattle.std.specs.Prelude.{Result, Ok, Err, OnErr, OnOk}
 use mathlib.Core.Bool.{Bool}
 use Rattle.av_chain.specs.Links.{Link, AreNew, users_with, links_to, chain_of, users_of, first_in, rest_in, left_by, left_by_all, one_if, AreMutual, AreOnce, without_first}
 use Rattle.av_chain.proofs.Altered.{either, cond_lift, cond_same}
@@ -310,3 +310,7 @@ first_some (x ∷ xs) v e = let is : v ≡ x = cc in ap (λ y. y ∷ xs) (sym is
 pub on_ok : {X E P Q : Type 0} (r : Result X E) → (P → Q) → OnOk r P → OnOk r Q
 on_ok (Ok x) f p = f p
 on_ok (Err e) f p = p
+
+pub on_err : {X E P : Type 0} (r : Result X E) → P → OnErr r P
+on_err (Ok x) p = tt
+on_err (Err e) p = p

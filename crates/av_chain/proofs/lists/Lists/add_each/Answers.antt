@@ -3,14 +3,14 @@ use Rattle.std.proofs.lemmas.List.{take_more, take_all}
 use Rattle.av_base.specs.Words.{is_in}
 use Rattle.av_chain.specs.Links.{chain_of, links_to}
 use Rattle.av_chain.specs.Lists.{links_in, links_of}
-use Rattle.av_chain.proofs.TwoMaps.{chain_here, links_more, new_at}
+use Rattle.av_chain.proofs.TwoMaps.{chain_here, links_more, new_at, on_err}
 use Rattle.av_chain.proofs.lists.Lists.add_each.Goals as goal
 
 pub loop-anon-init : goal.loop-anon-init
 loop-anon-init c = record { areas = refl; kept = c.requires.kept; links = sym (append-nil (links_in c.args.self.now)) }
 
-pub add_behind-longer-requires-clause-new : goal.add_behind-longer-requires-clause-new
-add_behind-longer-requires-clause-new c =
+pub add_behind-requires-clause-new : goal.add_behind-requires-clause-new
+add_behind-requires-clause-new c =
     let xs = c.args.anons.now in
     let k = c.loop-anon.anon-index in
     let a = c.args.area in
@@ -29,7 +29,7 @@ loop-anon-preserved c =
     let old = links_in c.args.self.now in
     let more : take (k + 1) xs ≡ take k xs ++ x ∷ [] = take_more xs k 0 lt in
     record {
-      areas = c.add_behind-longer.ensures.areas ∙ c.loop-anon.invariant.areas;
+      areas = c.add_behind.ensures.areas ∙ c.loop-anon.invariant.areas;
       kept = c.in_ok-longer.ensures.kept;
       links = c.in_ok-longer.ensures.links ∙ ap (λ ls. ls ++ (a, x) ∷ []) c.loop-anon.invariant.links
           ∙ append_assoc old (links_to a (take k xs)) ((a, x) ∷ [])
@@ -41,7 +41,7 @@ returns-clause-links c = c.loop-anon.invariant.links
     ∙ ap (λ ys. links_in c.args.self.now ++ links_to c.args.area ys) (take_all c.loop-anon.anon-index c.args.anons.now (omega arith))
 
 pub returns-in_err-longer-clause-err : goal.returns-in_err-longer-clause-err
-returns-in_err-longer-clause-err c = record {
+returns-in_err-longer-clause-err c = on_err c.from_residual.result (record {
   many = c.loop-anon.anon-index;
   is = ap links_of c.in_err-longer.ensures.err ∙ c.loop-anon.invariant.links;
-}
+})
