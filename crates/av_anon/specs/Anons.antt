@@ -2,7 +2,7 @@
 use Rattle.std.specs.Prelude.{ℕ, suc, Bool, true, false, if◌then◌else◌, List, [], ◌∷◌, ◌++◌, Option}
 use Rattle.std.specs.Prelude.{Some, None, option_map}
 use Rattle.av_base.specs.Words.{is_in, with_at}
-use Rattle.av_chain.specs.Links.{chain_of, users_of}
+use Rattle.av_chain.specs.Links.{chain_of, users_of, users_with}
 use Rattle.av_arena.specs.Order as arena_order
 use Rattle.av_vma.specs.declared.area.Area.{Area}
 use Rattle.av_anon.specs.declared.infos.Info.{Info}
@@ -45,10 +45,6 @@ with_own own area = option_map (λ (a : Area). record a { anon = own }) area
 -- the areas, once one of them has this own anon_vma
 abbrev pub give_own : ℕ → Option ℕ → (ℕ → Option Area) → ℕ → Option Area
 give_own area own areas = with_at area (with_own own (areas area)) areas
-
--- the users of each anon_vma, once the area is linked to these
-abbrev pub users_with : ℕ → List ℕ → (ℕ → List ℕ) → ℕ → List ℕ
-users_with area anons users v = if is_in v anons then users v ++ area ∷ [] else users v
 
 -- an area without anon_vmas is linked to these
 abbrev pub with_links : ℕ → List ℕ → Family → Family

@@ -1,8 +1,8 @@
 //! Links of one area to several anon_vmas.
 ghost use Rattle.std.specs.Prelude.{◌≡◌, ℕ, [], OnOk};
 ghost use Rattle.av_base.specs.Words.{with_at};
-ghost use Rattle.av_chain.specs.Links.{chain_of, users_of};
-ghost use Rattle.av_anon.specs.Anons.{IsRising, is_empty, users_with};
+ghost use Rattle.av_chain.specs.Links.{chain_of, users_of, users_with};
+ghost use Rattle.av_anon.specs.Anons.{IsRising, is_empty};
 
 use av_chain::Links;
 use av_chain::ring::Ring;
@@ -18,10 +18,7 @@ pub(crate) fn link_each(links: &mut Links, area: u64, anons: &[u64]) -> Result<(
     ensures users { OnOk result (users_of links.new
         ≡ users_with area anons.now (users_of links.old)) }
 {
-    for anon in anons {
-        links.link(area, *anon)?;
-    }
-    Ok(())
+    links.link_all(area, anons)
 }
 
 /// A ring that tells, too, whether an anon_vma has a user.

@@ -19,8 +19,8 @@ pub shallow : {T : Type 0} (t : Tree T) → IsLevel t → 2 ^ height t ≤ (leng
 shallow Leaf lv = omega arith
 shallow (Fork n l x r) lv = shallow_entries (entries l) x (entries r) (height l) (height r) (shallow l lv.1) (shallow r lv.2) lv.0.0 lv.0.1
 
-below_limit : (h n : ℕ) → 2 ^ h ≤ (n + 1) * (n + 1) → n < 2 ^ 64 → h < 2 ^ 61
-below_limit h n p q = elim (cases_lt h (2 ^ 61)) [
+below_limit : (h n : ℕ) → 2 ^ h ≤ (n + 1) * (n + 1) → n < 2 ^ 64 → h < 200
+below_limit h n p q = elim (cases_lt h 200) [
   | inl k ↦ k
   | inr k ↦
       let a : 129 ≤ h = omega arith in
@@ -30,7 +30,7 @@ below_limit h n p q = elim (cases_lt h (2 ^ 61)) [
 ]
 
 module _ {T S : Type 0} (key : T → ℕ) (unit : S) (op : S → S → S) (of : T → S) (laws : MonoidLaws unit op) where
-  pub low : (s : Store T S) (k : Option (Link S)) → IsHeld key unit op of s k → length (entries (tree_at s k)) < 2 ^ 64 → height_of k < 2 ^ 61
+  pub low : (s : Store T S) (k : Option (Link S)) → IsHeld key unit op of s k → length (entries (tree_at s k)) < 2 ^ 64 → height_of k < 200
   low s k h n = rw (← held_height key unit op of laws s k h) (below_limit (height (tree_at s k)) (length (entries (tree_at s k)))
       (shallow (tree_at s k) h.level) n)
 

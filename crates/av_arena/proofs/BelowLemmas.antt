@@ -293,7 +293,7 @@ module _ {T S : Type 0} (key : T → ℕ) (unit : S) (op : S → S → S) (of : 
 
   -- what is changed can be settled
   pub unsettled : {Put : Type 0} (s t : Store T S) (k : Link S) (b : Bool) (xs : List T) (f g : ℕ → ℕ) (lower higher : ℕ) →
-      IsChanged key unit op of s t k b xs f g lower higher Put → k.height < 2 ^ 61 → IsUnsettled key unit op of 2 t k.number
+      IsChanged key unit op of s t k b xs f g lower higher Put → k.height < 200 → IsUnsettled key unit op of 2 t k.number
   unsettled s t k b xs f g lower higher c low = let m = c.low in record {
     node = c.node;
     stored = c.above.stored;
@@ -516,7 +516,7 @@ module _ {T S : Type 0} (key : T → ℕ) (unit : S) (op : S → S → S) (of : 
         IsDone key unit op of laws s u k k' (list (entries_at s o)) (numbers (count_at s o)) gone lower higher
 
   pub called : {Put : Type 0} (s t : Store T S) (o : Option (Link S)) (k : Link S) (c : Bool) → o ≡ Some k → Asked o → IsHeld key unit op of s o →
-      height_of o < 2 ^ 61 → IsDoneBelow key unit op of Asked list numbers gone lower higher Put s t k.number c → IsCalled s t o k c
+      height_of o < 200 → IsDoneBelow key unit op of Asked list numbers gone lower higher Put s t k.number c → IsCalled s t o k c
   called s t o k c e a held low done =
       let ch = done k refl (subst Asked e a) in
       let h = ap height_of e in
@@ -527,7 +527,7 @@ module _ {T S : Type 0} (key : T → ℕ) (unit : S) (op : S → S → S) (of : 
       })
 
 -- the root of a tree is asked for by its number
-pub asked_below : {S : Type 0} (Asked : Option (Link S) → Type 0) (o : Option (Link S)) (k : Link S) → o ≡ Some k → Asked o → height_of o < 2 ^ 61 →
+pub asked_below : {S : Type 0} (Asked : Option (Link S) → Type 0) (o : Option (Link S)) (k : Link S) → o ≡ Some k → Asked o → height_of o < 200 →
     IsAskedBelow Asked k.number
 asked_below Asked o k e a low = record { link = k; number = refl; asked = subst Asked e a; low = let h = ap height_of e in omega arith }
 

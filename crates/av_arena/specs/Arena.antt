@@ -1,8 +1,9 @@
 -- What an arena holds.
 use Rattle.slab.specs.Slab.{get}
 use Rattle.av_arena.specs.Tree.{Store}
-use Rattle.std.specs.Prelude.{◌≡◌, ℕ, Option, Some, None}
+use Rattle.std.specs.Prelude.{◌≡◌, ℕ, Option, Some, None, option_map}
 use Rattle.av_base.specs.Words.{with_at}
+use Rattle.av_arena.specs.Cell.{node_in}
 use Rattle.av_arena.specs.declared.arena.Arena.{Arena}
 use Rattle.av_arena.specs.declared.link.Link.{Link}
 use Rattle.av_arena.specs.declared.link.Side.{Side}
@@ -11,7 +12,7 @@ use Rattle.av_arena.specs.declared.link.Stored.{Stored}
 
 -- the node under each number
 abbrev pub store_of : {T S : Type 0} → Arena T S → Store T S
-store_of a = get a.slab
+store_of a n = option_map node_in (get a.slab n)
 
 -- the tree on a side of a node, and the one on its other side
 abbrev pub on_side : {T S : Type 0} → Side → Stored T S → Option (Link S)

@@ -33,7 +33,7 @@ pub record IsAskedBelow {S : Type 0} (Asked : Option (Link S) → Type 0) (n : �
   pub link : Link S
   pub number : link.number ≡ n
   pub asked : Asked (Some link)
-  pub low : link.height < 2 ^ 61
+  pub low : link.height < 200
 
 module _ {T S : Type 0} (key : T → ℕ) (unit : S) (op : S → S → S) (of : T → S) where
   -- the node n above its sides, which differ by so many levels at most
@@ -42,7 +42,7 @@ module _ {T S : Type 0} (key : T → ℕ) (unit : S) (op : S → S → S) (of : 
     pub stored : s n ≡ Some node
     pub spot : IsSpot key unit op of s n node.left node.right
     pub level : DifferByAtMost by (height_of node.left) (height_of node.right)
-    pub low : max (height_of node.left) (height_of node.right) < 2 ^ 62
+    pub low : max (height_of node.left) (height_of node.right) < 210
 
   -- whether the sides of the node n differ by one level at most
   abbrev pub IsLevelAt : Store T S → ℕ → Bool → Type 0

@@ -4,6 +4,7 @@ ghost use Rattle.std.specs.Prelude.{◌≡◌, ℕ, Some, None, IfOk, OnErr, IsS
 ghost use Rattle.av_arena.specs.Arena.{entry_put, side_put, store_of};
 ghost use Rattle.av_base.specs.Words.{with_at};
 
+use crate::cell::Cell;
 use crate::link::{Link, Side, Stored};
 use slab::Slab;
 use std::alloc::{AllocError, Global};
@@ -11,7 +12,7 @@ use std::alloc::{AllocError, Global};
 /// The nodes of all trees, each under a number.
 #[derive(Drop)]
 pub struct Arena<T, S> {
-    slab: Slab<Stored<T, S>>,
+    slab: Slab<Cell<T, S>>,
 }
 
 impl<T: Copy + Drop, S: Copy + Drop> Arena<T, S> {
@@ -24,72 +25,64 @@ impl<T: Copy + Drop, S: Copy + Drop> Arena<T, S> {
         }
     }
 
-    /// Puts a node under a number that is not in use. Without memory all stays.
-    pub fn add(&mut self, node: Stored<T, S>) -> Result<u64, AllocError>
+    /// Puts a node under a number that is not in use. Without memory all stays, and where 2^32
+    /// numbers are in use, too.
+    pub fn add(&mut self, node: Stored<T, S>) -> Result<u32, AllocError>
         ensures unused { IfOk result (λ number. store_of self.old number ≡ None) }
         ensures added { IfOk result
             (λ number. store_of self.new ≡ with_at number (Some node) (store_of self.old)) }
         ensures kept { OnErr result (store_of self.new ≡ store_of self.old) }
     {
-        let key = self.slab.insert(node)?;
-        Ok(key as u64)
+        let key = self.slab.insert(Cell::of(node))?;
+        let Ok(number) = u32::try_from(key) else {
+            self.slab.remove(key);
+            return Err(AllocError);
+        };
+        Ok(number)
     }
 
     /// The node with a number that is in use.
     #[inline(always)]
-    pub fn get(&self, number: u64) -> Stored<T, S>
+    pub fn get(&self, number: u32) -> Stored<T, S>
         requires { IsSome (store_of self.now number) }
         ensures { store_of self.now number ≡ Some result }
     {
-        let node = &self.slab[number as usize];
-        *node
-    }
-
-    /// The node with a number that is in use, to be read where it lies.
-    #[inline(always)]
-    pub fn look(&self, number: u64) -> &Stored<T, S>
-        requires { IsSome (store_of self.now number) }
-        ensures { store_of self.now number ≡ Some result.now }
-    {
-        &self.slab[number as usize]
+        self.slab[number as usize].node()
     }
 
     /// Puts a node in place of the one with this number, which is in use.
     #[inline(always)]
-    pub fn set(&mut self, number: u64, node: Stored<T, S>)
+    pub fn set(&mut self, number: u32, node: Stored<T, S>)
         requires { IsSome (store_of self.old number) }
         ensures { store_of self.new ≡ with_at number (Some node) (store_of self.old) }
     {
-        self.slab[number as usize] = node;
+        self.slab[number as usize] = Cell::of(node);
     }
 
     /// Puts another entry into the node with this number, which is in use.
     #[inline(always)]
-    pub fn set_entry(&mut self, number: u64, entry: T)
+    pub fn set_entry(&mut self, number: u32, entry: T)
         requires { IsSome (store_of self.old number) }
         ensures { store_of self.new ≡ with_at number (entry_put entry (store_of self.old number))
             (store_of self.old) }
     {
-        let node = &mut self.slab[number as usize];
-        node.entry = entry;
+        let cell = &mut self.slab[number as usize];
+        cell.entry = entry;
     }
 
     /// Puts another tree on a side of the node with this number, which is in use.
     #[inline(always)]
-    pub fn set_side(&mut self, number: u64, side: Side, link: Option<Link<S>>)
+    pub fn set_side(&mut self, number: u32, side: Side, link: Option<Link<S>>)
         requires { IsSome (store_of self.old number) }
         ensures { store_of self.new ≡ with_at number (side_put side link (store_of self.old number))
             (store_of self.old) }
     {
-        let node = &mut self.slab[number as usize];
-        match side {
-            Side::Left => node.left = link,
-            Side::Right => node.right = link,
-        }
+        let cell = &mut self.slab[number as usize];
+        cell.set_side(side, link);
     }
 
     /// Takes out the node with this number, which is in use until now.
-    pub fn free(&mut self, number: u64)
+    pub fn free(&mut self, number: u32)
         requires { IsSome (store_of self.old number) }
         ensures { store_of self.new ≡ with_at number None (store_of self.old) }
     {

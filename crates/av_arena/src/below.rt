@@ -1,7 +1,7 @@
 //! Changes of the tree below a node.
 //!
-//! They go by the numbers of nodes, which are read where they lie, and answer whether the node is
-//! stored otherwise afterwards: where it is not, nothing above is looked at.
+//! They go by the numbers of nodes, and answer whether the node is stored otherwise afterwards:
+//! where it is not, nothing above is looked at.
 //!
 //! A step to either side is one function, in line and called with a constant, so that no side is
 //! kept over the call below.
@@ -22,22 +22,22 @@ use crate::tree::{balance, close, height, is_same_link, pop_first, sum};
 
 /// Whether the sides of a node differ by one level at most.
 #[inline(always)]
-fn is_level<T: Entry>(arena: &Arena<T, T::Sum>, number: u64) -> bool
+fn is_level<T: Entry>(arena: &Arena<T, T::Sum>, number: u32) -> bool
     requires { IsUnsettled T.key T.unit T.op T.of 2 (store_of arena.now) number }
     ensures { IsLevelAt T.key T.unit T.op T.of (store_of arena.now) number result }
 {
-    let node = arena.look(number);
+    let node = arena.get(number);
     let (left, right) = (height(node.left), height(node.right));
     left <= right + 1 && right <= left + 1
 }
 
 /// The link that tells a node.
 #[inline(always)]
-fn link_at<T: Entry>(arena: &Arena<T, T::Sum>, number: u64) -> Link<T::Sum>
+fn link_at<T: Entry>(arena: &Arena<T, T::Sum>, number: u32) -> Link<T::Sum>
     requires { IsUnsettled T.key T.unit T.op T.of 2 (store_of arena.now) number }
     ensures { IsTold T.key T.unit T.op T.of (store_of arena.now) number result }
 {
-    let node = arena.look(number);
+    let node = arena.get(number);
     Link {
         number,
         height: height(node.left).max(height(node.right)) + 1,
@@ -48,7 +48,7 @@ fn link_at<T: Entry>(arena: &Arena<T, T::Sum>, number: u64) -> Link<T::Sum>
 /// What becomes of a node whose sides differ by two levels at most. Where they are level it stays
 /// as it is.
 #[inline(always)]
-pub fn settle<T: Entry>(arena: &mut Arena<T, T::Sum>, number: u64) -> Link<T::Sum>
+pub fn settle<T: Entry>(arena: &mut Arena<T, T::Sum>, number: u32) -> Link<T::Sum>
     requires { IsUnsettled T.key T.unit T.op T.of 2 (store_of arena.old) number }
     ensures settled { IsSettled T.key T.unit T.op T.of (store_of arena.old) (store_of arena.new)
         number result }
@@ -63,7 +63,7 @@ pub fn settle<T: Entry>(arena: &mut Arena<T, T::Sum>, number: u64) -> Link<T::Su
 /// What becomes of such a node by a rotation: another node is the root.
 #[cold]
 #[inline(never)]
-fn rotate<T: Entry>(arena: &mut Arena<T, T::Sum>, number: u64) -> Link<T::Sum>
+fn rotate<T: Entry>(arena: &mut Arena<T, T::Sum>, number: u32) -> Link<T::Sum>
     requires node { IsUnsettled T.key T.unit T.op T.of 2 (store_of arena.old) number }
     requires uneven { IsLevelAt T.key T.unit T.op T.of (store_of arena.old) number false }
     ensures settled { IsSettled T.key T.unit T.op T.of (store_of arena.old) (store_of arena.new)
@@ -78,7 +78,7 @@ fn rotate<T: Entry>(arena: &mut Arena<T, T::Sum>, number: u64) -> Link<T::Sum>
 /// Settles a side of a node, whose root is `child`, by a rotation.
 #[cold]
 #[inline(never)]
-fn turn_side<T: Entry>(arena: &mut Arena<T, T::Sum>, number: u64, child: u64, side: Side) -> bool
+fn turn_side<T: Entry>(arena: &mut Arena<T, T::Sum>, number: u32, child: u32, side: Side) -> bool
     requires child { IsUnsettled T.key T.unit T.op T.of 2 (store_of arena.old) child }
     requires uneven { IsLevelAt T.key T.unit T.op T.of (store_of arena.old) child false }
     requires used { IsSome (store_of arena.old number) }
@@ -93,11 +93,11 @@ fn turn_side<T: Entry>(arena: &mut Arena<T, T::Sum>, number: u64, child: u64, si
 
 /// Whether a node has this link on a side.
 #[inline(always)]
-fn has_side<T: Entry>(arena: &Arena<T, T::Sum>, number: u64, link: Link<T::Sum>, side: Side) -> bool
+fn has_side<T: Entry>(arena: &Arena<T, T::Sum>, number: u32, link: Link<T::Sum>, side: Side) -> bool
     requires { IsSome (store_of arena.now number) }
     ensures { HasSide (store_of arena.now) number side link result }
 {
-    let node = arena.look(number);
+    let node = arena.get(number);
     match side {
         Side::Left => is_same_link::<T>(node.left, Some(link)),
         Side::Right => is_same_link::<T>(node.right, Some(link)),
@@ -107,7 +107,7 @@ fn has_side<T: Entry>(arena: &Arena<T, T::Sum>, number: u64, link: Link<T::Sum>,
 /// Settles a side of a node, whose root is `child`, and puts its link there, where the node has
 /// another one.
 #[inline(always)]
-fn settle_side<T: Entry>(arena: &mut Arena<T, T::Sum>, number: u64, child: u64, side: Side) -> bool
+fn settle_side<T: Entry>(arena: &mut Arena<T, T::Sum>, number: u32, child: u32, side: Side) -> bool
     requires child { IsUnsettled T.key T.unit T.op T.of 2 (store_of arena.old) child }
     requires used { IsSome (store_of arena.old number) }
     ensures settled { IsSideSettled T.key T.unit T.op T.of side (store_of arena.old)
@@ -127,7 +127,7 @@ fn settle_side<T: Entry>(arena: &mut Arena<T, T::Sum>, number: u64, child: u64, 
 
 /// Puts a node without sides on a side of another, where there is none.
 #[inline(never)]
-fn hang<T: Entry>(arena: &mut Arena<T, T::Sum>, number: u64, new: u64, entry: &T, side: Side)
+fn hang<T: Entry>(arena: &mut Arena<T, T::Sum>, number: u32, new: u32, entry: &T, side: Side)
     requires used { IsSome (store_of arena.old number) }
     requires empty { child_number side (store_of arena.old number) ≡ None }
     requires new { IsSome (store_of arena.old new) }
@@ -141,7 +141,7 @@ fn hang<T: Entry>(arena: &mut Arena<T, T::Sum>, number: u64, new: u64, entry: &T
 
 /// The number that a link tells.
 #[inline(always)]
-fn number_of<S>(link: &Option<Link<S>>) -> Option<u64>
+fn number_of<S>(link: &Option<Link<S>>) -> Option<u32>
     ensures { result ≡ number_of link.now }
 {
     match link {
@@ -152,11 +152,11 @@ fn number_of<S>(link: &Option<Link<S>>) -> Option<u64>
 
 /// The number of the node at the root of a side.
 #[inline(always)]
-fn child_of<T: Entry>(arena: &Arena<T, T::Sum>, number: u64, side: Side) -> Option<u64>
+fn child_of<T: Entry>(arena: &Arena<T, T::Sum>, number: u32, side: Side) -> Option<u32>
     requires { IsSome (store_of arena.now number) }
     ensures { result ≡ child_number side (store_of arena.now number) }
 {
-    let node = arena.look(number);
+    let node = arena.get(number);
     match side {
         Side::Left => number_of(&node.left),
         Side::Right => number_of(&node.right),
@@ -165,11 +165,11 @@ fn child_of<T: Entry>(arena: &Arena<T, T::Sum>, number: u64, side: Side) -> Opti
 
 /// The side of a node where the key of `like` belongs: the left one where it is below the node's.
 #[inline(always)]
-fn side_for<T: Entry>(arena: &Arena<T, T::Sum>, number: u64, like: &T) -> Side
+fn side_for<T: Entry>(arena: &Arena<T, T::Sum>, number: u32, like: &T) -> Side
     requires { IsSome (store_of arena.now number) }
     ensures { IsSideFor T.key T.unit T.op T.of (store_of arena.now) number like.now result }
 {
-    if like.is_before(&arena.look(number).entry) {
+    if like.is_before(&arena.get(number).entry) {
         return Side::Left;
     }
     Side::Right
@@ -178,12 +178,12 @@ fn side_for<T: Entry>(arena: &Arena<T, T::Sum>, number: u64, like: &T) -> Side
 /// The side of a node where the keys from that of `first` to that of `last` belong, if the node's
 /// own is none of them.
 #[inline(always)]
-fn side_beside<T: Entry>(arena: &Arena<T, T::Sum>, number: u64, first: &T, last: &T) -> Option<Side>
+fn side_beside<T: Entry>(arena: &Arena<T, T::Sum>, number: u32, first: &T, last: &T) -> Option<Side>
     requires { IsSome (store_of arena.now number) }
     ensures { IsBeside T.key T.unit T.op T.of (store_of arena.now) number first.now last.now
         result }
 {
-    let node = arena.look(number);
+    let node = arena.get(number);
     if last.is_before(&node.entry) {
         return Some(Side::Left);
     }
@@ -198,8 +198,8 @@ fn side_beside<T: Entry>(arena: &Arena<T, T::Sum>, number: u64, first: &T, last:
 #[cycle(place)]
 pub fn placed_below<T: Entry>(
     arena: &mut Arena<T, T::Sum>,
-    number: u64,
-    new: u64,
+    number: u32,
+    new: u32,
     entry: &T,
 ) -> bool
     requires { IsPlaceBelow T.key T.unit T.op T.of (store_of arena.old) number new entry.now }
@@ -218,8 +218,8 @@ pub fn placed_below<T: Entry>(
 #[inline(always)]
 fn placed_on<T: Entry>(
     arena: &mut Arena<T, T::Sum>,
-    number: u64,
-    new: u64,
+    number: u32,
+    new: u32,
     entry: &T,
     side: Side,
 ) -> bool
@@ -242,7 +242,7 @@ fn placed_on<T: Entry>(
 /// Puts `entry` in the place of the one with its key in the tree with the root `number`: whether
 /// the root is stored otherwise, or got the entry.
 #[cycle(replace)]
-pub fn replaced_below<T: Entry>(arena: &mut Arena<T, T::Sum>, number: u64, entry: &T) -> bool
+pub fn replaced_below<T: Entry>(arena: &mut Arena<T, T::Sum>, number: u32, entry: &T) -> bool
     requires { HasKeyBelow T.key T.unit T.op T.of (store_of arena.old) number entry.now }
     ensures { IsReplacedBelow T.key T.unit T.op T.of (store_of arena.old) (store_of arena.new)
         number entry.now result }
@@ -260,7 +260,7 @@ pub fn replaced_below<T: Entry>(arena: &mut Arena<T, T::Sum>, number: u64, entry
 /// The step of `replaced_below` to the side where the key of `entry` belongs.
 #[cycle(replace)]
 #[inline(always)]
-fn replaced_on<T: Entry>(arena: &mut Arena<T, T::Sum>, number: u64, entry: &T, side: Side) -> bool
+fn replaced_on<T: Entry>(arena: &mut Arena<T, T::Sum>, number: u32, entry: &T, side: Side) -> bool
     requires key { HasKeyBelow T.key T.unit T.op T.of (store_of arena.old) number entry.now }
     requires side { IsBeside T.key T.unit T.op T.of (store_of arena.old) number entry.now entry.now
         (Some side) }
@@ -278,17 +278,17 @@ fn replaced_on<T: Entry>(arena: &mut Arena<T, T::Sum>, number: u64, entry: &T, s
 
 /// Whether a node has the key of `like`.
 #[inline(always)]
-pub fn is_at<T: Entry>(arena: &Arena<T, T::Sum>, number: u64, like: &T) -> bool
+pub fn is_at<T: Entry>(arena: &Arena<T, T::Sum>, number: u32, like: &T) -> bool
     requires { IsSome (store_of arena.now number) }
     ensures { IsAt T.key T.unit T.op T.of (store_of arena.now) number like.now result }
 {
-    let node = arena.look(number);
+    let node = arena.get(number);
     !like.is_before(&node.entry) && !node.entry.is_before(like)
 }
 
 /// What is left of a tree without its root, which has the key of `like`.
 #[inline(never)]
-pub fn take<T: Entry>(arena: &mut Arena<T, T::Sum>, number: u64, like: &T) -> Option<Link<T::Sum>>
+pub fn take<T: Entry>(arena: &mut Arena<T, T::Sum>, number: u32, like: &T) -> Option<Link<T::Sum>>
     requires there { HasKeyBelow T.key T.unit T.op T.of (store_of arena.old) number like.now }
     requires same { IsAt T.key T.unit T.op T.of (store_of arena.old) number like.now true }
     ensures taken { IsTaken T.key T.unit T.op T.of (store_of arena.old) (store_of arena.new) number
@@ -311,7 +311,7 @@ pub fn take<T: Entry>(arena: &mut Arena<T, T::Sum>, number: u64, like: &T) -> Op
 
 /// Takes out the root of a side, `child`, which has the key of `like`.
 #[inline(never)]
-fn take_child<T: Entry>(arena: &mut Arena<T, T::Sum>, number: u64, child: u64, like: &T, side: Side)
+fn take_child<T: Entry>(arena: &mut Arena<T, T::Sum>, number: u32, child: u32, like: &T, side: Side)
     requires used { IsSome (store_of arena.old number) }
     requires there { HasKeyBelow T.key T.unit T.op T.of (store_of arena.old) child like.now }
     requires same { IsAt T.key T.unit T.op T.of (store_of arena.old) child like.now true }
@@ -326,7 +326,7 @@ fn take_child<T: Entry>(arena: &mut Arena<T, T::Sum>, number: u64, child: u64, l
 /// Takes the node with the key of `like` out of the tree with the root `number`, which is another
 /// one: the number of that node, and whether the root is stored otherwise.
 #[cycle(remove)]
-pub fn removed_below<T: Entry>(arena: &mut Arena<T, T::Sum>, number: u64, like: &T) -> (u64, bool)
+pub fn removed_below<T: Entry>(arena: &mut Arena<T, T::Sum>, number: u32, like: &T) -> (u32, bool)
     requires there { HasKeyBelow T.key T.unit T.op T.of (store_of arena.old) number like.now }
     requires other { IsAt T.key T.unit T.op T.of (store_of arena.old) number like.now false }
     ensures removed { IsRemovedBelow T.key T.unit T.op T.of (store_of arena.old)
@@ -345,10 +345,10 @@ pub fn removed_below<T: Entry>(arena: &mut Arena<T, T::Sum>, number: u64, like: 
 #[inline(always)]
 fn removed_on<T: Entry>(
     arena: &mut Arena<T, T::Sum>,
-    number: u64,
+    number: u32,
     like: &T,
     side: Side,
-) -> (u64, bool)
+) -> (u32, bool)
     requires there { HasKeyBelow T.key T.unit T.op T.of (store_of arena.old) number like.now }
     requires other { IsAt T.key T.unit T.op T.of (store_of arena.old) number like.now false }
     requires side { IsSideFor T.key T.unit T.op T.of (store_of arena.old) number like.now side }
@@ -377,8 +377,8 @@ fn removed_on<T: Entry>(
 #[cycle(split)]
 pub fn split_below<T: Entry>(
     arena: &mut Arena<T, T::Sum>,
-    number: u64,
-    new: u64,
+    number: u32,
+    new: u32,
     lower: &T,
     upper: &T,
 ) -> bool
@@ -403,8 +403,8 @@ pub fn split_below<T: Entry>(
 #[inline(always)]
 fn split_on<T: Entry>(
     arena: &mut Arena<T, T::Sum>,
-    number: u64,
-    new: u64,
+    number: u32,
+    new: u32,
     lower: &T,
     upper: &T,
     side: Side,
@@ -430,11 +430,11 @@ fn split_on<T: Entry>(
 #[inline(never)]
 fn joined_at<T: Entry>(
     arena: &mut Arena<T, T::Sum>,
-    number: u64,
+    number: u32,
     lower: &T,
     upper: &T,
     joined: &T,
-) -> u64
+) -> u32
     requires join { IsJoinBelowFor T.key T.unit T.op T.of (store_of arena.old) number lower.now
         upper.now joined.now }
     requires meets { IsBetween T.key T.unit T.op T.of (store_of arena.old) number lower.now
@@ -442,7 +442,7 @@ fn joined_at<T: Entry>(
     ensures { IsJoinedBelow T.key T.unit T.op T.of (store_of arena.old) (store_of arena.new) number
         lower.now upper.now joined.now result true }
 {
-    if lower.is_before(&arena.look(number).entry) {
+    if lower.is_before(&arena.get(number).entry) {
         let (out, _) = removed_below(arena, number, lower);
         arena.set_entry(number, *joined);
         return out;
@@ -459,11 +459,11 @@ fn joined_at<T: Entry>(
 #[cycle(join)]
 pub fn joined_below<T: Entry>(
     arena: &mut Arena<T, T::Sum>,
-    number: u64,
+    number: u32,
     lower: &T,
     upper: &T,
     joined: &T,
-) -> (u64, bool)
+) -> (u32, bool)
     requires { IsJoinBelowFor T.key T.unit T.op T.of (store_of arena.old) number lower.now upper.now
         joined.now }
     ensures { IsJoinedBelow T.key T.unit T.op T.of (store_of arena.old) (store_of arena.new) number
@@ -481,12 +481,12 @@ pub fn joined_below<T: Entry>(
 #[inline(always)]
 fn joined_on<T: Entry>(
     arena: &mut Arena<T, T::Sum>,
-    number: u64,
+    number: u32,
     lower: &T,
     upper: &T,
     joined: &T,
     side: Side,
-) -> (u64, bool)
+) -> (u32, bool)
     requires join { IsJoinBelowFor T.key T.unit T.op T.of (store_of arena.old) number lower.now
         upper.now joined.now }
     requires side { IsBeside T.key T.unit T.op T.of (store_of arena.old) number lower.now upper.now

@@ -20,6 +20,7 @@
 mod arena;
 mod avl;
 mod below;
+mod cell;
 mod entry;
 mod link;
 mod tree;

@@ -17,7 +17,7 @@ use crate::entry::Entry;
 use crate::link::{Link, Side, Stored};
 
 #[inline]
-pub fn height<S: Copy + Drop>(tree: Option<Link<S>>) -> u64
+pub fn height<S: Copy + Drop>(tree: Option<Link<S>>) -> u8
     ensures { result ≡ height_of tree }
 {
     match tree {
@@ -49,13 +49,13 @@ pub fn open<T: Entry>(arena: &Arena<T, T::Sum>, tree: Link<T::Sum>) -> Stored<T,
 #[inline(always)]
 pub fn close<T: Entry>(
     arena: &mut Arena<T, T::Sum>,
-    number: u64,
+    number: u32,
     left: Option<Link<T::Sum>>,
     entry: T,
     right: Option<Link<T::Sum>>,
 ) -> Link<T::Sum>
     requires used { IsSome (store_of arena.old number) }
-    requires low { max (height_of left) (height_of right) < 2 ^ 63 }
+    requires low { max (height_of left) (height_of right) < 220 }
     ensures set { IsSet T.key T.unit T.op T.of (store_of arena.old) (store_of arena.new) number left
         entry right result }
     ensures height { result.height ≡ max (height_of left) (height_of right) + 1 }
@@ -82,14 +82,14 @@ pub fn close<T: Entry>(
 #[inline(always)]
 fn lean_left<T: Entry>(
     arena: &mut Arena<T, T::Sum>,
-    number: u64,
+    number: u32,
     left: Link<T::Sum>,
     entry: T,
     right: Option<Link<T::Sum>>,
 ) -> Link<T::Sum>
     requires spot { IsSpot T.key T.unit T.op T.of (store_of arena.old) number (Some left) right }
     requires two_higher { left.height ≡ height_of right + 2 }
-    requires low { left.height < 2 ^ 62 }
+    requires low { left.height < 210 }
     ensures joined { IsJoined T.key T.unit T.op T.of (store_of arena.old) (store_of arena.new)
         number (Some left) entry right result }
     ensures not_lower { left.height ≤ result.height }
@@ -125,14 +125,14 @@ fn lean_left<T: Entry>(
 #[inline(always)]
 fn lean_right<T: Entry>(
     arena: &mut Arena<T, T::Sum>,
-    number: u64,
+    number: u32,
     left: Option<Link<T::Sum>>,
     entry: T,
     right: Link<T::Sum>,
 ) -> Link<T::Sum>
     requires spot { IsSpot T.key T.unit T.op T.of (store_of arena.old) number left (Some right) }
     requires two_higher { right.height ≡ height_of left + 2 }
-    requires low { right.height < 2 ^ 62 }
+    requires low { right.height < 210 }
     ensures joined { IsJoined T.key T.unit T.op T.of (store_of arena.old) (store_of arena.new)
         number left entry (Some right) result }
     ensures not_lower { right.height ≤ result.height }
@@ -168,14 +168,14 @@ fn lean_right<T: Entry>(
 #[inline(always)]
 pub fn balance<T: Entry>(
     arena: &mut Arena<T, T::Sum>,
-    number: u64,
+    number: u32,
     left: Option<Link<T::Sum>>,
     entry: T,
     right: Option<Link<T::Sum>>,
 ) -> Link<T::Sum>
     requires spot { IsSpot T.key T.unit T.op T.of (store_of arena.old) number left right }
     requires level { DifferByAtMost 2 (height_of left) (height_of right) }
-    requires low { max (height_of left) (height_of right) < 2 ^ 62 }
+    requires low { max (height_of left) (height_of right) < 210 }
     ensures joined { IsJoined T.key T.unit T.op T.of (store_of arena.old) (store_of arena.new)
         number left entry right result }
     ensures height { IsHeightAfter (height_of left) (height_of right) result.height }
@@ -228,7 +228,7 @@ fn with_left<T: Entry>(
     requires root { IsRoot T.key T.unit T.op T.of (store_of arena.old) tree own entry right }
     requires spot { IsSpot T.key T.unit T.op T.of (store_of arena.old) tree.number left right }
     requires level { DifferByAtMost 2 (height_of left) (height_of right) }
-    requires low { max (height_of left) (height_of right) < 2 ^ 62 }
+    requires low { max (height_of left) (height_of right) < 210 }
     ensures joined { IsJoined T.key T.unit T.op T.of (store_of arena.old) (store_of arena.new)
         tree.number left entry right result }
     ensures height { IsHeightAfter (height_of left) (height_of right) result.height }
@@ -260,11 +260,11 @@ fn with_left<T: Entry>(
 pub fn place<T: Entry>(
     arena: &mut Arena<T, T::Sum>,
     tree: Option<Link<T::Sum>>,
-    number: u64,
+    number: u32,
     entry: T,
 ) -> Link<T::Sum>
     requires place { IsPlaceFor T.key T.unit T.op T.of (store_of arena.old) tree number entry }
-    requires low { height_of tree < 2 ^ 61 }
+    requires low { height_of tree < 200 }
     ensures placed { IsPlaced T.key T.unit T.op T.of (store_of arena.old) (store_of arena.new) tree
         number entry result }
     ensures not_lower { height_of tree ≤ result.height }
@@ -284,9 +284,9 @@ pub fn place<T: Entry>(
 pub fn pop_first<T: Entry>(
     arena: &mut Arena<T, T::Sum>,
     tree: Link<T::Sum>,
-) -> (u64, T, Option<Link<T::Sum>>)
+) -> (u32, T, Option<Link<T::Sum>>)
     requires held { IsHeld T.key T.unit T.op T.of (store_of arena.old) (Some tree) }
-    requires low { tree.height < 2 ^ 61 }
+    requires low { tree.height < 200 }
     ensures popped { IsPopped T.key T.unit T.op T.of (store_of arena.old) (store_of arena.new) tree
         result.0 result.1 result.2 }
     ensures not_higher { height_of result.2 ≤ tree.height }
@@ -313,9 +313,9 @@ pub fn remove<T: Entry>(
     arena: &mut Arena<T, T::Sum>,
     tree: Option<Link<T::Sum>>,
     like: T,
-) -> (u64, Option<Link<T::Sum>>)
+) -> (u32, Option<Link<T::Sum>>)
     requires there { HasKey T.key T.unit T.op T.of (store_of arena.old) tree like }
-    requires low { height_of tree < 2 ^ 61 }
+    requires low { height_of tree < 200 }
     ensures removed { IsWithout T.key T.unit T.op T.of (store_of arena.old) (store_of arena.new)
         tree (without_key T.key (T.key like) (entries (tree_at (store_of arena.old) tree))) result.0
         result.1 }
@@ -344,7 +344,7 @@ pub fn replace<T: Entry>(
     entry: T,
 ) -> Link<T::Sum>
     requires there { HasKey T.key T.unit T.op T.of (store_of arena.old) tree entry }
-    requires low { height_of tree < 2 ^ 61 }
+    requires low { height_of tree < 200 }
     ensures replaced { IsReplaced T.key T.unit T.op T.of (store_of arena.old) (store_of arena.new)
         tree entry result }
     ensures height { result.height ≡ height_of tree }
@@ -361,12 +361,12 @@ pub fn replace<T: Entry>(
 pub fn split<T: Entry>(
     arena: &mut Arena<T, T::Sum>,
     tree: Option<Link<T::Sum>>,
-    new: u64,
+    new: u32,
     lower: T,
     upper: T,
 ) -> Link<T::Sum>
     requires split { IsSplitFor T.key T.unit T.op T.of (store_of arena.old) tree new lower upper }
-    requires low { height_of tree < 2 ^ 61 }
+    requires low { height_of tree < 200 }
     ensures { IsSplit T.key T.unit T.op T.of (store_of arena.old) (store_of arena.new) tree new
         lower upper result }
 {
@@ -385,9 +385,9 @@ pub fn join<T: Entry>(
     lower: T,
     upper: T,
     joined: T,
-) -> (u64, Link<T::Sum>)
+) -> (u32, Link<T::Sum>)
     requires join { IsJoinFor T.key T.unit T.op T.of (store_of arena.old) tree lower upper joined }
-    requires low { height_of tree < 2 ^ 61 }
+    requires low { height_of tree < 200 }
     ensures { IsJoinedAt T.key T.unit T.op T.of (store_of arena.old) (store_of arena.new) tree lower
         upper joined result.0 result.1 }
 {

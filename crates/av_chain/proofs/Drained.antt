@@ -2,7 +2,6 @@
 use Rattle.std.proofs.Common.{◌≡◌, ℕ, ◌<◌, true, false, cond, ◌==◌, List, [], ◌∷◌, length, refl, sym, ap, ◌∙◌, subst, Option, Some, None, arith, nat_eq}
 use Rattle.std.specs.List.{AllByRecursion, IsDistinct}
 use Rattle.std.specs.Map.{keys_of, lookup}
-use Rattle.std.specs.Prelude.{Result, Ok, Err, OnOk}
 use Rattle.av_chain.specs.declared.node.Head.{Head}
 use Rattle.av_chain.specs.declared.node.Node.{Node}
 use Rattle.av_chain.specs.declared.node.Place.{Place}
@@ -192,9 +191,3 @@ rows_empty (b ∷ bs) h = let clash : b ∷ row Area b.1.area bs ≡ [] =
 
 pub none_left : (bs : List Block) → AreLeft [] bs → bs ≡ []
 none_left bs left = rows_empty bs (λ k. row_none Area (λ j. None) bs left.threaded k refl)
-
--- ---- answers
-
-pub on_ok : {X E P Q : Type 0} (r : Result X E) → (P → Q) → OnOk r P → OnOk r Q
-on_ok (Ok x) f p = f p
-on_ok (Err e) f p = p

@@ -11,18 +11,18 @@ use Rattle.av_chain.specs.declared.node.Way.TheVariants.{Area, Anon}
 use Rattle.av_chain.specs.declared.node.Sides.{Sides}
 use Rattle.av_chain.specs.declared.node.Place.{Place}
 use Rattle.av_chain.specs.Nodes.{Block, same_ptr, place_of, IsApart, has_place, without_node}
-use Rattle.av_chain.specs.Rows.{stored, place_if, sides_of, with_before, with_after, node_changed, place_changed, leads_on, leads_back, Reaches, at_block, first_or, last_from, IsRun, end_of, head_of, last_of, head_with, head_beside, head_without}
+use Rattle.av_chain.specs.Rows.{or_nowhere, place_if, sides_of, with_before, with_after, node_changed, place_changed, leads_on, leads_back, Reaches, at_block, first_or, last_from, IsRun, end_of, head_of, last_of, head_with, head_beside, head_without}
 use Rattle.av_chain.proofs.Pointers.{same_ptr_refl}
 use Rattle.av_chain.proofs.Apart.{IsFresh, apart_tail, apart_head, removed_fresh}
 use Rattle.av_chain.proofs.Altered.{either, or_right, or_rest, fresh_left, apart_right, has_here, place_cond, changed_avoids, changed_append, places_changed, apart_changed, fresh_changed, reaches_avoids, avoids_reaches}
 
-stored_back : (o : Option Place) → place_if (is_some o) (stored o) ≡ o
+stored_back : (o : Option Place) → place_if (is_some o) (or_nowhere o) ≡ o
 stored_back None = refl
 stored_back (Some p) = refl
 
 pub stored_sides : (s : Sides) → record {
-  before = place_if (is_some s.before) (stored s.before);
-  after = place_if (is_some s.after) (stored s.after);
+  before = place_if (is_some s.before) (or_nowhere s.before);
+  after = place_if (is_some s.after) (or_nowhere s.after);
 } ≡ s
 stored_sides s = λ i. record { before = stored_back s.before i; after = stored_back s.after i }
 

@@ -1,8 +1,9 @@
 -- The two maps that a list of links is.
 use Rattle.av_base.specs.Words.{how_many, is_in, with_at, without}
-use Rattle.std.proofs.Common.{◌≡◌, ℕ, ◌+◌, arith, true, false, cond, ◌||◌, ◌==◌, List, [], ◌∷◌, ◌++◌, refl, sym, ap, ◌∙◌, Option, Some, None, append-nil, not}
+use Rattle.std.proofs.Common.{◌≡◌, ℕ, zero, suc, ◌+◌, ◌<◌, length, take, get_or, append_assoc, arith, true, false, cond, ◌||◌, ◌==◌, List, [], ◌∷◌, ◌++◌, refl, sym, ap, ◌∙◌, Option, Some, None, append-nil, not}
+use Rattle.std.specs.Prelude.{Result, Ok, Err, OnErr, OnOk}
 use mathlib.Core.Bool.{Bool}
-use Rattle.av_chain.specs.Links.{Link, chain_of, users_of, first_in, rest_in, left_by, left_by_all, one_if, AreMutual, AreOnce, without_first}
+use Rattle.av_chain.specs.Links.{Link, AreNew, users_with, links_to, chain_of, users_of, first_in, rest_in, left_by, left_by_all, one_if, AreMutual, AreOnce, without_first}
 use Rattle.av_chain.proofs.Altered.{either, cond_lift, cond_same}
 use Rattle.av_chain.proofs.Threads.{number_eq, same_number}
 use Rattle.av_chain.proofs.Wholes.{chain_append, is_in_append, or_false}
@@ -14,16 +15,86 @@ users_append [] ms v = refl
 users_append (l ∷ ls) ms v = (λ i. cond (v == l.1) (l.0 ∷ users_append ls ms v i) (users_append ls ms v i))
     ∙ sym (cond_lift (λ xs. xs ++ users_of ms v) (v == l.1) (l.0 ∷ users_of ls v) (users_of ls v))
 
-at_end : (f : ℕ → List ℕ) (k x j : ℕ) → f j ++ cond (j == k) (x ∷ []) [] ≡ with_at k (f k ++ x ∷ []) f j
-at_end f k x j = either (f j ++ cond (j == k) (x ∷ []) [] ≡ cond (j == k) (f k ++ x ∷ []) (f j)) (j == k)
-    (λ e. ap (λ y. f j ++ cond y (x ∷ []) []) e ∙ ap (λ i. f i ++ x ∷ []) (sym (number_eq k j e)) ∙ sym (ap (λ y. cond y (f k ++ x ∷ []) (f j)) e))
-    (λ e. ap (λ y. f j ++ cond y (x ∷ []) []) e ∙ append-nil (f j) ∙ sym (ap (λ y. cond y (f k ++ x ∷ []) (f j)) e))
+at_end : (f : ℕ → List ℕ) (k : ℕ) (xs : List ℕ) (j : ℕ) → f j ++ cond (j == k) xs [] ≡ with_at k (f k ++ xs) f j
+at_end f k xs j = either (f j ++ cond (j == k) xs [] ≡ cond (j == k) (f k ++ xs) (f j)) (j == k)
+    (λ e. ap (λ y. f j ++ cond y xs []) e ∙ ap (λ i. f i ++ xs) (sym (number_eq k j e)) ∙ sym (ap (λ y. cond y (f k ++ xs) (f j)) e))
+    (λ e. ap (λ y. f j ++ cond y xs []) e ∙ append-nil (f j) ∙ sym (ap (λ y. cond y (f k ++ xs) (f j)) e))
 
 pub chain_push : (ls : List Link) (a v : ℕ) → chain_of (ls ++ (a, v) ∷ []) ≡ with_at a (chain_of ls a ++ v ∷ []) (chain_of ls)
-chain_push ls a v = λ i b. (chain_append ls ((a, v) ∷ []) b ∙ at_end (chain_of ls) a v b) i
+chain_push ls a v = λ i b. (chain_append ls ((a, v) ∷ []) b ∙ at_end (chain_of ls) a (v ∷ []) b) i
 
 pub users_push : (ls : List Link) (a v : ℕ) → users_of (ls ++ (a, v) ∷ []) ≡ with_at v (users_of ls v ++ a ∷ []) (users_of ls)
-users_push ls a v = λ i u. (users_append ls ((a, v) ∷ []) u ∙ at_end (users_of ls) v a u) i
+users_push ls a v = λ i u. (users_append ls ((a, v) ∷ []) u ∙ at_end (users_of ls) v (a ∷ []) u) i
+
+-- ---- links of one area are made
+
+links_chain : (a b : ℕ) (xs : List ℕ) → chain_of (links_to a xs) b ≡ cond (b == a) xs []
+links_chain a b [] = sym (cond_same (b == a) [])
+links_chain a b (x ∷ xs) =
+    let C = chain_of (links_to a xs) b in
+    let rest : C ≡ cond (b == a) xs [] = links_chain a b xs in
+    either (cond (b == a) (x ∷ C) C ≡ cond (b == a) (x ∷ xs) []) (b == a)
+    (λ e. ap (λ y. cond y (x ∷ C) C) e ∙ ap (λ ys. x ∷ ys) (rest ∙ ap (λ y. cond y xs []) e) ∙ sym (ap (λ y. cond y (x ∷ xs) []) e))
+    (λ e. ap (λ y. cond y (x ∷ C) C) e ∙ rest ∙ ap (λ y. cond y xs []) e ∙ sym (ap (λ y. cond y (x ∷ xs) []) e))
+
+pub chain_all : (ls : List Link) (a : ℕ) (xs : List ℕ) → chain_of (ls ++ links_to a xs) ≡ with_at a (chain_of ls a ++ xs) (chain_of ls)
+chain_all ls a xs = λ i b. (chain_append ls (links_to a xs) b ∙ ap (λ ys. chain_of ls b ++ ys) (links_chain a b xs) ∙ at_end (chain_of ls) a xs b) i
+
+pub chain_here : (ls : List Link) (a : ℕ) (xs : List ℕ) → chain_of (ls ++ links_to a xs) a ≡ chain_of ls a ++ xs
+chain_here ls a xs = ap (λ (f : ℕ → List ℕ). f a) (chain_all ls a xs) ∙ ap (λ y. cond y (chain_of ls a ++ xs) (chain_of ls a)) (same_number a)
+
+pub links_more : (a : ℕ) (xs : List ℕ) (x : ℕ) → links_to a (xs ++ x ∷ []) ≡ links_to a xs ++ (a, x) ∷ []
+links_more a [] x = refl
+links_more a (y ∷ xs) x = ap (λ ls. (a, y) ∷ ls) (links_more a xs x)
+
+true_right : (x : Bool) → (x || true) ≡ true
+true_right true = refl
+true_right false = refl
+
+pub in_end : (x : ℕ) (c : List ℕ) → is_in x (c ++ x ∷ []) ≡ true
+in_end x c = is_in_append x c (x ∷ []) ∙ ap (λ y. is_in x c || (y || false)) (same_number x) ∙ true_right (is_in x c)
+
+in_front : (x : ℕ) (c ys : List ℕ) → is_in x c ≡ true → is_in x (c ++ ys) ≡ true
+in_front x c ys e = is_in_append x c ys ∙ ap (λ y. y || is_in x ys) e
+
+-- none of what is new stands in the chain
+new_apart : (c xs : List ℕ) (x : ℕ) → is_in x c ≡ true → AreNew c xs → is_in x xs ≡ false
+new_apart c [] x e n = refl
+new_apart c (y ∷ ys) x e n = either (is_in x (y ∷ ys) ≡ false) (x == y)
+    (λ same. let clash : true ≡ false = sym e ∙ ap (λ k. is_in k c) (sym (number_eq y x same)) ∙ n.0 in cc)
+    (λ other. ap (λ t. t || is_in x ys) other ∙ new_apart (c ++ y ∷ []) ys x (in_front x c (y ∷ []) e) n.1)
+
+links_users : (a v : ℕ) (c xs : List ℕ) → AreNew c xs → users_of (links_to a xs) v ≡ cond (is_in v xs) (a ∷ []) []
+links_users a v c [] n = refl
+links_users a v c (x ∷ xs) n =
+    let U = users_of (links_to a xs) v in
+    let rest : U ≡ cond (is_in v xs) (a ∷ []) [] = links_users a v (c ++ x ∷ []) xs n.1 in
+    either (cond (v == x) (a ∷ U) U ≡ cond ((v == x) || is_in v xs) (a ∷ []) []) (v == x)
+    (λ e.
+    let gone : is_in v xs ≡ false = ap (λ k. is_in k xs) (sym (number_eq x v e)) ∙ new_apart (c ++ x ∷ []) xs x (in_end x c) n.1 in
+    ap (λ y. cond y (a ∷ U) U) e ∙ ap (λ us. a ∷ us) (rest ∙ ap (λ y. cond y (a ∷ []) []) gone)
+    ∙ sym (ap (λ y. cond (y || is_in v xs) (a ∷ []) []) e))
+    (λ e. ap (λ y. cond y (a ∷ U) U) e ∙ rest ∙ sym (ap (λ y. cond (y || is_in v xs) (a ∷ []) []) e))
+
+pub users_all : (ls : List Link) (a : ℕ) (c xs : List ℕ) → AreNew c xs → users_of (ls ++ links_to a xs) ≡ users_with a xs (users_of ls)
+users_all ls a c xs n = λ i v.
+    (users_append ls (links_to a xs) v ∙ ap (λ us. users_of ls v ++ us) (links_users a v c xs n)
+    ∙ cond_lift (λ us. users_of ls v ++ us) (is_in v xs) (a ∷ []) []
+    ∙ ap (λ us. cond (is_in v xs) (users_of ls v ++ a ∷ []) us) (append-nil (users_of ls v))) i
+
+-- the next of what is new stands neither in the chain nor before itself
+pub new_at : (c xs : List ℕ) (k : ℕ) → AreNew c xs → k < length xs → is_in (get_or xs k 0) (c ++ take k xs) ≡ false
+new_at c [] k n h = absurd (omega (arith, h))
+new_at c (x ∷ xs) zero n h = ap (is_in x) (append-nil c) ∙ n.0
+new_at c (x ∷ xs) (suc k) n h =
+    ap (is_in (get_or xs k 0)) (sym (append_assoc c (x ∷ []) (take k xs))) ∙ new_at (c ++ x ∷ []) xs k n.1 (omega (arith, h))
+
+pub new_by : (c xs : List ℕ) → ((k : ℕ) → k < length xs → is_in (get_or xs k 0) (c ++ take k xs) ≡ false) → AreNew c xs
+new_by c [] f = tt
+new_by c (x ∷ xs) f = (
+  ap (is_in x) (sym (append-nil c)) ∙ f 0 (omega arith),
+  new_by (c ++ x ∷ []) xs (λ k h. ap (is_in (get_or xs k 0)) (append_assoc c (x ∷ []) (take k xs)) ∙ f (suc k) (omega (arith, h))),
+)
 
 -- ---- each map is the other's inverse
 
@@ -190,11 +261,11 @@ left_all ls a v = either (cond (is_in v (chain_of ls a)) (without a (users_of ls
 
 -- ---- one link after another goes
 
-pub with_at_same : (k : ℕ) (f : ℕ → List ℕ) → with_at k (f k) f ≡ f
+pub with_at_same : {X : Type 0} (k : ℕ) (f : ℕ → X) → with_at k (f k) f ≡ f
 with_at_same k f = λ i j. (either (cond (j == k) (f k) (f j) ≡ f j) (j == k) (λ e. ap (λ y. cond y (f k) (f j)) e ∙ ap f (number_eq k j e))
     (λ e. ap (λ y. cond y (f k) (f j)) e)) i
 
-pub with_at_twice : (k : ℕ) (x y : List ℕ) (f : ℕ → List ℕ) → with_at k x (with_at k y f) ≡ with_at k x f
+pub with_at_twice : {X : Type 0} (k : ℕ) (x y : X) (f : ℕ → X) → with_at k x (with_at k y f) ≡ with_at k x f
 with_at_twice k x y f = λ i j. (either (cond (j == k) x (cond (j == k) y (f j)) ≡ cond (j == k) x (f j)) (j == k)
     (λ e. ap (λ t. cond t x (cond (j == k) y (f j))) e ∙ sym (ap (λ t. cond t x (f j)) e))
     (λ e. ap (λ t. cond t x (cond t y (f j))) e ∙ sym (ap (λ t. cond t x (f j)) e))) i
@@ -233,3 +304,13 @@ first_none (x ∷ xs) e = cc
 pub first_some : (xs : List ℕ) (v : ℕ) → Some v ≡ first_in xs → xs ≡ v ∷ rest_in xs
 first_some [] v e = cc
 first_some (x ∷ xs) v e = let is : v ≡ x = cc in ap (λ y. y ∷ xs) (sym is)
+
+-- ---- answers
+
+pub on_ok : {X E P Q : Type 0} (r : Result X E) → (P → Q) → OnOk r P → OnOk r Q
+on_ok (Ok x) f p = f p
+on_ok (Err e) f p = p
+
+pub on_err : {X E P : Type 0} (r : Result X E) → P → OnErr r P
+on_err (Ok x) p = tt
+on_err (Err e) p = p

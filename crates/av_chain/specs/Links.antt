@@ -1,6 +1,6 @@
 -- The links as they were made one after another, and the two maps that they are.
 use Rattle.std.specs.Prelude.{◌≡◌, ℕ, Bool, false, ◌==◌, cond, if◌then◌else◌, List, [], ◌∷◌, Option}
-use Rattle.std.specs.Prelude.{Some, None}
+use Rattle.std.specs.Prelude.{Some, None, ◌++◌, map, take}
 use Rattle.av_base.specs.Words.{how_many, is_in, with_at, without}
 
 -- an area, and an anon_vma that it is linked to
@@ -48,6 +48,24 @@ pub record AreMutual (chain_of users_of : ℕ → List ℕ) : Type 0 where
       → how_many (λ a. area == a) (users_of anon) ≡ one_if (is_in anon (chain_of area))
   pub once : (area anon : ℕ)
       → how_many (λ v. anon == v) (chain_of area) ≡ one_if (is_in anon (chain_of area))
+
+-- links of an area to these anon_vmas
+abbrev pub links_to : ℕ → List ℕ → List Link
+links_to area anons = map (λ anon. (area, anon)) anons
+
+-- the area was linked to so many of these anon_vmas, the first ones
+pub record HasSome (area : ℕ) (anons : List ℕ) (old new : List Link) : Type 0 where
+  pub many : ℕ
+  pub is : new ≡ old ++ links_to area (take many anons)
+
+-- no anon_vma stands twice in the chain with these behind it
+abbrev pub AreNew : List ℕ → List ℕ → Type 0
+AreNew chain [] = Unit {0}
+AreNew chain (v ∷ vs) = (is_in v chain ≡ false) × AreNew (chain ++ v ∷ []) vs
+
+-- the areas of each anon_vma, once an area is linked to these
+abbrev pub users_with : ℕ → List ℕ → (ℕ → List ℕ) → ℕ → List ℕ
+users_with area anons f anon = if is_in anon anons then f anon ++ area ∷ [] else f anon
 
 -- no link is made twice
 abbrev pub AreOnce : List Link → Type 0

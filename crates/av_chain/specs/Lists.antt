@@ -1,5 +1,5 @@
 -- How `Links` keeps its links in memory.
-use Rattle.av_base.specs.Words.{is_in}
+use Rattle.av_base.specs.Words.{is_in, with_at}
 use Rattle.std.specs.Prelude.{◌≡◌, ℕ, false, List, [], ◌∷◌, ◌++◌, Option, Some, None, option_map}
 use Rattle.std.specs.Prelude.{nat_eq}
 use Rattle.std.specs.HashMap.{get}
@@ -26,6 +26,11 @@ pub record AreThreaded (areas anons : ℕ → Option Head) (bs : List Block) : T
 -- the lists lead through all nodes, and the heads know them
 abbrev pub AreKept : Lists → Type 0
 AreKept l = AreThreaded (get nat_eq l.areas) (get nat_eq l.anons) l.nodes.blocks
+
+-- the same, where the heads were not told that the list of one area has this head
+abbrev pub AreKeptBut : ℕ → Option Head → Lists → Type 0
+AreKeptBut area head l =
+    AreThreaded (with_at area head (get nat_eq l.areas)) (get nat_eq l.anons) l.nodes.blocks
 
 -- the links that the lists are
 abbrev pub links_in : Lists → List Link

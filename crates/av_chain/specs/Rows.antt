@@ -20,9 +20,9 @@ key_of Anon n = n.anon
 abbrev pub nowhere : Place
 nowhere = record { ptr = null_ptr }
 
-abbrev pub stored : Option Place → Place
-stored None = nowhere
-stored (Some p) = p
+abbrev pub or_nowhere : Option Place → Place
+or_nowhere None = nowhere
+or_nowhere (Some p) = p
 
 abbrev pub place_if : Bool → Place → Option Place
 place_if false p = None
@@ -44,10 +44,10 @@ abbrev pub node_of : ℕ → ℕ → Sides → Sides → Node
 node_of area anon sa sv = record {
   area = area;
   anon = anon;
-  area_before = stored sa.before;
-  area_after = stored sa.after;
-  anon_before = stored sv.before;
-  anon_after = stored sv.after;
+  area_before = or_nowhere sa.before;
+  area_after = or_nowhere sa.after;
+  anon_before = or_nowhere sv.before;
+  anon_after = or_nowhere sv.after;
   has_area_before = is_some sa.before;
   has_area_after = is_some sa.after;
   has_anon_before = is_some sv.before;
@@ -55,12 +55,12 @@ node_of area anon sa sv = record {
 }
 
 abbrev pub with_before : Way → Option Place → Node → Node
-with_before Area o n = record n { area_before = stored o; has_area_before = is_some o }
-with_before Anon o n = record n { anon_before = stored o; has_anon_before = is_some o }
+with_before Area o n = record n { area_before = or_nowhere o; has_area_before = is_some o }
+with_before Anon o n = record n { anon_before = or_nowhere o; has_anon_before = is_some o }
 
 abbrev pub with_after : Way → Option Place → Node → Node
-with_after Area o n = record n { area_after = stored o; has_area_after = is_some o }
-with_after Anon o n = record n { anon_after = stored o; has_anon_after = is_some o }
+with_after Area o n = record n { area_after = or_nowhere o; has_area_after = is_some o }
+with_after Anon o n = record n { anon_after = or_nowhere o; has_anon_after = is_some o }
 
 -- the node at a place is changed
 abbrev pub node_changed : Ptr → (Node → Node) → List Block → List Block

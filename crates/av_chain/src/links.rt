@@ -2,7 +2,8 @@
 ghost use Rattle.av_base.specs.Words.{is_in, with_at, without};
 ghost use Rattle.std.specs.Prelude.{◌≡◌, ℕ, ◌+◌, [], ◌∷◌, ◌++◌, true, false, IfOk, OnOk, OnErr};
 ghost use Rattle.std.specs.Prelude.{length};
-ghost use Rattle.av_chain.specs.Links.{chain_of, users_of, first_in, after_in, AreMutual};
+ghost use Rattle.av_chain.specs.Links.{chain_of, users_of, first_in, after_in, users_with};
+ghost use Rattle.av_chain.specs.Links.{AreMutual, AreNew, HasSome};
 
 use crate::lists::Lists;
 use crate::ring::{Ring, unlink_from};
@@ -55,6 +56,20 @@ impl Links {
         ensures err { OnErr result (self.new ≡ self.old) }
     {
         self.lists.add(self.alloc, area, anon)
+    }
+
+    /// Links an area to each of these anon_vmas, in their order: none of them stands twice, or in
+    /// the area's chain already. The area's list is looked up once. Without memory it is linked to
+    /// the first of them alone, or to none.
+    pub fn link_all(&mut self, area: u64, anons: &[u64]) -> Result<(), AllocError>
+        requires { AreNew (chain_of self.old area) anons.now }
+        ensures chain { OnOk result (chain_of self.new
+            ≡ with_at area (chain_of self.old area ++ anons.now) (chain_of self.old)) }
+        ensures users { OnOk result (users_of self.new
+            ≡ users_with area anons.now (users_of self.old)) }
+        ensures err { OnErr result (HasSome area anons.now self.old self.new) }
+    {
+        self.lists.add_all(self.alloc, area, anons)
     }
 
     /// Takes an area out of all its lists, in as many steps as it has links. It takes no memory.

@@ -6,12 +6,14 @@ ghost use Rattle.std.specs.HashMap.{get, spare};
 ghost use Rattle.av_chain.specs.declared.node.Way.TheVariants.{Area as AreaWay, Anon as AnonWay};
 ghost use Rattle.av_chain.specs.Nodes.{has_place, without_node};
 ghost use Rattle.av_chain.specs.Rows.{Reaches, last_of, first_or, row};
-ghost use Rattle.av_chain.specs.Links.{chain_of, after_in};
-ghost use Rattle.av_chain.specs.Lists.{links_of, links_in, AreKept, IsLinkAt, anon_there};
+ghost use Rattle.av_chain.specs.Links.{AreNew, HasSome, chain_of, after_in, links_to};
+ghost use Rattle.av_chain.specs.Lists.{links_of, links_in, AreKept, AreKeptBut, IsLinkAt};
+ghost use Rattle.av_chain.specs.Lists.{anon_there};
 
 use crate::node::{Head, Node, Place, Sides, Way};
 use crate::nodes::Nodes;
 use crate::parts::Parts;
+use crate::rows::tell_head;
 use std::alloc::{AllocError, Global};
 use std::collections::HashMap;
 
@@ -49,6 +51,77 @@ impl Lists {
         self.nodes.join(&mut self.areas, Way::Area, area, place);
         self.nodes.join(&mut self.anons, Way::Anon, anon, place);
         Ok(())
+    }
+
+    /// Links an area to each of these anon_vmas. Its head is looked up once, and told at the end.
+    pub(crate) fn add_all(
+        &mut self,
+        alloc: Global,
+        area: u64,
+        anons: &[u64],
+    ) -> Result<(), AllocError>
+        requires kept { AreKept self.old }
+        requires new { AreNew (chain_of (links_in self.old) area) anons.now }
+        ensures kept { AreKept self.new }
+        ensures links { OnOk result (links_in self.new ≡ links_in self.old
+            ++ links_to area anons.now) }
+        ensures err { OnErr result (HasSome area anons.now (links_in self.old)
+            (links_in self.new)) }
+    {
+        let mut head = head_with_room(&mut self.areas, area)?;
+        let all = self.add_each(alloc, area, &mut head, anons);
+        tell_head(&mut self.areas, area, head);
+        all
+    }
+
+    // Links an area whose list has this head to each of these anon_vmas. The heads are not told.
+    fn add_each(
+        &mut self,
+        alloc: Global,
+        area: u64,
+        head: &mut Option<Head>,
+        anons: &[u64],
+    ) -> Result<(), AllocError>
+        requires kept { AreKeptBut area head.old self.old }
+        requires new { AreNew (chain_of (links_in self.old) area) anons.now }
+        ensures areas { self.new.areas ≡ self.old.areas }
+        ensures kept { AreKeptBut area head.new self.new }
+        ensures links { OnOk result (links_in self.new ≡ links_in self.old
+            ++ links_to area anons.now) }
+        ensures err { OnErr result (HasSome area anons.now (links_in self.old)
+            (links_in self.new)) }
+    {
+        for anon in anons {
+            let longer = self.add_behind(alloc, area, *head, *anon)?;
+            *head = Some(longer);
+        }
+        Ok(())
+    }
+
+    // Links an area whose list has this head to an anon_vma: its head then, which the heads are not
+    // told.
+    fn add_behind(
+        &mut self,
+        alloc: Global,
+        area: u64,
+        head: Option<Head>,
+        anon: u64,
+    ) -> Result<Head, AllocError>
+        requires kept { AreKeptBut area head self.old }
+        requires new { is_in anon (chain_of (links_in self.old) area) ≡ false }
+        ensures areas { self.new.areas ≡ self.old.areas }
+        ensures kept { IfOk result (λ longer. AreKeptBut area (Some longer) self.new) }
+        ensures links { OnOk result (links_in self.new ≡ links_in self.old ++ (area, anon) ∷ []) }
+        ensures same { OnErr result (AreKeptBut area head self.new) }
+        ensures err { OnErr result (self.new.nodes.blocks ≡ self.old.nodes.blocks) }
+    {
+        let in_area = sides_behind(head)?;
+        let in_anon = room_for(&mut self.anons, anon)?;
+        let node = Box::new(alloc, Node::linking(area, anon, in_area, in_anon))?;
+        let place = self.nodes.put(Parts::of(node));
+        let longer = self.nodes.join_behind(Way::Area, head, place);
+        self.nodes.join(&mut self.anons, Way::Anon, anon, place);
+        Ok(longer)
     }
 
     /// Takes a node out of both its lists, and frees it. Answers its anon_vma.
@@ -179,8 +252,26 @@ fn room_for(heads: &mut HashMap<u64, Head>, key: u64) -> Result<Sides, AllocErro
         None)) }
     ensures few { OnOk result (IfSome (get nat_eq heads.new key) (λ h. h.count < 2 ^ 64 - 1)) }
 {
+    let head = head_with_room(heads, key)?;
+    sides_behind(head)
+}
+
+// The head of a list, if it has one, once there is room for one more.
+fn head_with_room(heads: &mut HashMap<u64, Head>, key: u64) -> Result<Option<Head>, AllocError>
+    ensures same { (k : ℕ) → get nat_eq heads.new k ≡ get nat_eq heads.old k }
+    ensures room { OnOk result (0 < spare heads.new) }
+    ensures head { IfOk result (λ h. h ≡ get nat_eq heads.new key) }
+{
     heads.reserve(1)?;
-    let Some(head) = heads.get(&key) else {
+    Ok(heads.get(&key).copied())
+}
+
+// The neighbours of a node that comes last in the list with this head.
+fn sides_behind(head: Option<Head>) -> Result<Sides, AllocError>
+    ensures sides { IfOk result (λ s. (s.before ≡ last_of head) × (s.after ≡ None)) }
+    ensures few { OnOk result (IfSome head (λ h. h.count < 2 ^ 64 - 1)) }
+{
+    let Some(head) = head else {
         return Ok(Sides {
             before: None,
             after: None,

@@ -61,6 +61,28 @@ impl Nodes {
         );
     }
 
+    /// Puts the node at a place at the end of the list with this head: its head then.
+    pub(crate) fn join_behind(&mut self, way: Way, head: Option<Head>, place: Place) -> Head
+        requires reaches { Reaches (last_of head) self.old.blocks }
+        requires few { IfSome head (λ h. h.count < 2 ^ 64 - 1) }
+        ensures blocks { self.new.blocks ≡ after_join way place head self.old.blocks }
+        ensures head { result ≡ head_with place head }
+    {
+        let Some(head) = head else {
+            return Head {
+                first: place,
+                last: place,
+                count: 1,
+            };
+        };
+        self.lead_on(way, Some(head.last), Some(place));
+        Head {
+            last: place,
+            count: head.count + 1,
+            ..head
+        }
+    }
+
     /// Takes a node with these neighbours out of its list.
     pub(crate) fn part(&mut self, heads: &mut HashMap<u64, Head>, way: Way, key: u64, sides: Sides)
         requires before { Reaches sides.before self.old.blocks }
@@ -122,6 +144,19 @@ fn head_left(sides: Sides, head: Head) -> Option<Head>
             last: head.last,
             count,
         }),
+    }
+}
+
+/// Tells the heads that of a list, for which there is room, or that it is empty.
+pub(crate) fn tell_head(heads: &mut HashMap<u64, Head>, key: u64, head: Option<Head>)
+    requires { 0 < spare heads.old }
+    ensures { HaveHead key head (get nat_eq heads.old) (get nat_eq heads.new) }
+{
+    match head {
+        Some(head) => set_head(heads, key, head),
+        None => {
+            heads.remove(&key);
+        }
     }
 }
 

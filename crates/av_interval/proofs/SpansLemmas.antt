@@ -27,8 +27,8 @@ pub shallow : (t : Tree) → IsLevel t → 2 ^ height t ≤ (length (entries t) 
 shallow Leaf lv = omega arith
 shallow (Fork n l x r) lv = shallow_entries (entries l) x (entries r) (height l) (height r) (shallow l lv.1) (shallow r lv.2) lv.0.0 lv.0.1
 
-below_limit : (h n : ℕ) → 2 ^ h ≤ (n + 1) * (n + 1) → n < 2 ^ 64 → h < 2 ^ 61
-below_limit h n p q = elim (cases_lt h (2 ^ 61)) [
+below_limit : (h n : ℕ) → 2 ^ h ≤ (n + 1) * (n + 1) → n < 2 ^ 64 → h < 200
+below_limit h n p q = elim (cases_lt h 200) [
   | inl k ↦ k
   | inr k ↦
       let a : 129 ≤ h = omega arith in
@@ -37,7 +37,7 @@ below_limit h n p q = elim (cases_lt h (2 ^ 61)) [
       absurd (omega arith)
 ]
 
-pub low : (s : Store) (r : ℕ → Option Root) → IsForest s r → (a : ℕ) → len_of (r a) < 2 ^ 64 → height_of (top_of (r a)) < 2 ^ 61
+pub low : (s : Store) (r : ℕ → Option Root) → IsForest s r → (a : ℕ) → len_of (r a) < 2 ^ 64 → height_of (top_of (r a)) < 200
 low s r f a h =
     let t = tree_at s (top_of (r a)) in
     let e = held_height key 0 max last_of max_laws s (top_of (r a)) (f.held a) in

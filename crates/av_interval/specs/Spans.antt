@@ -1,15 +1,16 @@
 -- One tree of spans for each anon_vma, over one store of nodes.
 use Rattle.std.specs.Prelude.{◌≡◌, ℕ, ◌+◌, ◌<◌, ◌≤◌, ◌^◌, max, slice_index_or, length, IsSome}
 use Rattle.std.specs.Prelude.{nat_eq}
-use Rattle.std.specs.Prelude.{Option, Some, None, List}
+use Rattle.std.specs.Prelude.{Option, Some, None, List, option_map}
 use Rattle.std.specs.Map.{lookup}
 use Rattle.av_arena.specs.Order.{IsRising}
 use Rattle.std.specs.List.{AllByRecursion}
 use Rattle.av_arena.specs.Tree as arena_tree
 use Rattle.av_arena.specs.Tree.{Fork, count_at, entries, entries_at, height, tree_at, tree_or_leaf}
 use Rattle.av_arena.specs.Tree.{IsHeld}
+use Rattle.av_arena.specs.Cell.{node_in}
 use Rattle.av_arena.specs.declared.link.Link.{Link}
-use Rattle.av_arena.specs.declared.link.Stored.{Stored}
+use Rattle.av_arena.specs.declared.cell.Cell.{Cell}
 use Rattle.av_interval.specs.Nodes.{Tree}
 use Rattle.av_interval.specs.Roots.{top_of, len_of}
 use Rattle.av_interval.specs.Span.{key, last_of}
@@ -19,12 +20,12 @@ use Rattle.av_interval.specs.declared.roots.Root.{Root}
 abbrev pub Store : Type 0
 Store = arena_tree.Store Span ℕ
 
--- the nodes by number, and the roots by anon_vma
+-- the cells by number, and the roots by anon_vma
 abbrev pub Forest : Type 0
-Forest = List (Option (Stored Span ℕ)) × List (ℕ × Root)
+Forest = List (Option (Cell Span ℕ)) × List (ℕ × Root)
 
 abbrev pub store_of : Forest → Store
-store_of v n = slice_index_or v.0 n None
+store_of v n = option_map node_in (slice_index_or v.0 n None)
 
 abbrev pub root_in : Forest → ℕ → Option Root
 root_in v anon = lookup (nat_eq anon) v.1

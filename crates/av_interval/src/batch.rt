@@ -40,7 +40,7 @@ fn add(node: &Node, index: u64, found: &mut Batch)
 #[inline(always)]
 fn gather<N: Nodes<L>, L: Ledger>(
     nodes: &N,
-    number: Option<u64>,
+    number: Option<u32>,
     index: u64,
     after: &Option<(u64, u64)>,
     found: &mut Batch,
@@ -70,7 +70,7 @@ fn gather<N: Nodes<L>, L: Ledger>(
 #[cycle(gather)]
 fn gather_below<N: Nodes<L>, L: Ledger>(
     nodes: &N,
-    number: u64,
+    number: u32,
     index: u64,
     after: &Option<(u64, u64)>,
     found: &mut Batch,

@@ -15,8 +15,8 @@ pub struct Node {
     pub first: u64,
     pub last: u64,
     pub area: u64,
-    pub left: Option<(u64, u64)>,
-    pub right: Option<(u64, u64)>,
+    pub left: Option<(u32, u64)>,
+    pub right: Option<(u32, u64)>,
 }
 
 pub trait Nodes<L: Ledger> {
@@ -28,12 +28,12 @@ pub trait Nodes<L: Ledger> {
 
     ghost below: { Self → ℕ → Tree };
 
-    fn root(&self, anon: u64) -> Option<u64>
+    fn root(&self, anon: u64) -> Option<u32>
         ensures root { MatchOption result (tree self.now anon ≡ Leaf)
             (λ n. is_node self.now n × (below self.now n ≡ tree self.now anon)) }
         ensures ordered { IsOrdered (entries (tree self.now anon)) };
 
-    fn visit(&self, node: u64, steps: &mut Steps<L>) -> Node
+    fn visit(&self, node: u32, steps: &mut Steps<L>) -> Node
         requires { is_node self.now node }
         ensures seen { IsSeen (is_node self.now) (below self.now) (below self.now node) result }
         ensures counted { steps.new ≡ steps.old + 1 };

@@ -22,7 +22,7 @@ pub(crate) fn comes_after(node: &Node, after: Option<(u64, u64)>) -> bool
     }
 }
 
-pub(crate) fn child_that_reaches(child: Option<(u64, u64)>, index: u64) -> Option<u64>
+pub(crate) fn child_that_reaches(child: Option<(u32, u64)>, index: u64) -> Option<u32>
     ensures { result ≡ reaching_child index child }
 {
     match child {
@@ -40,7 +40,7 @@ pub(crate) fn child_that_reaches(child: Option<(u64, u64)>, index: u64) -> Optio
 /// The first node below `number` that reaches `index`.
 fn first_reaching<N: Nodes<L>, L: Ledger>(
     nodes: &N,
-    number: u64,
+    number: u32,
     index: u64,
     steps: &mut Steps<L>,
 ) -> Node
@@ -66,7 +66,7 @@ fn first_reaching<N: Nodes<L>, L: Ledger>(
 /// The first node past `after` that reaches `index`.
 fn first_past<N: Nodes<L>, L: Ledger>(
     nodes: &N,
-    number: Option<u64>,
+    number: Option<u32>,
     index: u64,
     after: Option<(u64, u64)>,
     steps: &mut Steps<L>,

@@ -33,14 +33,14 @@ pub struct Spans {
 
 impl Model for Spans {
     ghost use Rattle.std.specs.Prelude.{ℕ, List, Option};
-    ghost use Rattle.av_arena.specs.declared.link.Stored.{Stored};
+    ghost use Rattle.av_arena.specs.declared.cell.Cell.{Cell};
     ghost use Rattle.av_interval.specs.declared.roots.Root.{Root};
     ghost use Rattle.av_interval.specs.declared.span.Span.{Span};
     ghost use Rattle.av_arena.specs.Arena.{store_of};
     ghost use Rattle.av_interval.specs.Roots.{root_of};
     ghost use Rattle.av_interval.specs.Spans.{IsForest};
 
-    ghost Value = { List (Option (Stored Span ℕ)) × List (ℕ × Root) };
+    ghost Value = { List (Option (Cell Span ℕ)) × List (ℕ × Root) };
 
     ghost view = { λ s. (s.arena.slab.slots, s.roots.map.entries) };
 
@@ -161,8 +161,8 @@ impl Spans {
         search(self, anon, index, after, steps)
     }
 
-    /// Fills a batch anew: first index and area of the next spans past `after` that overlap `index`,
-    /// as many as it has room for. It takes no memory.
+    /// Fills a batch anew: first index and area of the next spans past `after` that overlap
+    /// `index`, as many as it has room for. It takes no memory.
     pub fn overlaps<L: Ledger>(
         &self,
         anon: u64,
@@ -209,7 +209,7 @@ fn len(root: Option<Root>) -> u64
     }
 }
 
-fn child(tree: Option<Link<u64>>) -> Option<(u64, u64)>
+fn child(tree: Option<Link<u64>>) -> Option<(u32, u64)>
     ensures { result ≡ child_of tree }
 {
     match tree {
@@ -227,14 +227,14 @@ impl<L: Ledger> Nodes<L> for Spans {
 
     ghost below = { below };
 
-    fn root(&self, anon: u64) -> Option<u64> {
+    fn root(&self, anon: u64) -> Option<u32> {
         match top(self.roots.get(anon)) {
             None => None,
             Some(tree) => Some(tree.number),
         }
     }
 
-    fn visit(&self, node: u64, steps: &mut Steps<L>) -> Node {
+    fn visit(&self, node: u32, steps: &mut Steps<L>) -> Node {
         steps.tick();
         let stored = self.arena.get(node);
         Node {

@@ -8,6 +8,8 @@ use Rattle.av_interval.specs.Nodes.{span_of, tree_at, reaching_child, IsNone_or}
 use Rattle.av_interval.specs.Search.{IsOrdered, is_past}
 use Rattle.av_interval.proofs.SearchLemmas.{left_side, right_side}
 use Rattle.av_interval.proofs.BatchLemmas.{take_again, over_right, over_left, over_both, edges_two, edges_right, edges_left, edges_both, left_reached, right_reached, found_inside, grown, grown_more, paid_one, paid_two}
+use Rattle.av_interval.proofs.batch.+gather.Given.{Over}
+use Rattle.av_interval.proofs.batch.+gather.Goals.{gather_below-After-gather-3}
 use Rattle.av_interval.proofs.batch.+gather.Goals as goal
 
 pub gather-returns-then-is_full-clause-found : goal.gather-returns-then-is_full-clause-found
@@ -182,15 +184,18 @@ parts a b c d p q r = omega (arith, p, q, r)
 sums : (k l m e f n : ℕ) → k + l ≤ m → e + f ≤ n → (k + e) + (l + f) ≤ m + n
 sums k l m e f n p q = omega (arith, p, q)
 
-pub gather_below-returns-clause-cost : goal.gather_below-returns-clause-cost
-gather_below-returns-clause-cost g t c =
+-- what the searches on both sides of a node cost with it, for as many as were found and e more
+both_paid : (g : Over) (t : ℕ) (c : gather_below-After-gather-3 g t) → let N = g.N.Nodes in let s = c.args.nodes.now in
+    let many = array_vec_len c.gather-3.new.found - array_vec_len c.args.found.now in
+    (e : ℕ) → edges c.args.after.now c.args.index (entries (N.below s c.args.number)) ≤ e → 1 ≤ many + e →
+    c.gather-3.new.steps ≤ c.args.steps.now + (many + e) * height (N.below s c.args.number)
+both_paid g t c e few some =
     let N = g.N.Nodes in
     let s = c.args.nodes.now in
     let a = c.args.after.now in
     let i = c.args.index in
     let v = c.visit-node.result in
     let seen = c.visit-node.ensures.seen in
-    let ord = c.requires.ordered in
     let p : is_past a (span_of v) ≡ true = search rules in
     let n0 = array_vec_len c.args.found.now in
     let n1 = array_vec_len c.gather-2.new.found in
@@ -208,11 +213,15 @@ gather_below-returns-clause-cost g t c =
     c.gather-2.ensures.cost_inside in
     let r = subst (Cost (N.below s) a i c.gather-2.new.steps c.gather-3.new.steps (n3 - n2)) c.child_that_reaches-right.ensures
     c.gather-3.ensures.cost_inside in
-    let both = edges_both (N.is_node s) (N.below s) _ v seen a i ord p c.if-index-node.false in
-    let two = edges_two a i (entries (N.below s c.args.number)) in
+    let both = edges_both (N.is_node s) (N.below s) _ v seen a i c.requires.ordered p c.if-index-node.false in
     paid_two c.args.steps.now c.visit-node.new.steps c.gather-2.new.steps c.gather-3.new.steps _ _ _ _ _ _ c.visit-node.ensures.counted
     (l (left_reached (N.is_node s) (N.below s) _ v seen a i)) (r (right_reached (N.is_node s) (N.below s) _ v seen a i)) left.height right.height
-    (sums (n1 - n0) (n3 - n2) (n3 - n0) _ _ 2 k (omega (arith, both, two))) (omega arith)
+    (sums (n1 - n0) (n3 - n2) (n3 - n0) _ _ e k (omega (arith, both, few))) some
+
+pub gather_below-returns-clause-cost : goal.gather_below-returns-clause-cost
+gather_below-returns-clause-cost g t c =
+    both_paid g t (goal.at.gather_below-returns-clause-cost g t c).After-gather-3 2
+    (edges_two c.args.after.now c.args.index (entries (g.N.Nodes.below c.args.nodes.now c.args.number))) (omega arith)
 
 pub gather_below-returns-clause-cost_inside : goal.gather_below-returns-clause-cost_inside
 gather_below-returns-clause-cost_inside g t c =
@@ -220,35 +229,15 @@ gather_below-returns-clause-cost_inside g t c =
     let s = c.args.nodes.now in
     let a = c.args.after.now in
     let i = c.args.index in
-    let v = c.visit-node.result in
-    let seen = c.visit-node.ensures.seen in
-    let ord = c.requires.ordered in
-    let p : is_past a (span_of v) ≡ true = search rules in
+    let e = edges a i (entries (N.below s c.args.number)) in
     let n0 = array_vec_len c.args.found.now in
-    let n1 = array_vec_len c.gather-2.new.found in
-    let n2 = array_vec_len c.add.new.found in
     let n3 = array_vec_len c.gather-3.new.found in
-    let room : n0 < 64 = c.requires.room in
-    let f0 : n0 ≤ 64 = omega (arith, room) in
-    let g1 = grown 64 c.args.found.now.items _ c.gather-2.new.found.items f0 c.gather-2.ensures.found in
-    let g2 = grown 64 c.gather-2.new.found.items _ c.add.new.found.items g1.1 c.add.ensures in
-    let g3 = grown 64 c.add.new.found.items _ c.gather-3.new.found.items g2.1 c.gather-3.ensures.found in
-    let k = parts n0 n1 n2 n3 g1.0 g2.0 g3.0 in
-    let left = left_side (N.is_node s) (N.below s) _ v seen i in
-    let right = right_side (N.is_node s) (N.below s) _ v seen i in
-    let l = subst (Cost (N.below s) a i c.visit-node.new.steps c.gather-2.new.steps (n1 - n0)) c.child_that_reaches-left.ensures
-    c.gather-2.ensures.cost_inside in
-    let r = subst (Cost (N.below s) a i c.gather-2.new.steps c.gather-3.new.steps (n3 - n2)) c.child_that_reaches-right.ensures
-    c.gather-3.ensures.cost_inside in
-    let both = edges_both (N.is_node s) (N.below s) _ v seen a i ord p c.if-index-node.false in
     let whole : c.gather-3.new.found.items ≡ take 64 (c.args.found.now.items ++ overlaps_past a i (entries (N.below s c.args.number))) =
     gather_below-returns-clause-found g t c in
     (λ h.
-    paid_two c.args.steps.now c.visit-node.new.steps c.gather-2.new.steps c.gather-3.new.steps _ _ _ _ _ _ c.visit-node.ensures.counted
-    (l (left_reached (N.is_node s) (N.below s) _ v seen a i)) (r (right_reached (N.is_node s) (N.below s) _ v seen a i)) left.height right.height
-    (sums (n1 - n0) (n3 - n2) (n3 - n0) _ _ _ k both)
-    (some n0 n3 (edges a i (entries (N.below s c.args.number))) (λ e. grown_more 64 c.args.found.now.items _ c.gather-3.new.found.items room
-    (found_inside (N.is_node s) (N.below s) _ v seen a i h e) whole)))
+    both_paid g t (goal.at.gather_below-returns-clause-cost_inside g t c).After-gather-3 e (omega arith)
+    (some n0 n3 e (λ z. grown_more 64 c.args.found.now.items _ c.gather-3.new.found.items c.requires.room
+    (found_inside (N.is_node s) (N.below s) _ c.visit-node.result c.visit-node.ensures.seen a i h z) whole)))
   where
     some : (n m e : ℕ) → (e ≡ 0 → n + 1 ≤ m) → 1 ≤ m - n + e
     some n m zero h = let k = h refl in omega (arith, k)

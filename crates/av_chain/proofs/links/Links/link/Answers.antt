@@ -1,7 +1,6 @@
 use Rattle.std.proofs.Common.{◌∷◌, ◌++◌, [], ap, ◌∙◌}
 use Rattle.av_chain.specs.Links.{chain_of, users_of}
-use Rattle.av_chain.proofs.TwoMaps.{chain_push, users_push}
-use Rattle.av_chain.proofs.Drained.{on_ok}
+use Rattle.av_chain.proofs.TwoMaps.{chain_push, users_push, on_ok}
 use Rattle.av_chain.proofs.links.Links.link.Goals as goal
 
 pub returns-clause-chain : goal.returns-clause-chain

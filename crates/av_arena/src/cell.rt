@@ -1,0 +1,100 @@
+//! How a node lies in its arena: in fewer bytes than its two links take.
+
+ghost use Rattle.std.specs.Prelude.{◌≡◌};
+ghost use Rattle.av_arena.specs.Arena.{with_side};
+ghost use Rattle.av_arena.specs.Cell.{link_in, node_in};
+
+use crate::link::{Link, Side, Stored};
+
+/// The tree on a side of a node. The parts of its link stand beside the mark that there is one: so
+/// it takes 16 bytes where a summary takes eight, and an `Option<Link>` 24.
+#[derive(Clone, Copy, Drop)]
+pub enum Twig<S> {
+    Bare,
+    Tree { height: u8, number: u32, sum: S },
+}
+
+/// A node, as it lies in its arena.
+#[derive(Clone, Copy, Drop)]
+pub struct Cell<T, S> {
+    left: Twig<S>,
+    pub(crate) entry: T,
+    right: Twig<S>,
+}
+
+impl<S: Copy + Drop> Twig<S> {
+    /// The tree that a link tells, if there is one.
+    #[inline(always)]
+    fn of(link: Option<Link<S>>) -> Twig<S>
+        ensures { link_in result ≡ link }
+    {
+        match link {
+            None => Twig::Bare,
+            Some(Link {
+                number,
+                height,
+                sum,
+            }) => Twig::Tree {
+                height,
+                number,
+                sum,
+            },
+        }
+    }
+
+    /// The link that tells the tree, if there is one.
+    #[inline(always)]
+    fn link(self) -> Option<Link<S>>
+        ensures { result ≡ link_in self }
+    {
+        match self {
+            Twig::Bare => None,
+            Twig::Tree {
+                height,
+                number,
+                sum,
+            } => Some(Link {
+                number,
+                height,
+                sum,
+            }),
+        }
+    }
+}
+
+impl<T: Copy + Drop, S: Copy + Drop> Cell<T, S> {
+    #[inline(always)]
+    pub(crate) fn of(node: Stored<T, S>) -> Cell<T, S>
+        ensures { node_in result ≡ node }
+    {
+        let Stored { left, entry, right } = node;
+        Cell {
+            left: Twig::of(left),
+            entry,
+            right: Twig::of(right),
+        }
+    }
+
+    #[inline(always)]
+    pub(crate) fn node(&self) -> Stored<T, S>
+        ensures { result ≡ node_in self.now }
+    {
+        Stored {
+            left: self.left.link(),
+            entry: self.entry,
+            right: self.right.link(),
+        }
+    }
+
+    /// Puts another tree on a side.
+    #[inline(always)]
+    pub(crate) fn set_side(&mut self, side: Side, link: Option<Link<S>>)
+        ensures { node_in self.new ≡ with_side side link (node_in self.old) }
+    {
+        let twig = Twig::of(link);
+        match side {
+            Side::Left => self.left = twig,
+            Side::Right => self.right = twig,
+        }
+    }
+}
