@@ -208,7 +208,7 @@ alive m w l p a len h = by (lives w p) h
     by false e = cc
 
 -- what is left by one command is left by the same
-pub left-is : {m : Setting} {w : World} {l l' : Ledger} {command other : Command} {unit : List ℕ} {legal : Bool} {memories : Memories}
+pub left-is : {command other : Command} (m : Setting) (w : World) (l l' : Ledger) (unit : List ℕ) (legal : Bool) (memories : Memories)
     → other ≡ command → IsLeftAt m w l command unit legal l' memories → IsLeftAt m w l other unit legal l' memories
-left-is {m} {w} {l} {l'} {command} {other} {unit} {legal} {memories} same h =
+left-is {command} {other} m w l l' unit legal memories same h =
     subst (λ c. IsLeftAt m w l c unit legal l' memories) (sym same) h

@@ -78,11 +78,11 @@ pub record OneMore (m : Setting) (commands : List Command) (number : ℕ) (befor
   pub many : length (units ++ unit ∷ []) ≡ number + 1
   pub counts : most_bytes ≡ left + length (bytes_of (units ++ unit ∷ []))
 
-pub one-more : {m : Setting} {commands : List Command} {number : ℕ} {before now after : Option (List ℕ)} {left left' : ℕ} {auditor : Auditor} {unit : List ℕ}
-    → (h : LegalSoFar m commands number before now left auditor)
+pub one-more : {m : Setting} {commands : List Command} {number : ℕ} {before now after : Option (List ℕ)} {left : ℕ} {auditor : Auditor} {unit : List ℕ}
+    (left' : ℕ) → (h : LegalSoFar m commands number before now left auditor)
     → IsOne unit × (left ≡ left' + length unit) × Cuts (unit ∷ []) now after
     → OneMore m commands number before after left' h.units unit
-one-more {m} {commands} {number} {before} {now} {after} {left} {left'} {auditor} {unit} h takes =
+one-more {m} {commands} {number} {before} {now} {after} {left} {auditor} {unit} left' h takes =
     let bytes = ap length (bytes-more h.units unit) ∙ length-append (bytes_of h.units) unit in
     record {
       each = each-more h.units unit h.each takes.0;
@@ -161,9 +161,9 @@ module _ {m : Setting} {commands : List Command} {number : ℕ} {before now : Op
       stops = stops;
     }
 
-    pub wrong : {Ended : Type 0} → IsWrong m h.world h.ledger (drop number commands) (unit ∷ [])
+    pub wrong : (Ended : Type 0) → IsWrong m h.world h.ledger (drop number commands) (unit ∷ [])
         → Judges (findings.Illegal (number + 1)) m commands before after Ended
-    wrong {Ended} stops = record {
+    wrong Ended stops = record {
       units = h.units ++ unit ∷ [];
       each = t.each;
       cuts = t.cuts;
@@ -218,19 +218,19 @@ reading-breaks {error} {left} {unit} {ahead} {ahead'} {old} {new} {m} {commands}
 -- ---- a unit that is read
 
 -- a unit behind the last command
-pub too-many : {m : Setting} {commands : List Command} {number : ℕ} {before now after : Option (List ℕ)} {left left' : ℕ} {auditor : Auditor}
-    {unit : List ℕ} {Ended : Type 0} → (h : LegalSoFar m commands number before now left auditor)
+pub too-many : {m : Setting} {commands : List Command} {number : ℕ} {before now after : Option (List ℕ)} {left : ℕ} {auditor : Auditor}
+    {unit : List ℕ} (left' : ℕ) (Ended : Type 0) → (h : LegalSoFar m commands number before now left auditor)
     → IsOne unit × (left ≡ left' + length unit) × Cuts (unit ∷ []) now after → number ≡ length commands
     → Judges (findings.Illegal (length commands + 1)) m commands before after Ended
-too-many {m} {commands} {number} {before} {now} {after} {left} {left'} {auditor} {unit} {Ended} h takes all =
+too-many {m} {commands} {number} {before} {now} {after} {left} {auditor} {unit} left' Ended h takes all =
     subst (λ n. Judges (findings.Illegal (n + 1)) m commands before after Ended) all
-    (wrong h (one-more h takes) (subst (λ cs. IsWrong m h.world h.ledger cs (unit ∷ [])) (sym (drop_all number commands (omega (arith, all)))) tt))
+    (wrong h (one-more left' h takes) Ended (subst (λ cs. IsWrong m h.world h.ledger cs (unit ∷ [])) (sym (drop_all number commands (omega (arith, all)))) tt))
 
 -- what is said of it on the machine that is kept
-pub on-machine : {old now : Machine} {w : World} {l : Ledger} {command : Command} {read unit : List ℕ} (verdict : Verdict) (auditor : Auditor)
+pub on-machine : {old now : Machine} {read unit : List ℕ} (w : World) (l : Ledger) (command : Command) (verdict : Verdict) (auditor : Auditor)
     → now ≡ old → read ≡ unit → IsRight (setting_of now) w l command read verdict auditor
     → IsRight (setting_of old) w l command unit verdict auditor
-on-machine {old} {now} {w} {l} {command} {read} {unit} verdict auditor same is right =
+on-machine {old} {now} {read} {unit} w l command verdict auditor same is right =
     subst (λ k. IsRight (setting_of k) w l command unit verdict auditor) same
     (subst (λ u. IsRight (setting_of now) w l command u verdict auditor) is right)
 
@@ -239,25 +239,25 @@ verdict-legal verdicts.Legal number e = refl
 verdict-legal verdicts.Illegal number e = cc
 
 -- a unit for the next command was read, and that is said of it
-module _ {m : Setting} {commands others : List Command} {number : ℕ} {before now after : Option (List ℕ)} {left left' : ℕ} {auditor : Auditor}
-    {command : Command} {unit : List ℕ} (h : LegalSoFar m commands number before now left auditor)
+module _ {m : Setting} {commands others : List Command} {number : ℕ} {before now after : Option (List ℕ)} {left : ℕ} {auditor : Auditor}
+    {command : Command} {unit : List ℕ} (left' : ℕ) (h : LegalSoFar m commands number before now left auditor)
     (takes : IsOne unit × (left ≡ left' + length unit) × Cuts (unit ∷ []) now after) (is : drop number commands ≡ command ∷ others)
     (auditor' : Auditor) where
   -- the audit ends with it
-  pub verdict-ends : {Ended : Type 0} {finding : Finding} (verdict : Verdict) → IsRight m h.world h.ledger command unit verdict auditor'
+  pub verdict-ends : {finding : Finding} (Ended : Type 0) (verdict : Verdict) → IsRight m h.world h.ledger command unit verdict auditor'
       → finding_of verdict (number + 1) ≡ Some finding → Judges finding m commands before after Ended
-  verdict-ends {Ended} {finding} verdicts.Legal right ends = cc
-  verdict-ends {Ended} {finding} verdicts.Illegal right ends =
+  verdict-ends {finding} Ended verdicts.Legal right ends = cc
+  verdict-ends {finding} Ended verdicts.Illegal right ends =
       let same : findings.Illegal (number + 1) ≡ finding = ap (λ o. unwrap_or o finding) ends in
       subst (λ f. Judges f m commands before after Ended) same
-      (wrong h (one-more h takes) (subst (λ cs. IsWrong m h.world h.ledger cs (unit ∷ [])) (sym is) right))
+      (wrong h (one-more left' h takes) Ended (subst (λ cs. IsWrong m h.world h.ledger cs (unit ∷ [])) (sym is) right))
 
   -- it goes on, since the unit is legal
   pub verdict-goes : (verdict : Verdict) → IsRight m h.world h.ledger command unit verdict auditor' → verdict ≡ verdicts.Legal
       → LegalSoFar m commands (number + 1) before after left' auditor'
   verdict-goes verdict right legal =
       let r = subst (λ v. IsRight m h.world h.ledger command unit v auditor') legal right in
-      let t = one-more h takes in
+      let t = one-more left' h takes in
       record {
         units = h.units ++ unit ∷ [];
         each = t.each;

@@ -7,30 +7,30 @@ use Rattle.av_audit.proofs.JudgeLaws.{book-left, left-is}
 use Rattle.av_audit.proofs.units.is_legal_for_frames.Goals as goal
 
 pub returns-in-Reclaim : goal.returns-in-Reclaim
-returns-in-Reclaim c = IfOk-weaker c.audits_reclaim.result _ _ (λ legal h w at sound. left-is c.in-Reclaim.is (h w at)) c.audits_reclaim.ensures
+returns-in-Reclaim c = IfOk-weaker c.audits_reclaim.result _ _ (λ legal h w at sound. left-is _ _ _ _ _ _ _ c.in-Reclaim.is (h w at)) c.audits_reclaim.ensures
 
 pub returns-in-Age : goal.returns-in-Age
 returns-in-Age c = IfOk-weaker c.judges_age.result _ _
-    (λ legal h w at sound. left-is c.in-Age.is (book-left (setting_of c.args.machine.now) w (ledger_of c.args.book.now)
+    (λ legal h w at sound. left-is _ _ _ _ _ _ _ c.in-Age.is (book-left (setting_of c.args.machine.now) w (ledger_of c.args.book.now)
     (commands.Age c.in-Age.frames) c.args.unit.now legal c.args.memories.now c.judges_age.new.book refl (λ v answer. refl)
     (h (setting_of c.args.machine.now) w) at))
     c.judges_age.ensures
 
 pub returns-in-Complete : goal.returns-in-Complete
 returns-in-Complete c = IfOk-weaker c.judges_complete.result _ _
-    (λ legal h w at sound. left-is c.in-Complete.is (book-left (setting_of c.args.machine.now) w (ledger_of c.args.book.now)
+    (λ legal h w at sound. left-is _ _ _ _ _ _ _ c.in-Complete.is (book-left (setting_of c.args.machine.now) w (ledger_of c.args.book.now)
     (commands.Complete c.in-Complete.slots) c.args.unit.now legal c.args.memories.now c.judges_complete.new.book refl (λ v answer. refl)
     (h (setting_of c.args.machine.now) w) at))
     c.judges_complete.ensures
 
 pub returns-in-Swapon : goal.returns-in-Swapon
-returns-in-Swapon c = IfOk-weaker c.audits_swapon.result _ _ (λ legal h w at sound. left-is c.in-Swapon.is (h w at)) c.audits_swapon.ensures
+returns-in-Swapon c = IfOk-weaker c.audits_swapon.result _ _ (λ legal h w at sound. left-is _ _ _ _ _ _ _ c.in-Swapon.is (h w at)) c.audits_swapon.ensures
 
 pub returns-in-Swapoff : goal.returns-in-Swapoff
-returns-in-Swapoff c = IfOk-weaker c.audits_swapoff.result _ _ (λ legal h w at sound. left-is c.in-Swapoff.is (h w at)) c.audits_swapoff.ensures
+returns-in-Swapoff c = IfOk-weaker c.audits_swapoff.result _ _ (λ legal h w at sound. left-is _ _ _ _ _ _ _ c.in-Swapoff.is (h w at)) c.audits_swapoff.ensures
 
 pub returns-in-Merge : goal.returns-in-Merge
-returns-in-Merge c = IfOk-weaker c.audits_merge.result _ _ (λ legal h w at sound. left-is c.in-Merge.is (h w at sound)) c.audits_merge.ensures
+returns-in-Merge c = IfOk-weaker c.audits_merge.result _ _ (λ legal h w at sound. left-is _ _ _ _ _ _ _ c.in-Merge.is (h w at sound)) c.audits_merge.ensures
 
 pub returns-in-Compact : goal.returns-in-Compact
-returns-in-Compact c = IfOk-weaker c.audits_compact.result _ _ (λ legal h w at sound. left-is c.in-Compact.is (h w at)) c.audits_compact.ensures
+returns-in-Compact c = IfOk-weaker c.audits_compact.result _ _ (λ legal h w at sound. left-is _ _ _ _ _ _ _ c.in-Compact.is (h w at)) c.audits_compact.ensures

@@ -42,8 +42,8 @@ returns-in-Some-clause-judges g c =
     let is = at-place c.args.commands.now c.loop-index.index c.index-commands-index.result (omega (arith, c.loop-index-test.true))
     c.index-commands-index.is in
     let verdict = c.in_ok-verdict.verdict in
-    verdict-ends h takes is c.judge.new.self verdict
-    (on-machine verdict c.judge.new.self inv.machine c.as_slice.ensures.value
+    verdict-ends c.read_unit.new.extent.left h takes is c.judge.new.self _ verdict
+    (on-machine h.world h.ledger c.index-commands-index.result verdict c.judge.new.self inv.machine c.as_slice.ensures.value
     (c.in_ok-verdict.ensures.going inv.going h.world h.ledger h.is_at)) (sym c.finding_at.ensures ∙ c.in-Some.is)
 
 pub returns-in-Some-clause-only : goal.returns-in-Some-clause-only
@@ -61,8 +61,8 @@ loop-index-preserved g c =
     record {
       machine = c.judge.ensures.machine ∙ inv.machine;
       going = c.in_ok-verdict.ensures.goes_on legal;
-      legal = verdict-goes h takes is c.judge.new.self verdict
-          (on-machine verdict c.judge.new.self inv.machine c.as_slice.ensures.value
+      legal = verdict-goes c.read_unit.new.extent.left h takes is c.judge.new.self verdict
+          (on-machine h.world h.ledger c.index-commands-index.result verdict c.judge.new.self inv.machine c.as_slice.ensures.value
           (c.in_ok-verdict.ensures.going inv.going h.world h.ledger h.is_at)) legal;
       stays = is-open-then c.args.extent.now.ended c.loop-index.extent.ended c.read_unit.new.extent.ended c.loop-index.pending
           c.read_unit.new.pending (g.P.Ports.view c.args.ports.now) (g.P.Ports.view c.loop-index.ports) (g.P.Ports.view c.read_unit.new.ports)
@@ -84,7 +84,7 @@ pub returns-then-branch-clause-judges : goal.returns-then-branch-clause-judges
 returns-then-branch-clause-judges g c =
     let takes = rw c.if-branch.true at c.in_ok-read_unit-2.ensures.taken in
     let all : c.loop-index.index ≡ length c.args.commands.now = omega (arith, c.loop-index.auto.index-end, c.loop-index-test.false) in
-    too-many c.loop-index.invariant.legal takes all
+    too-many c.read_unit-2.new.extent.left _ c.loop-index.invariant.legal takes all
 
 pub returns-then-branch-clause-only : goal.returns-then-branch-clause-only
 returns-then-branch-clause-only g c = only-then _ _ _ c.loop-index.invariant.only c.read_unit-2.ensures.only
