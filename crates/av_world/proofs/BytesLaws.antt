@@ -15,8 +15,9 @@ use Rattle.av_plain.specs.Access.{after_write}
 use Rattle.av_plain.specs.World.{Page, Process, Shows, World, byte_at, pages, set_process, with_bytes}
 use Rattle.av_plain.proofs.World.TwoWrites.{with_bytes_twice}
 use Rattle.av_world.specs.Bytes.{overlaid}
-use Rattle.av_world.specs.Space.{IsPage, IsSpace, byte_in, marks_in}
-use Rattle.av_world.specs.declared.space.Marks.{Marks}
+use Rattle.av_ranges.specs.Ranges.{marks_at}
+use Rattle.av_world.specs.Space.{IsPage, IsSpace, byte_in}
+use Rattle.av_ranges.specs.declared.marks.Marks.{Marks}
 use Rattle.av_world.specs.declared.space.Space.{Space}
 
 -- ---- bytes of a vector
@@ -51,8 +52,8 @@ pub pages-laid : (old new : Space) (q : Process) (page at : ℕ) (piece : List �
     → ((other : ℕ) → (other == page) ≡ false → get nat_cmp new.bytes other ≡ get nat_cmp old.bytes other)
     → IsSpace new (with_bytes q (address_of page + at) piece)
 pages-laid old new q page at piece h fits ranges here others = record {
-  pages = λ x. subst (λ rs. IsPage (marks_in rs.items x) (byte_in (get nat_cmp new.bytes x)) (with_bytes q (address_of page + at) piece x)) (sym ranges)
-      (one-laid (marks_in old.ranges.items x) (byte_in (get nat_cmp old.bytes x)) (byte_in (get nat_cmp new.bytes x)) (q x)
+  pages = λ x. subst (λ rs. IsPage (marks_at rs x) (byte_in (get nat_cmp new.bytes x)) (with_bytes q (address_of page + at) piece x)) (sym ranges)
+      (one-laid (marks_at old.ranges x) (byte_in (get nat_cmp old.bytes x)) (byte_in (get nat_cmp new.bytes x)) (q x)
       (address_of page + at) x piece (h.pages x) (λ i low. by x i low (x == page) refl));
   top = λ x high. ap (λ p. with_bytes (λ _. p) (address_of page + at) piece x) (h.top x high);
 }
@@ -131,7 +132,7 @@ pub page-shown : (s : Space) (q : Process) (page at n : ℕ) → IsSpace s q →
 page-shown s q page at zero h fits = tt
 page-shown s q page at (suc n) h fits = (
   subst (λ o. IfSome o (λ claimed. claimed ≡ byte_in (get nat_cmp s.bytes page) at)) (sym there)
-      (first (marks_in s.ranges.items page) (q page) (h.pages page)),
+      (first (marks_at s.ranges page) (q page) (h.pages page)),
   subst (λ a. Shows q a (map (byte_in (get nat_cmp s.bytes page)) (range_with_len (at + 1) n))) next
       (page-shown s q page (at + 1) n h (omega (arith, fits))),
 )

@@ -1,13 +1,11 @@
 -- The processes that live, with what they have mapped.
-use Rattle.std.specs.Prelude.{◌≡◌, ℕ, ◌+◌, ◌<◌, ◌≤◌, ◌^◌, Bool, List, [], ◌∷◌, Option, Some, None}
-use Rattle.std.specs.Prelude.{map, true}
-use Rattle.std.specs.List.{list_any}
+use Rattle.std.specs.Prelude.{◌≡◌, ℕ, ◌+◌, ◌<◌, ◌≤◌, ◌^◌, List, [], ◌∷◌, Option, Some, None, true}
 use Rattle.std.specs.FinMap.Entries.{is_sorted}
 use Rattle.std.specs.Ordering.{nat_cmp}
 use Rattle.av_base.specs.Limits.{top_page}
 use Rattle.av_plain.specs.World.{Process, World, no_pages, wiped, with_change_on, with_page_flag}
 use Rattle.av_plain.specs.World.{with_pages, with_prot_on, zeros}
-use Rattle.av_world.specs.Space.{IsSpace, has_lock as has_lock_of}
+use Rattle.av_world.specs.Space.{IsSpace}
 use Rattle.av_world.specs.declared.edit.Edit.{Edit}
 use Rattle.av_world.specs.declared.edit.Edit.TheVariants.{Map, Unmap, Protect, Mark, Wipe}
 use Rattle.av_world.specs.declared.memories.Memories.{Memories}
@@ -46,7 +44,3 @@ IsProcess None None = Unit {0}
 IsProcess None (Some q) = ⊥
 IsProcess (Some s) None = ⊥
 IsProcess (Some s) (Some q) = IsSpace s q
-
--- whether a range of a process is locked
-abbrev pub has_lock : Memories → Bool
-has_lock memories = list_any has_lock_of (map (λ (s : ℕ × Space). s.1) memories.spaces.entries)

@@ -19,15 +19,16 @@ mod bytes;
 mod child;
 mod edit;
 mod holes;
+mod kept;
+mod kinds;
 mod locks;
 mod mapping;
 mod memories;
 mod prots;
 mod questions;
-mod ranges;
 mod remap;
 mod space;
 
 pub use edit::Edit;
 pub use memories::Memories;
-pub use space::{Marks, Range, Space};
+pub use space::Space;

@@ -11,15 +11,16 @@ ghost use Rattle.av_world.specs.Space.{IsSpace};
 ghost use Rattle.av_plain.specs.World.{Process as AnyProcess};
 
 use crate::edit::Edit;
-use crate::space::{Marks, Space};
+use av_ranges::Marks;
+use crate::space::Space;
 use std::alloc::{AllocError, Global};
 use std::collections::BTreeMap;
 
 /// What each process that lives has mapped, by its number.
 #[derive(Drop)]
 pub struct Memories {
-    pub alloc: Global,
-    pub spaces: BTreeMap<u16, Space>,
+    pub(crate) alloc: Global,
+    pub(crate) spaces: BTreeMap<u16, Space>,
 }
 
 impl Memories {
