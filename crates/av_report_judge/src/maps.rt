@@ -20,8 +20,9 @@ use crate::entry::fits;
 use crate::made::is_made;
 use crate::runs::pieces;
 use av_base::PAGE_SIZE;
+use av_ranges::Range;
 use av_trace::{Answer, Reply, Row, Rows};
-use av_world::{Range, Space};
+use av_world::Space;
 use std::alloc::{AllocError, Global};
 
 /// Whether a unit is legal for `maps` of a process that has this mapped.

@@ -1,11 +1,11 @@
 -- What a child gets of the pages of a process.
 use Rattle.std.proofs.Common.{◌≡◌, ℕ, ◌+◌, ◌-◌, ◌<◌, ◌≤◌, Bool, true, false, cond, not, ◌&&◌, Option, Some, None, refl, sym, ap, subst, ◌∙◌, arith, nat_le, nat_lt}
-use Rattle.std.specs.Prelude.{option_and_then}
+use Rattle.std.specs.Prelude.{option_and_then, slice_index}
 use Rattle.std.proofs.lemmas.Bool.Decides.{nat_tests}
 use Rattle.std.specs.Ordering.{nat_cmp}
 use Rattle.std.specs.declared.alloc.Global.{Global}
 use Rattle.std.specs.declared.vec.Vec.{Vec}
-use Rattle.std.specs.BTreeMap.{get}
+use Rattle.std.specs.BTreeMap.{BTreeMap, get, is_at}
 use Rattle.av_base.specs.Flags.{unlocked}
 use Rattle.av_base.specs.Limits.{top_page}
 use Rattle.av_base.specs.Words.{within}
@@ -16,6 +16,8 @@ use Rattle.av_ranges.specs.Ranges.{marks_at}
 use Rattle.av_world.specs.Space.{IsPage, IsSpace, byte_in}
 use Rattle.av_ranges.specs.declared.marks.Marks.{Marks}
 use Rattle.av_world.specs.declared.space.Space.{Space}
+use Rattle.av_world.specs.Kept.{IsNext}
+use Rattle.av_world.proofs.KeptLaws.{key-self, other-key}
 
 -- ---- what is said of pages
 
@@ -67,6 +69,99 @@ module _ (made new said : ℕ → Option Marks) (at to : ℕ) (less : at < to) (
           ∙ ap (option_and_then marks_of_child) (sym (same page (from-le at page e) low))
       by page low false e = h.below page (from-not-le at page e)
 
+-- ---- bytes
+
+-- what is made so far has the bytes that a child has below a page, and none of the others
+pub record AreInherited (made old : BTreeMap ℕ (Vec ℕ Global)) (said : ℕ → Option Marks) (at : ℕ) : Type 0 where
+  pub below : (q : ℕ) → q < at → byte_in (get nat_cmp made q) ≡ byte_in (cond (bytes_go (said q)) (get nat_cmp old q) None)
+  pub above : (q : ℕ) → at ≤ q → get nat_cmp made q ≡ None
+
+pub none-inherited : (made old : BTreeMap ℕ (Vec ℕ Global)) (said : ℕ → Option Marks) → ((q : ℕ) → get nat_cmp made q ≡ None)
+    → AreInherited made old said 0
+none-inherited made old said empty = record {
+  below = λ q low. absurd (omega (arith, low));
+  above = λ q high. empty q;
+}
+
+module _ (made old : BTreeMap ℕ (Vec ℕ Global)) (said : ℕ → Option Marks) (at end page : ℕ) (next : IsNext old at end page)
+    (h : AreInherited made old said at) where
+  same-none : (b : Bool) (o : Option (Vec ℕ Global)) → o ≡ None → byte_in None ≡ byte_in (cond b o None)
+  same-none true o e = ap byte_in (sym e)
+  same-none false o e = refl
+
+  first : at ≤ page
+  first = next.low
+
+  yes-lt : (a b : ℕ) → nat_lt a b ≡ true → a < b
+  yes-lt a b e = grind (arith, nat_tests)
+
+  not-lt : (a b : ℕ) → nat_lt a b ≡ false → b ≤ a
+  not-lt a b e = grind (arith, nat_tests)
+
+  -- below the page
+  lower : (q : ℕ) → q < page → byte_in (get nat_cmp made q) ≡ byte_in (cond (bytes_go (said q)) (get nat_cmp old q) None)
+  lower q less = by (nat_lt q at) refl
+    where
+      by : (b : Bool) → nat_lt q at ≡ b → byte_in (get nat_cmp made q) ≡ byte_in (cond (bytes_go (said q)) (get nat_cmp old q) None)
+      by true e = h.below q (yes-lt q at e)
+      by false e = ap byte_in (h.above q (not-lt q at e)) ∙ same-none (bytes_go (said q)) (get nat_cmp old q) (next.none q (not-lt q at e) less)
+
+  here : (q : ℕ) → page ≤ q → q < page + 1 → page ≡ q
+  here q a b = omega (arith, a, b)
+
+  -- the page's go over
+  pub inherited-more : (new : BTreeMap ℕ (Vec ℕ Global)) (bytes copy : Vec ℕ Global) → get nat_cmp old page ≡ Some bytes
+      → copy.items ≡ bytes.items → bytes_go (said page) ≡ true
+      → ((q : ℕ) → get nat_cmp new q ≡ cond (is_at (nat_cmp page) q) (Some copy) (get nat_cmp made q)) → AreInherited new old said (page + 1)
+  inherited-more new bytes copy is same goes put = record {
+    below = λ q low. by q low (nat_lt q page) refl;
+    above = λ q high. put q ∙ ap (λ b. cond b (Some copy) (get nat_cmp made q)) (other-key page q (λ e. omega (arith, e, high)))
+        ∙ h.above q (omega (arith, high, first));
+  }
+    where
+      by : (q : ℕ) → q < page + 1 → (b : Bool) → nat_lt q page ≡ b
+          → byte_in (get nat_cmp new q) ≡ byte_in (cond (bytes_go (said q)) (get nat_cmp old q) None)
+      by q low true e = let less = yes-lt q page e in
+          ap byte_in (put q ∙ ap (λ b. cond b (Some copy) (get nat_cmp made q)) (other-key page q (λ s. omega (arith, s, less)))) ∙ lower q less
+      by q low false e = subst (λ q. byte_in (get nat_cmp new q) ≡ byte_in (cond (bytes_go (said q)) (get nat_cmp old q) None))
+          (here q (not-lt q page e) low)
+          (ap byte_in (put page ∙ ap (λ b. cond b (Some copy) (get nat_cmp made page)) (key-self page))
+          ∙ (λ i j. slice_index (same i) j)
+          ∙ sym (ap byte_in (ap (λ b. cond b (get nat_cmp old page) None) goes ∙ is)))
+
+  -- or don't
+  pub inherited-none : bytes_go (said page) ≡ false → AreInherited made old said (page + 1)
+  inherited-none stays = record {
+    below = λ q low. by q low (nat_lt q page) refl;
+    above = λ q high. h.above q (omega (arith, high, first));
+  }
+    where
+      by : (q : ℕ) → q < page + 1 → (b : Bool) → nat_lt q page ≡ b
+          → byte_in (get nat_cmp made q) ≡ byte_in (cond (bytes_go (said q)) (get nat_cmp old q) None)
+      by q low true e = lower q (yes-lt q page e)
+      by q low false e = subst (λ q. byte_in (get nat_cmp made q) ≡ byte_in (cond (bytes_go (said q)) (get nat_cmp old q) None))
+          (here q (not-lt q page e) low)
+          (ap byte_in (h.above page first) ∙ sym (ap byte_in (ap (λ b. cond b (get nat_cmp old page) None) stays)))
+
+pub all-inherited : (made old : BTreeMap ℕ (Vec ℕ Global)) (said : ℕ → Option Marks) (at end : ℕ) → AreInherited made old said at
+    → ((q : ℕ) → at ≤ q → q < end → get nat_cmp old q ≡ None)
+    → (q : ℕ) → q < end → byte_in (get nat_cmp made q) ≡ byte_in (cond (bytes_go (said q)) (get nat_cmp old q) None)
+all-inherited made old said at end h none q low = by (nat_lt q at) refl
+  where
+    yes-lt : nat_lt q at ≡ true → q < at
+    yes-lt e = grind (arith, nat_tests)
+
+    not-lt : nat_lt q at ≡ false → at ≤ q
+    not-lt e = grind (arith, nat_tests)
+
+    same-none : (b : Bool) (o : Option (Vec ℕ Global)) → o ≡ None → byte_in None ≡ byte_in (cond b o None)
+    same-none true o e = ap byte_in (sym e)
+    same-none false o e = refl
+
+    by : (b : Bool) → nat_lt q at ≡ b → byte_in (get nat_cmp made q) ≡ byte_in (cond (bytes_go (said q)) (get nat_cmp old q) None)
+    by true e = h.below q (yes-lt e)
+    by false e = ap byte_in (h.above q (not-lt e)) ∙ same-none (bytes_go (said q)) (get nat_cmp old q) (none q (not-lt e) low)
+
 -- ---- pages
 
 one-child : (o : Option Marks) (bytes : Option (Vec ℕ Global)) (p : Option Page) → IsPage o (byte_in bytes) p
@@ -98,7 +193,7 @@ no-page o at p ho hp = subst (λ o. IsPage o at p) (sym ho) (subst (λ p. IsPage
 pub child-is : (s new : Space) (q : Process) → IsSpace s q
     → ((page : ℕ) → page < top_page → marks_at new.ranges page ≡ option_and_then marks_of_child (marks_at s.ranges page))
     → ((page : ℕ) → top_page ≤ page → marks_at new.ranges page ≡ None)
-    → ((page : ℕ) → byte_in (get nat_cmp new.bytes page) ≡ byte_in (cond (bytes_go (marks_at s.ranges page)) (get nat_cmp s.bytes page) None))
+    → ((page : ℕ) → page < top_page → byte_in (get nat_cmp new.bytes page) ≡ byte_in (cond (bytes_go (marks_at s.ranges page)) (get nat_cmp s.bytes page) None))
     → IsSpace new (child_of q)
 child-is s new q h below above bytes = record {
   pages = λ page. by page (nat_lt page top_page) refl;
@@ -117,7 +212,7 @@ child-is s new q h below above bytes = record {
     by : (page : ℕ) (b : Bool) → nat_lt page top_page ≡ b
         → IsPage (marks_at new.ranges page) (byte_in (get nat_cmp new.bytes page)) (child_of q page)
     by page true e = subst (λ o. IsPage o (byte_in (get nat_cmp new.bytes page)) (child_of q page)) (sym (below page (low-of page e)))
-        (subst (λ at. IsPage (option_and_then marks_of_child (marks_at s.ranges page)) at (child_of q page)) (sym (bytes page))
+        (subst (λ at. IsPage (option_and_then marks_of_child (marks_at s.ranges page)) at (child_of q page)) (sym (bytes page (low-of page e)))
         (one-child (marks_at s.ranges page) (get nat_cmp s.bytes page) (q page) (h.pages page)))
     by page false e = no-page (marks_at new.ranges page) _ (child_of q page) (above page (high-of page e)) (none page (high-of page e))
 

@@ -25,7 +25,11 @@ lt-is a b h = grind (arith, nat_tests)
 is-lt : (a b : ℕ) → a < b → IsLtBy nat_cmp a b
 is-lt a b h = grind (arith, nat_tests)
 
-same-key : (k q : ℕ) → is_at (nat_cmp k) q ≡ true → q ≡ k
+-- what is something is there
+pub there : {A : Type 0} (o : Option A) (x : A) → o ≡ Some x → IsSome o
+there o x is = subst IsSome (sym is) refl
+
+pub same-key : (k q : ℕ) → is_at (nat_cmp k) q ≡ true → q ≡ k
 same-key k q e = by (nat_cmp k q) refl e
   where
     by : (o : Ordering) → nat_cmp k q ≡ o → is_eq o ≡ true → q ≡ k
@@ -33,10 +37,10 @@ same-key k q e = by (nat_cmp k q) refl e
     by Greater is h = cc
     by Equal is h = sym (ranked k q Equal (sym is))
 
-key-self : (k : ℕ) → is_at (nat_cmp k) k ≡ true
+pub key-self : (k : ℕ) → is_at (nat_cmp k) k ≡ true
 key-self k = ap is_eq (sym (nat_cmp_is k k Equal refl))
 
-other-key : (k q : ℕ) → (q ≡ k → ⊥) → is_at (nat_cmp k) q ≡ false
+pub other-key : (k q : ℕ) → (q ≡ k → ⊥) → is_at (nat_cmp k) q ≡ false
 other-key k q differ = by (is_at (nat_cmp k) q) refl
   where
     by : (b : Bool) → is_at (nat_cmp k) q ≡ b → b ≡ false

@@ -114,11 +114,18 @@ mapped-before q from zero = refl
 mapped-before q from (suc n) = by (is_mapped q from) (mapped-before q (from + 1) n)
   where
     less : (x n : ℕ) → nat_lt (x + 1) (suc n) ≡ nat_lt x n
-    less x n = grind (arith, nat_tests)
+    less x n = by (nat_lt x n) refl
+      where
+        by : (b : Bool) → nat_lt x n ≡ b → nat_lt (x + 1) (suc n) ≡ b
+        by true e = grind (arith, nat_tests, e)
+        by false e = grind (arith, nat_tests, e)
+
+    some : (n : ℕ) → nat_lt 0 (suc n) ≡ true
+    some n = grind (arith, nat_tests)
 
     by : (b : Bool) → nat_lt (pages_before (λ page. is_some (q page)) (from + 1) n) n ≡ meets q (from + 1) n
         → nat_lt (cond b 0 (pages_before (λ page. is_some (q page)) (from + 1) n + 1)) (suc n) ≡ (b || meets q (from + 1) n)
-    by true h = refl
+    by true h = some n
     by false h = less (pages_before (λ page. is_some (q page)) (from + 1) n) n ∙ h
 
 locked-before : (q : Process) (from n : ℕ) → pages_before (λ page. is_locked_page (q page)) from n ≡ pages_to_locked q from n
@@ -131,12 +138,19 @@ prot-before q prot from zero = refl
 prot-before q prot from (suc n) = by (has_prot prot (q from)) (prot-before q prot (from + 1) n)
   where
     same : (x n : ℕ) → (x + 1 == suc n) ≡ (x == n)
-    same x n = grind (arith, nat_tests)
+    same x n = by (x == n) refl
+      where
+        by : (b : Bool) → (x == n) ≡ b → (x + 1 == suc n) ≡ b
+        by true e = grind (arith, nat_tests, e)
+        by false e = grind (arith, nat_tests, e)
+
+    fewer : (n : ℕ) → (0 == suc n) ≡ false
+    fewer n = grind (arith, nat_tests)
 
     by : (b : Bool) → (pages_before (λ page. not (has_prot prot (q page))) (from + 1) n == n) ≡ have_prot q prot (from + 1) n
         → (cond (not b) 0 (pages_before (λ page. not (has_prot prot (q page))) (from + 1) n + 1) == suc n) ≡ (b && have_prot q prot (from + 1) n)
     by true h = same (pages_before (λ page. not (has_prot prot (q page))) (from + 1) n) n ∙ h
-    by false h = refl
+    by false h = fewer n
 
 module _ (s : Space) (q : Process) (from n : ℕ) (at : IsSpace s q) where
   pub holes-same : pages_before (λ page. is_kind Hole (marks_at s.ranges page)) from n ≡ pages_to_hole q from n

@@ -12,7 +12,7 @@ ghost use Rattle.av_world.specs.Child.{bytes_go, marks_of_child};
 ghost use Rattle.av_world.specs.Memories.{IsWorld};
 ghost use Rattle.av_world.specs.Space.{IsSpace, byte_in};
 
-use crate::kept::Kept;
+use crate::kept::{Kept, next_of};
 use crate::memories::Memories;
 use crate::space::Space;
 use av_base::TOP_PAGE;
@@ -70,14 +70,19 @@ impl Space {
 
     /// The bytes of a child's pages.
     fn child_bytes(&self) -> Result<Kept, AllocError>
-        ensures { IfOk result (λ made. (page : ℕ) → byte_in (get nat_cmp made page)
-            ≡ byte_in (if bytes_go (marks_at self.now.ranges page)
+        ensures { IfOk result (λ made. (page : ℕ) → page < top_page
+            → byte_in (get nat_cmp made page) ≡ byte_in (if bytes_go (marks_at self.now.ranges page)
             then get nat_cmp self.now.bytes page else None)) }
     {
         let mut made = BTreeMap::new(self.alloc);
-        for (page, bytes) in self.bytes.iter() {
-            if self.gives(*page) {
-                made.insert(*page, bytes.clone()?)?;
+        let mut at = 0;
+        while let Some(page) = next_of(&self.bytes, at, TOP_PAGE) {
+            at = page + 1;
+            if !self.gives(page) {
+                continue;
+            }
+            if let Some(bytes) = self.bytes.get(&page) {
+                made.insert(page, bytes.clone()?)?;
             }
         }
         Ok(made)

@@ -15,7 +15,7 @@ use std::collections::BTreeMap;
 pub type Kept = BTreeMap<u64, Vec<u8>>;
 
 /// The first page from one on and below `end` that has bytes.
-fn next_of(kept: &Kept, from: u64, end: u64) -> Option<u64>
+pub fn next_of(kept: &Kept, from: u64, end: u64) -> Option<u64>
     requires { from ≤ end }
     ensures { MatchOption result
         ((q : ℕ) → from ≤ q → q < end → get nat_cmp kept.now q ≡ None)

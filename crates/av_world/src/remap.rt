@@ -13,6 +13,7 @@ ghost use Rattle.av_world.specs.Remap.{old_change as old_change_of};
 ghost use Rattle.av_world.specs.Space.{IsSpace};
 
 use crate::kept::{Kept, give, take, wipe};
+use crate::locks::note;
 use crate::memories::Memories;
 use crate::space::Space;
 use av_base::Flag;
@@ -161,7 +162,11 @@ impl Memories {
     {
         match self.spaces.get_mut(&number) {
             None => Ok(()),
-            Some(space) => space.remap(from, n, to, m, stays),
+            Some(space) => {
+                space.remap(from, n, to, m, stays)?;
+                let locks = space.ranges.has_lock();
+                note(&mut self.locking, number, locks)
+            }
         }
     }
 }

@@ -3,7 +3,7 @@ use Rattle.av_text.specs.Number.{IsWide}
 use Rattle.av_trace.specs.declared.reply.Answer.TheVariants.{Runs}
 use Rattle.av_trace.specs.declared.row.Row.{Row}
 use Rattle.av_plain.specs.World.{pages}
-use Rattle.av_world.specs.declared.space.Range.{Range}
+use Rattle.av_ranges.specs.declared.marks.Range.{Range}
 use Rattle.av_report_judge.proofs.MapLaws.{AreMadeRuns, maps-told, maps-wide}
 use Rattle.av_report_judge.proofs.maps.runs_reply.Goals as goal
 
