@@ -52,6 +52,7 @@ CARRIERS = {
     "av_command_laws": "the_greatest_goes_to_the_least the_runs_are_one",
     "av_report_judge": "judges_entry judges_maps judges_rmap judges_slot judges_stat",
     "av_area_judge": "judges_areas",
+    "av_ranges": "Ranges Marks Change Range",
     "av_world": "Memories Space Edit",
     "av_access_judge": "accesses sparing",
     "av_swapoff_judge": "Close closes",
