@@ -46,7 +46,7 @@ fn runs_reply(space: &Space, alloc: Global) -> Result<Option<Reply>, AllocError>
     ensures { IfOk result (λ made. (w : World) (p : ℕ) → IsSpace space.now (pages w p)
         → (rows : List AnyRow) × AreMaps (pages w p) rows × IsMade (shown_runs rows) made) }
 {
-    let cut = pieces(alloc, space)?;
+    let cut = pieces(alloc, space.ranges())?;
     let mut reply = Reply::new(alloc);
     if !add_runs(cut.as_slice(), &mut reply.rows)? {
         return Ok(None);

@@ -5,8 +5,7 @@ ghost use Rattle.av_ranges.specs.Ranges.{marks_at};
 ghost use Rattle.av_report_judge.specs.Runs.{AreCut, piece};
 
 use crate::entry::fits;
-use av_ranges::{Marks, Range};
-use av_world::Space;
+use av_ranges::{Marks, Range, Ranges};
 use std::alloc::{AllocError, Global};
 
 /// Adds the pages from `start` to below `end`, if they are mapped.
@@ -25,10 +24,9 @@ fn add_piece(
 }
 
 /// What a process has mapped, in ranges that rise.
-pub fn pieces(alloc: Global, space: &Space) -> Result<Vec<Range>, AllocError>
-    ensures { IfOk result (λ cut. AreCut (marks_at space.now.ranges) cut.items) }
+pub fn pieces(alloc: Global, ranges: &Ranges) -> Result<Vec<Range>, AllocError>
+    ensures { IfOk result (λ cut. AreCut (marks_at ranges.now) cut.items) }
 {
-    let ranges = space.ranges();
     let mut cut = Vec::new(alloc);
     let mut page = 0;
     while let Some(next) = ranges.bound_above(page) {

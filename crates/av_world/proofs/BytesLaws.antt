@@ -100,6 +100,12 @@ some-laid old new page at piece o kept is put laid i =
     ap (λ o. byte_in o i) (put page ∙ ap (λ b. cond b (Some kept) (get nat_cmp old page)) (key-self page))
     ∙ laid i ∙ ap (λ o. overlaid at piece (byte_in o) i) (sym is)
 
+-- bytes are put into what is the same as before
+pub put-in : (old same new : BTreeMap ℕ (Vec ℕ Global)) (page : ℕ) (kept : Vec ℕ Global) → same ≡ old
+    → ((q : ℕ) → get nat_cmp new q ≡ cond (is_at (nat_cmp page) q) (Some kept) (get nat_cmp same q))
+    → (q : ℕ) → get nat_cmp new q ≡ cond (is_at (nat_cmp page) q) (Some kept) (get nat_cmp old q)
+put-in old same new page kept is put q = put q ∙ ap (λ m. cond (is_at (nat_cmp page) q) (Some kept) (get nat_cmp m q)) is
+
 pub others-laid : (old new : BTreeMap ℕ (Vec ℕ Global)) (page : ℕ) (kept : Vec ℕ Global)
     → ((q : ℕ) → get nat_cmp new q ≡ cond (is_at (nat_cmp page) q) (Some kept) (get nat_cmp old q))
     → (other : ℕ) → (other == page) ≡ false → get nat_cmp new other ≡ get nat_cmp old other

@@ -52,11 +52,12 @@ impl Space {
         let mut made = Ranges::new(self.alloc);
         let mut at = 0;
         while at < TOP_PAGE {
-            let to = self.ranges.same_up_to(at, TOP_PAGE);
-            if let Some(marks) = marks_for_child(self.marks(at)) {
-                made.put(at, to - at, marks)?;
-            }
-            at = to;
+            let from = at;
+            at = self.ranges.same_up_to(from, TOP_PAGE);
+            let Some(marks) = marks_for_child(self.marks(from)) else {
+                continue;
+            };
+            made.put(from, at - from, marks)?;
         }
         Ok(made)
     }

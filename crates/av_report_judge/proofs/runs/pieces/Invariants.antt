@@ -4,7 +4,7 @@ use Rattle.av_report_judge.proofs.RunLaws.{AreCutTo}
 use Rattle.av_report_judge.proofs.runs.pieces.Given as goal
 
 abbrev pub invariant-loop-next : goal.invariant-loop-next
-invariant-loop-next l = AreCutTo (marks_at l.space.ranges) l.page l.cut.items
+invariant-loop-next l = AreCutTo (marks_at l.ranges) l.page l.cut.items
 
 abbrev pub decreases-loop-next : goal.decreases-loop-next
 decreases-loop-next l = 2 ^ 64 - l.page
