@@ -53,7 +53,7 @@ CARRIERS = {
     "av_report_judge": "judges_entry judges_maps judges_rmap judges_slot judges_stat",
     "av_area_judge": "judges_areas",
     "av_ranges": "Ranges Marks Change Range",
-    "av_world": "Memories Space Range Marks Edit",
+    "av_world": "Memories Space Edit",
     "av_access_judge": "accesses sparing",
     "av_swapoff_judge": "Close closes",
     "av_neighbour_judge": "judges_merge judges_compact",

@@ -1,13 +1,10 @@
--- Two spaces, compared page by page where one of them has a bound.
-use Rattle.std.proofs.Common.{◌≡◌, inl, inr, ℕ, ◌≤◌, Bool, true, false, ◌&&◌, List, arith, refl, sym, ◌∙◌}
+-- What is said, compared page by page where something else is.
+use Rattle.std.proofs.Common.{◌≡◌, inl, inr, ℕ, ◌<◌, ◌≤◌, Bool, true, false, ◌&&◌, Option, arith, refl, sym, ◌∙◌}
 use Rattle.std.proofs.Math.Bool.{beq}
 use Rattle.std.proofs.lemmas.Bool.{cases_lt}
 use Rattle.av_base.specs.declared.flags.Flags.{Flags}
 use Rattle.av_base.specs.declared.prot.Prot.{Prot}
-use Rattle.av_world.specs.Space.{marks_in}
-use Rattle.av_world.specs.declared.space.Marks.{Marks}
-use Rattle.av_world.specs.declared.space.Range.{Range}
-use Rattle.av_world.proofs.LockLaws.{Same}
+use Rattle.av_ranges.specs.declared.marks.Marks.{Marks}
 use Rattle.av_area_judge.specs.Alike.{SaySame}
 
 one-bit : (a b : Bool) (rest : Bool) → (beq a b && rest) ≡ true → (a ≡ b) × (rest ≡ true)
@@ -42,8 +39,9 @@ pub marks-same : (one other : Marks) → (one.prot ≡ other.prot) × (one.flags
 marks-same one other h = λ i. record { prot = h.0 i; flags = h.1 i }
 
 -- the same is said of one page more, and of those of which nothing else is said
-pub more-said : (one other : List Range) (page to next : ℕ) → SaySame one other page → marks_in one page ≡ marks_in other page
-    → Same one page to → Same other page next → next ≤ to → SaySame one other next
+pub more-said : (one other : ℕ → Option Marks) (page to next : ℕ) → SaySame one other page → one page ≡ other page
+    → ((q : ℕ) → page ≤ q → q < to → one q ≡ one page) → ((q : ℕ) → page ≤ q → q < next → other q ≡ other page) → next ≤ to
+    → SaySame one other next
 more-said one other page to next before here first second most q low = elim (cases_lt q page) [
   | inl lt ↦ before q lt
   | inr ge ↦ first q ge (omega (arith, low, most)) ∙ here ∙ sym (second q ge low)

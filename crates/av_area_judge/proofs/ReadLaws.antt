@@ -21,7 +21,7 @@ use Rattle.av_trace.proofs.RowLaws.{area_line-is}
 use Rattle.av_trace.proofs.Split.{lacks-append, lacks-cons, lacks as has_none}
 use Rattle.av_judge.specs.Notes.{lacks}
 use Rattle.av_judge.proofs.NoteLaws.{lacks-same}
-use Rattle.av_area_judge.specs.Read.{AreWords, joined, shown_areas, unlabelled}
+use Rattle.av_area_judge.specs.Read.{AreWords, bytes_behind, joined, shown_areas}
 use Rattle.av_area_judge.specs.declared.read.Words.{Words}
 use Rattle.av_area_judge.proofs.WordLaws.{IsPiece, label-same, piece-joined}
 
@@ -67,9 +67,9 @@ pub record AreCut (line : List ℕ) (w : Words) : Type 0 where
   pub fourth : IsPiece 32 from_offset offset from_own
   pub fifth : IsPiece 32 from_own own from_chain
   pub sixth : IsPiece 32 from_chain chain w.flags.now
-  pub offset_is : w.offset.now ≡ unlabelled (codes "off=") offset
-  pub own_is : w.own.now ≡ unlabelled (codes "own=") own
-  pub chain_is : w.chain.now ≡ unlabelled (codes "chain=") chain
+  pub offset_is : w.offset.now ≡ bytes_behind (codes "off=") offset
+  pub own_is : w.own.now ≡ bytes_behind (codes "own=") own
+  pub chain_is : w.chain.now ≡ bytes_behind (codes "chain=") chain
 
 pub words-cut : (row : Row) (line : List ℕ) (w : Words) → AreCut line w → IsAreaRow row → line ≡ 32 ∷ row_line row → AreWords row w
 words-cut (Run start end prot) line w c is read = absurd is

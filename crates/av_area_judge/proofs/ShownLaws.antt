@@ -1,23 +1,25 @@
 -- What rows of areas show.
-use Rattle.std.proofs.Common.{◌≡◌, ℕ, ◌<◌, ◌≤◌, Bool, true, false, cond, ◌&&◌, List, [], ◌∷◌, ◌++◌, append_assoc, append-nil, length, map, Option, Some, None, nat_le, nat_lt, refl, sym, ap, subst, ◌∙◌, arith}
+use Rattle.std.proofs.Common.{◌≡◌, ℕ, ◌+◌, ◌-◌, ◌<◌, ◌≤◌, Bool, true, false, cond, ◌&&◌, List, [], ◌∷◌, ◌++◌, append_assoc, append-nil, length, map, Option, Some, None, nat_le, nat_lt, refl, sym, ap, subst, ◌∙◌, arith}
 use Rattle.std.specs.Prelude.{◌^◌, option_map}
 use Rattle.std.specs.List.{AllByRecursion}
 use Rattle.std.proofs.lemmas.Bool.Decides.{nat_tests}
 use Rattle.std.specs.BTreeMap.{get}
 use Rattle.std.specs.Ordering.{nat_cmp}
 use Rattle.av_base.specs.Page.{address_of}
+use Rattle.av_base.specs.Words.{within}
 use Rattle.av_text.specs.Number.{IsWide}
 use Rattle.av_trace.specs.declared.row.Row.{Row}
 use Rattle.av_trace.specs.declared.row.Row.TheVariants.{Run, Area, Entry}
 use Rattle.av_trace.specs.Row.{IsAreaRow}
 use Rattle.av_plain.specs.Report.{AreApart, AreAreas, HasRisingChain, Range as PlainRange, flags_in, prot_in, row_of, run_of}
 use Rattle.av_plain.specs.World.{Page, Process}
-use Rattle.av_world.specs.Space.{IsPage, IsSpace, byte_in, has, marks_in}
-use Rattle.av_world.specs.declared.space.Marks.{Marks}
-use Rattle.av_world.specs.declared.space.Range.{Range}
+use Rattle.av_ranges.specs.Ranges.{marks_at}
+use Rattle.av_ranges.specs.declared.marks.Marks.{Marks}
+use Rattle.av_ranges.specs.declared.marks.Range.{Range}
+use Rattle.av_world.specs.Space.{IsPage, IsSpace, byte_in}
 use Rattle.av_world.specs.declared.space.Space.{Space}
 use Rattle.av_area_judge.specs.Alike.{AreAlike, SaySame}
-use Rattle.av_area_judge.specs.Shown.{AreShown, IsShown, IsVerdictOn, Shows}
+use Rattle.av_area_judge.specs.Shown.{AreShown, IsShown, IsVerdictOn, Shows, has, said_by}
 
 -- the range of a report
 abbrev plain_range : Range → PlainRange
@@ -96,7 +98,7 @@ lt-scaled a b = by (nat_lt a b) refl
     by false e = grind (arith, nat_tests, e)
 
 shown-flags : (from : ℕ) (rows : List Row) (rs : List Range) → AreShown from rows rs → (page : ℕ)
-    → flags_in rows page ≡ option_map (λ (k : Marks). k.flags) (marks_in rs page)
+    → flags_in rows page ≡ option_map (λ (k : Marks). k.flags) (said_by rs page)
 shown-flags from [] [] h page = refl
 shown-flags from [] (r ∷ rs) h page = absurd h
 shown-flags from (row ∷ rows) [] h page = absurd h
@@ -108,17 +110,17 @@ shown-flags from (Area start end prot offset own chain flags ∷ rows) (r ∷ rs
     let high : nat_lt (address_of page) end ≡ nat_lt page r.end = ap (nat_lt (address_of page)) said.1 ∙ lt-scaled page r.end in
     (λ i. cond (low i && high i) (Some (said.3 i)) (shown-flags r.end rows rs h.1 page i)) ∙ by (has r page)
   where
-    by : (b : Bool) → cond b (Some r.marks.flags) (option_map (λ (k : Marks). k.flags) (marks_in rs page))
-        ≡ option_map (λ (k : Marks). k.flags) (cond b (Some r.marks) (marks_in rs page))
+    by : (b : Bool) → cond b (Some r.marks.flags) (option_map (λ (k : Marks). k.flags) (said_by rs page))
+        ≡ option_map (λ (k : Marks). k.flags) (cond b (Some r.marks) (said_by rs page))
     by true = refl
     by false = refl
 
-plain-prot : (rs : List Range) (page : ℕ) → prot_in (plain_ranges rs) page ≡ option_map (λ (k : Marks). k.prot) (marks_in rs page)
+plain-prot : (rs : List Range) (page : ℕ) → prot_in (plain_ranges rs) page ≡ option_map (λ (k : Marks). k.prot) (said_by rs page)
 plain-prot [] page = refl
 plain-prot (r ∷ rs) page = ap (λ o. cond (has r page) (Some r.marks.prot) o) (plain-prot rs page) ∙ by (has r page)
   where
-    by : (b : Bool) → cond b (Some r.marks.prot) (option_map (λ (k : Marks). k.prot) (marks_in rs page))
-        ≡ option_map (λ (k : Marks). k.prot) (cond b (Some r.marks) (marks_in rs page))
+    by : (b : Bool) → cond b (Some r.marks.prot) (option_map (λ (k : Marks). k.prot) (said_by rs page))
+        ≡ option_map (λ (k : Marks). k.prot) (cond b (Some r.marks) (said_by rs page))
     by true = refl
     by false = refl
 
@@ -194,14 +196,14 @@ marks-same (Some k) (Some j) e f =
 
 -- no page has an address of more than 64 bits
 shown-top : (from : ℕ) (rows : List Row) (rs : List Range) → AreShown from rows rs → AllByRecursion IsAreaRow rows → (page : ℕ) → 2 ^ 52 ≤ page
-    → marks_in rs page ≡ None
+    → said_by rs page ≡ None
 shown-top from [] [] h wide page high = refl
 shown-top from [] (r ∷ rs) h wide page high = absurd h
 shown-top from (row ∷ rows) [] h wide page high = absurd h
 shown-top from (Run start end prot ∷ rows) (r ∷ rs) h wide page high = absurd h.0.0
 shown-top from (Entry p address ∷ rows) (r ∷ rs) h wide page high = absurd h.0.0
 shown-top from (Area start end prot offset own chain flags ∷ rows) (r ∷ rs) h wide page high =
-    ap (λ b. cond b (Some r.marks) (marks_in rs page)) (over (nat_le r.start page) r.end (subst IsWide h.0.0.1 wide.0.1))
+    ap (λ b. cond b (Some r.marks) (said_by rs page)) (over (nat_le r.start page) r.end (subst IsWide h.0.0.1 wide.0.1))
     ∙ shown-top r.end rows rs h.1 wide.1 page high
   where
     past : (end : ℕ) → IsWide (address_of end) → nat_lt page end ≡ false
@@ -212,18 +214,18 @@ shown-top from (Area start end prot offset own chain flags ∷ rows) (r ∷ rs) 
     over false end small = refl
 
 module _ (s : Space) (q : Process) (rows : List Row) (rs : List Range) (at : IsSpace s q) (shown : AreShown 0 rows rs) where
-  space-prot : (page : ℕ) → option_map (λ (k : Marks). k.prot) (marks_in s.ranges.items page) ≡ option_map (λ (p : Page). p.prot) (q page)
-  space-prot page = page-prot (marks_in s.ranges.items page) (byte_in (get nat_cmp s.bytes page)) (q page) (at.pages page)
+  space-prot : (page : ℕ) → option_map (λ (k : Marks). k.prot) (marks_at s.ranges page) ≡ option_map (λ (p : Page). p.prot) (q page)
+  space-prot page = page-prot (marks_at s.ranges page) (byte_in (get nat_cmp s.bytes page)) (q page) (at.pages page)
 
-  space-flags : (page : ℕ) → option_map (λ (k : Marks). k.flags) (marks_in s.ranges.items page) ≡ option_map (λ (p : Page). p.flags) (q page)
-  space-flags page = page-flags (marks_in s.ranges.items page) (byte_in (get nat_cmp s.bytes page)) (q page) (at.pages page)
+  space-flags : (page : ℕ) → option_map (λ (k : Marks). k.flags) (marks_at s.ranges page) ≡ option_map (λ (p : Page). p.flags) (q page)
+  space-flags page = page-flags (marks_at s.ranges page) (byte_in (get nat_cmp s.bytes page)) (q page) (at.pages page)
 
-  space-top : (page : ℕ) → 2 ^ 52 ≤ page → marks_in s.ranges.items page ≡ None
-  space-top page high = page-none (marks_in s.ranges.items page) (byte_in (get nat_cmp s.bytes page)) (q page) (at.pages page)
+  space-top : (page : ℕ) → 2 ^ 52 ≤ page → marks_at s.ranges page ≡ None
+  space-top page high = page-none (marks_at s.ranges page) (byte_in (get nat_cmp s.bytes page)) (q page) (at.pages page)
       (at.top page (omega (arith, high)))
 
   -- the rows are those of a legal reply where the ranges say what the process has
-  pub legal-shown : AllByRecursion IsAreaRow rows → SaySame s.ranges.items rs (2 ^ 52) → AreAreas q rows
+  pub legal-shown : AllByRecursion IsAreaRow rows → SaySame (marks_at s.ranges) (said_by rs) (2 ^ 52) → AreAreas q rows
   legal-shown wide same = (
     plain_ranges rs,
     shown-runs 0 rows rs shown,
@@ -233,7 +235,7 @@ module _ (s : Space) (q : Process) (rows : List Row) (rs : List Range) (at : IsS
     shown-chains 0 rows rs shown,
   )
     where
-      all : (page : ℕ) → marks_in rs page ≡ marks_in s.ranges.items page
+      all : (page : ℕ) → said_by rs page ≡ marks_at s.ranges page
       all page = by (nat_lt page (2 ^ 52)) refl
         where
           low : nat_lt page (2 ^ 52) ≡ true → page < 2 ^ 52
@@ -242,16 +244,16 @@ module _ (s : Space) (q : Process) (rows : List Row) (rs : List Range) (at : IsS
           high : nat_lt page (2 ^ 52) ≡ false → 2 ^ 52 ≤ page
           high e = grind (arith, nat_tests, e)
 
-          by : (b : Bool) → nat_lt page (2 ^ 52) ≡ b → marks_in rs page ≡ marks_in s.ranges.items page
+          by : (b : Bool) → nat_lt page (2 ^ 52) ≡ b → said_by rs page ≡ marks_at s.ranges page
           by true e = sym (same page (low e))
           by false e = shown-top 0 rows rs shown wide page (high e) ∙ sym (space-top page (high e))
 
   -- and there alone
-  pub shown-legal : AreAreas q rows → (page : ℕ) → marks_in s.ranges.items page ≡ marks_in rs page
+  pub shown-legal : AreAreas q rows → (page : ℕ) → marks_at s.ranges page ≡ said_by rs page
   shown-legal areas page =
       let others = areas-shown 0 rows areas.0 areas.1 (low areas.0) areas.2 areas.5 in
       let ranges : plain_ranges rs ≡ areas.0 = ap plain_ranges (shown-one 0 rows rs others.0 shown others.1) ∙ others.2 in
-      marks-same (marks_in s.ranges.items page) (marks_in rs page)
+      marks-same (marks_at s.ranges page) (said_by rs page)
       (space-prot page ∙ sym (areas.3 page) ∙ ap (λ ranges. prot_in ranges page) (sym ranges) ∙ plain-prot rs page)
       (space-flags page ∙ sym (areas.4 page) ∙ shown-flags 0 rows rs shown page)
     where
@@ -269,10 +271,15 @@ none-shown q rows none areas =
     low [] = tt
     low (r ∷ ranges) = omega arith
 
-pub verdict-on : (s : Space) (q : Process) (rows : List Row) (rs : List Range) (alike : Bool) → IsSpace s q → AreShown 0 rows rs
-    → AllByRecursion IsAreaRow rows → AreAlike s.ranges.items rs (2 ^ 52) alike → IsVerdictOn q rows alike
-verdict-on s q rows rs true at shown wide same = (legal-shown s q rows rs at shown wide same, wide)
-verdict-on s q rows rs false at shown wide differ = λ areas. differ (λ page low. shown-legal s q rows rs at shown areas page)
+pub verdict-on : (s : Space) (q : Process) (rows : List Row) (rs : List Range) (said : ℕ → Option Marks) (alike : Bool) → IsSpace s q
+    → AreShown 0 rows rs → AllByRecursion IsAreaRow rows → ((page : ℕ) → said page ≡ said_by rs page)
+    → AreAlike (marks_at s.ranges) said (2 ^ 52) alike → IsVerdictOn q rows alike
+verdict-on s q rows rs said alike at shown wide says is =
+    by alike (subst (λ said. AreAlike (marks_at s.ranges) said (2 ^ 52) alike) (λ i page. says page i) is)
+  where
+    by : (alike : Bool) → AreAlike (marks_at s.ranges) (said_by rs) (2 ^ 52) alike → IsVerdictOn q rows alike
+    by true same = (legal-shown s q rows rs at shown wide same, wide)
+    by false differ = λ areas. differ (λ page low. shown-legal s q rows rs at shown areas page)
 
 -- ---- rows, one by one
 
@@ -322,3 +329,79 @@ so-far-all rows made from rest none h = (
 pub none-left : (rows : List Row) → length rows < 1 → rows ≡ []
 none-left [] h = refl
 none-left (row ∷ rows) h = absurd (omega (arith, h))
+
+-- ---- what is said of pages so far
+
+-- something is said of no page from one on, and of the others what ranges say, which rows so far show
+pub record AreSaid (rows : List Row) (said : ℕ → Option Marks) (from : ℕ) (rest : List Row) : Type 0 where
+  pub made : List Range
+  pub shown : IsShownSoFar rows made from rest
+  pub same : (page : ℕ) → said page ≡ said_by made page
+  pub none : (page : ℕ) → from ≤ page → said page ≡ None
+
+pub none-said : (rows : List Row) (said : ℕ → Option Marks) → ((page : ℕ) → said page ≡ None) → AreSaid rows said 0 rows
+none-said rows said empty = record {
+  made = [];
+  shown = so-far-none rows [] refl;
+  same = empty;
+  none = λ page low. empty page;
+}
+
+abbrev or_else : Option Marks → Option Marks → Option Marks
+or_else first then_ = elim first [ None ↦ then_ | Some k ↦ Some k ]
+
+said-last : (rs : List Range) (r : Range) (page : ℕ) → said_by (rs ++ r ∷ []) page ≡ or_else (said_by rs page) (cond (has r page) (Some r.marks) None)
+said-last [] r page = refl
+said-last (e ∷ es) r page = by (has e page) (said-last es r page)
+  where
+    by : (b : Bool) → said_by (es ++ r ∷ []) page ≡ or_else (said_by es page) (cond (has r page) (Some r.marks) None)
+        → cond b (Some e.marks) (said_by (es ++ r ∷ []) page) ≡ or_else (cond b (Some e.marks) (said_by es page)) (cond (has r page) (Some r.marks) None)
+    by true rest = refl
+    by false rest = rest
+
+pub said-more : (rows : List Row) (said new : ℕ → Option Marks) (from : ℕ) (rest : List Row) (row : Row) (others : List Row) (r : Range)
+    → row ∷ others ≡ rest → AreSaid rows said from rest → IsShown from row r → IsAreaRow row
+    → ((page : ℕ) → new page ≡ cond (within r.start (r.end - r.start) page) (Some r.marks) (said page)) → AreSaid rows new r.end others
+said-more rows said new from rest row others r is h shows fit put = record {
+  made = h.made ++ r ∷ [];
+  shown = so-far-more rows h.made from rest row others is h.shown r (h.made ++ r ∷ []) shows fit refl;
+  same = λ page. put page ∙ by page (has r page) refl ∙ ap (λ o. or_else o (cond (has r page) (Some r.marks) None)) (h.same page)
+      ∙ sym (said-last h.made r page);
+  none = λ page high. put page ∙ ap (λ b. cond b (Some r.marks) (said page)) (past page high)
+      ∙ h.none page (let a = shows.1 in let b = shows.2 in omega (arith, a, b, high));
+}
+  where
+    as-has : (s e page : ℕ) → s < e → within s (e - s) page ≡ (nat_le s page && nat_lt page e)
+    as-has s e page less = λ i. nat_le s page && nat_lt page (end i)
+      where
+        end : s + (e - s) ≡ e
+        end = omega (arith, less)
+
+    past : (page : ℕ) → r.end ≤ page → within r.start (r.end - r.start) page ≡ false
+    past page high = let b = shows.2 in grind (arith, nat_tests, high, b)
+
+    begun : (page : ℕ) → (nat_le r.start page && nat_lt page r.end) ≡ true → r.start ≤ page
+    begun page e = grind (arith, nat_tests, e)
+
+    or-none : (o : Option Marks) → o ≡ or_else o None
+    or-none None = refl
+    or-none (Some k) = refl
+
+    by : (page : ℕ) (b : Bool) → has r page ≡ b
+        → cond (within r.start (r.end - r.start) page) (Some r.marks) (said page) ≡ or_else (said page) (cond (has r page) (Some r.marks) None)
+    by page true e =
+        let empty : said page ≡ None = h.none page (let a = shows.1 in let b = begun page e in omega (arith, a, b)) in
+        ap (λ b. cond b (Some r.marks) (said page)) (as-has r.start r.end page shows.2 ∙ e)
+        ∙ sym ((λ i. or_else (empty i) (cond (e i) (Some r.marks) None)))
+    by page false e = ap (λ b. cond b (Some r.marks) (said page)) (as-has r.start r.end page shows.2 ∙ e)
+        ∙ or-none (said page) ∙ ap (λ b. or_else (said page) (cond b (Some r.marks) None)) (sym e)
+
+pub said-not : (rows : List Row) (said : ℕ → Option Marks) (from : ℕ) (rest : List Row) (row : Row) (others : List Row) → row ∷ others ≡ rest
+    → AreSaid rows said from rest → ((r : Range) → IsShown from row r → ⊥) → (all : List Range) → AreShown 0 rows all → ⊥
+said-not rows said from rest row others is h none = so-far-not rows h.made from rest row others is h.shown none
+
+pub said-all : (rows : List Row) (said : ℕ → Option Marks) (from : ℕ) (rest : List Row) → rest ≡ [] → AreSaid rows said from rest
+    → (ranges : List Range) × AreShown 0 rows ranges × AllByRecursion IsAreaRow rows × ((page : ℕ) → said page ≡ said_by ranges page)
+said-all rows said from rest none h =
+    let both = so-far-all rows h.made from rest none h.shown in
+    (h.made, both.0, both.1, h.same)

@@ -13,7 +13,7 @@ use Rattle.av_trace.specs.Row.{chain_text, flag_words, own_text}
 use Rattle.av_trace.proofs.PlainWords.{lacks-low, word_of, word_of-again}
 use Rattle.av_judge.specs.Notes.{IsCut, lacks}
 use Rattle.av_judge.proofs.NoteLaws.{cut-one, lacks-not, lacks-same}
-use Rattle.av_area_judge.specs.Read.{behind, flag_in, joined, unlabelled}
+use Rattle.av_area_judge.specs.Read.{behind, bytes_behind, flag_in, joined}
 
 -- ---- pieces
 
@@ -40,7 +40,7 @@ piece-joined c w (v ∷ words) bytes first others p none is = p.cut w (joined c 
 
 -- ---- labels
 
-pub label-same : (label bytes word found : List ℕ) → found ≡ unlabelled label bytes → bytes ≡ label ++ word → found ≡ word
+pub label-same : (label bytes word found : List ℕ) → found ≡ bytes_behind label bytes → bytes ≡ label ++ word → found ≡ word
 label-same label bytes word found some is = some ∙ ap (λ o. behind o bytes) (ap (after label) is ∙ after-again label word)
 
 -- ---- numbers

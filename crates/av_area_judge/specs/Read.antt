@@ -25,13 +25,13 @@ abbrev pub behind : Option (List ℕ) → List ℕ → List ℕ
 behind None bytes = bytes
 behind (Some rest) bytes = rest
 
-abbrev pub unlabelled : List ℕ → List ℕ → List ℕ
-unlabelled label bytes = behind (after label bytes) bytes
+abbrev pub bytes_behind : List ℕ → List ℕ → List ℕ
+bytes_behind label bytes = behind (after label bytes) bytes
 
 -- whether a word stands in front, and what follows it and a space
 abbrev pub flag_found : Option (List ℕ) → List ℕ → Bool × List ℕ
 flag_found None words = (false, words)
-flag_found (Some rest) words = (true, unlabelled (32 ∷ []) rest)
+flag_found (Some rest) words = (true, bytes_behind (32 ∷ []) rest)
 
 abbrev pub flag_in : List ℕ → List ℕ → Bool × List ℕ
 flag_in name words = flag_found (after name words) words

@@ -1,9 +1,10 @@
-//! Whether two spaces say the same of each page.
+//! Whether the same is said of each page.
 
 ghost use Rattle.std.specs.Prelude.{◌≡◌, false, true};
+ghost use Rattle.av_ranges.specs.Ranges.{marks_at};
 ghost use Rattle.av_area_judge.specs.Alike.{AreAlike};
 
-use av_world::{Marks, Space};
+use av_ranges::{Marks, Ranges};
 
 /// Whether two pages have one protection and the same flags.
 fn same_marks(one: Marks, other: Marks) -> bool
@@ -27,9 +28,9 @@ fn are_same(one: Option<Marks>, other: Option<Marks>) -> bool
     }
 }
 
-/// Whether two spaces say the same of each page below `end`.
-pub fn are_alike(one: &Space, other: &Space, end: u64) -> bool
-    ensures { AreAlike one.now.ranges.items other.now.ranges.items end result }
+/// Whether the same is said of each page below `end`.
+pub fn are_alike(one: &Ranges, other: &Ranges, end: u64) -> bool
+    ensures { AreAlike (marks_at one.now) (marks_at other.now) end result }
 {
     let mut page = 0;
     while page < end {

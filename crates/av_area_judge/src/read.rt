@@ -10,7 +10,7 @@ ghost use Rattle.av_trace.specs.Row.{IsAreaRow, row_line};
 ghost use Rattle.av_trace.specs.declared.row.Row.{Row as AnyRow};
 ghost use Rattle.av_area_judge.specs.Read.{AreWords, shown_areas};
 
-use crate::words::{chain_numbers, flags_of, hex_number, own_number, piece, prot_of, unlabelled};
+use crate::words::{bytes_behind, chain_numbers, flags_of, hex_number, own_number, piece, prot_of};
 use av_trace::{Answer, Chain, Reply, Row, Rows};
 use std::alloc::{AllocError, Global};
 
@@ -42,9 +42,9 @@ fn words_of(line: &[u8]) -> Words<'_>
         start,
         end,
         prot,
-        offset: unlabelled(offset, b"off="),
-        own: unlabelled(own, b"own="),
-        chain: unlabelled(chain, b"chain="),
+        offset: bytes_behind(offset, b"off="),
+        own: bytes_behind(own, b"own="),
+        chain: bytes_behind(chain, b"chain="),
         flags,
     }
 }

@@ -6,16 +6,17 @@ ghost use Rattle.std.specs.List.{AllByRecursion};
 ghost use Rattle.av_trace.specs.Row.{AreRising, IsAreaRow};
 ghost use Rattle.av_plain.specs.World.{Process};
 ghost use Rattle.av_text.specs.Number.{IsWide};
+ghost use Rattle.av_ranges.specs.Ranges.{marks_at};
+ghost use Rattle.av_ranges.specs.declared.marks.Range.{Range as AnyRange};
 ghost use Rattle.av_world.specs.Space.{IsSpace};
-ghost use Rattle.av_world.specs.declared.space.Range.{Range as AnyRange};
 ghost use Rattle.av_area_judge.specs.Shown.{AreRead, IsShown, IsVerdictOn, Shows};
 
 use crate::alike::are_alike;
 use av_base::PAGE_SIZE;
+use av_ranges::{Marks, Range, Ranges};
 use av_trace::Row;
-use av_world::{Marks, Range, Space};
+use av_world::Space;
 use std::alloc::{AllocError, Global};
-use std::collections::BTreeMap;
 
 /// No page from here on has an address of 64 bits.
 const END: u64 = 1 << 52;
@@ -111,18 +112,18 @@ fn range_from(row: &Row, from: u64) -> Option<Range>
     }
 }
 
-/// What rows show, if they are of areas that are apart and rise.
-fn ranges_of(alloc: Global, rows: &[Row]) -> Result<Option<Vec<Range>>, AllocError>
-    ensures { IfOk result (λ found. AreRead rows.now (option_map (λ made. made.items) found)) }
+/// What rows say of pages, if they are of areas that are apart and rise.
+fn ranges_of(alloc: Global, rows: &[Row]) -> Result<Option<Ranges>, AllocError>
+    ensures { IfOk result (λ found. AreRead rows.now (option_map marks_at found)) }
 {
-    let mut made = Vec::new(alloc);
+    let mut made = Ranges::new(alloc);
     let mut from = 0;
     let mut rest = rows;
     while let [first, others @ ..] = rest {
         let Some(range) = range_from(first, from) else {
             return Ok(None);
         };
-        made.push(range)?;
+        made.put(range.start, range.end - range.start, range.marks)?;
         from = range.end;
         rest = others;
     }
@@ -136,13 +137,6 @@ pub fn shows_areas(space: &Space, alloc: Global, rows: &[Row]) -> Result<bool, A
 {
     match ranges_of(alloc, rows)? {
         None => Ok(false),
-        Some(ranges) => {
-            let shown = Space {
-                alloc,
-                ranges,
-                bytes: BTreeMap::new(alloc),
-            };
-            Ok(are_alike(space, &shown, END))
-        }
+        Some(ranges) => Ok(are_alike(space.ranges(), &ranges, END)),
     }
 }

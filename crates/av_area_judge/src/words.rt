@@ -11,7 +11,7 @@ ghost use Rattle.av_text.specs.Prot.{prot_text};
 ghost use Rattle.av_trace.specs.Row.{chain_text, flag_words, own_text};
 ghost use Rattle.av_judge.specs.Notes.{lacks};
 ghost use Rattle.av_area_judge.specs.Read.{flag_in, joined};
-ghost use Rattle.av_area_judge.specs.Read.{unlabelled as unlabelled_of};
+ghost use Rattle.av_area_judge.specs.Read.{bytes_behind as bytes_behind_of};
 
 use av_base::{Flags, Prot};
 use av_judge::cut;
@@ -36,8 +36,8 @@ pub fn piece(byte: u8, bytes: &[u8]) -> (&[u8], &[u8])
 }
 
 /// What follows a label, or all.
-pub fn unlabelled<'a>(bytes: &'a [u8], label: &[u8]) -> &'a [u8]
-    ensures { result.now ≡ unlabelled_of label.now bytes.now }
+pub fn bytes_behind<'a>(bytes: &'a [u8], label: &[u8]) -> &'a [u8]
+    ensures { result.now ≡ bytes_behind_of label.now bytes.now }
 {
     match after(bytes, label) {
         None => bytes,
@@ -116,7 +116,7 @@ fn flag_at<'a>(words: &'a [u8], name: &[u8]) -> (bool, &'a [u8])
 {
     match after(words, name) {
         None => (false, words),
-        Some(rest) => (true, unlabelled(rest, b" ")),
+        Some(rest) => (true, bytes_behind(rest, b" ")),
     }
 }
 

@@ -17,7 +17,7 @@ use Rattle.av_plain.specs.World.{Holds, Page, Process, World, pages}
 use Rattle.av_world.specs.Memories.{IsWorld}
 use Rattle.av_world.specs.Space.{marks_of}
 use Rattle.av_world.specs.declared.memories.Memories.{Memories}
-use Rattle.av_world.specs.declared.space.Marks.{Marks}
+use Rattle.av_ranges.specs.declared.marks.Marks.{Marks}
 use Rattle.av_neighbour_judge.specs.First.{AreTrue, Fits, FramePages, HasTold, IsTold, IsToldFor, StillTell, TellsFrame, same_page}
 use Rattle.av_neighbour_judge.specs.Held.{bytes_of_page, held_by}
 use Rattle.av_neighbour_judge.proofs.HeldLaws.{all-pass, bytes-hold, each-passes, held-bytes, itself, same-number}

@@ -13,12 +13,13 @@ use Rattle.av_base.specs.Keys.{Key}
 use Rattle.av_base.specs.Page.{page_size}
 use Rattle.av_plain.specs.World.{Holds, Page, Process, World, pages, process}
 use Rattle.av_world.specs.Memories.{IsProcess, IsWorld}
-use Rattle.av_world.specs.Space.{IsPage, byte_in, marks_in}
+use Rattle.av_ranges.specs.Ranges.{marks_at as said_at}
+use Rattle.av_world.specs.Space.{IsPage, byte_in, bytes_in}
 use Rattle.av_world.specs.declared.memories.Memories.{Memories}
-use Rattle.av_world.specs.declared.space.Marks.{Marks}
+use Rattle.av_ranges.specs.declared.marks.Marks.{Marks}
 use Rattle.av_world.specs.declared.space.Space.{Space}
 use Rattle.av_world.proofs.WorldLaws.{found, spaces-find}
-use Rattle.av_neighbour_judge.specs.Held.{bytes_of_page, items_of}
+use Rattle.av_neighbour_judge.specs.Held.{bytes_of_page}
 
 -- ---- tests over a range
 
@@ -63,10 +64,6 @@ pub same-lists : (n : ℕ) (a b c d : List ℕ) → a ≡ c → b ≡ d
     → list_all (λ i. slice_index a i == slice_index b i) (range_with_len 0 n) ≡ list_all (λ i. slice_index c i == slice_index d i) (range_with_len 0 n)
 same-lists n a b c d e f = λ j. list_all (λ i. slice_index (e j) i == slice_index (f j) i) (range_with_len 0 n)
 
-byte-kept : (o : Option (Vec ℕ Global)) (i : ℕ) → byte_in o i ≡ slice_index (unwrap_or (option_map items_of o) []) i
-byte-kept None i = refl
-byte-kept (Some bytes) i = refl
-
 page-claimed : (k : Option Marks) (at : ℕ → ℕ) (o : Option Page) (p : Page) → IsPage k at o → o ≡ Some p → (i : ℕ) → i < page_size → p.bytes i ≡ Some (at i)
 page-claimed None at None p h is i low = cc
 page-claimed None at (Some q) p h is i low = absurd h
@@ -91,14 +88,13 @@ page-claims memories w k h p is i low = by (get nat_cmp memories.spaces k.0) ref
 
     by : (o : Option Space) → get nat_cmp memories.spaces k.0 ≡ o
         → p.bytes i ≡ Some (slice_index (unwrap_or
-        (option_and_then (λ (s : Space). option_map items_of (get nat_cmp s.bytes k.1)) (get nat_cmp memories.spaces k.0)) []) i)
+        (option_map (λ (s : Space). bytes_in (get nat_cmp s.bytes k.1)) (get nat_cmp memories.spaces k.0)) []) i)
     by None e = absurd (none (process w k.0) (subst (λ o. IsProcess o (process w k.0)) e space) is)
     by (Some s) e =
         let f = found (get nat_cmp memories.spaces k.0) w k.0 s space e in
-        page-claimed (marks_in s.ranges.items k.1) (byte_in (get nat_cmp s.bytes k.1)) (pages w k.0 k.1) p (f.1.pages k.1) is i low
-        ∙ ap Some (byte-kept (get nat_cmp s.bytes k.1) i)
+        page-claimed (said_at s.ranges k.1) (byte_in (get nat_cmp s.bytes k.1)) (pages w k.0 k.1) p (f.1.pages k.1) is i low
         ∙ ap (λ (o : Option Space). Some (slice_index (unwrap_or
-        (option_and_then (λ (s : Space). option_map items_of (get nat_cmp s.bytes k.1)) o) []) i)) (sym e)
+        (option_map (λ (s : Space). bytes_in (get nat_cmp s.bytes k.1)) o) []) i)) (sym e)
 
 -- what holds what a page claims has its bytes
 pub held-bytes : (memories : Memories) (w : World) (k : Key) (at : ℕ → ℕ) → IsWorld memories w → is_some (pages w k.0 k.1) ≡ true

@@ -9,7 +9,8 @@ ghost use Rattle.av_world.specs.Memories.{IsWorld};
 ghost use Rattle.av_world.specs.Space.{marks_of};
 ghost use Rattle.av_neighbour_judge.specs.Held.{bytes_of_frame, bytes_of_page, held_by};
 
-use av_world::{Marks, Memories};
+use av_ranges::Marks;
+use av_world::Memories;
 use std::collections::BTreeMap;
 
 /// A page of each frame whose bytes are those of the frame.
@@ -30,12 +31,9 @@ pub fn page_marks(memories: &Memories, key: (u16, u64)) -> Option<Marks>
 pub fn page_bytes(memories: &Memories, key: (u16, u64)) -> &[u8]
     ensures { result.now ≡ bytes_of_page memories.now key }
 {
-    match memories.spaces.get(&key.0) {
+    match memories.get(key.0) {
         None => &[],
-        Some(space) => match space.bytes.get(&key.1) {
-            None => &[],
-            Some(bytes) => bytes.as_slice(),
-        },
+        Some(space) => space.bytes_of(key.1),
     }
 }
 

@@ -12,9 +12,10 @@ use Rattle.av_plain.specs.Report.{AreApart, AreMaps, Range as PlainRange, row_of
 use Rattle.av_plain.specs.World.{Page, Process}
 use Rattle.av_plain.proofs.Report.Runs.{all_joined, cover, longest}
 use Rattle.av_command_laws.proofs.JoinedRuns.{all_rows, begun, grew, joined_rows, prot_is, prot_itself, same_prot}
-use Rattle.av_world.specs.Space.{IsPage, IsSpace, byte_in, marks_in}
-use Rattle.av_world.specs.declared.space.Marks.{Marks}
-use Rattle.av_world.specs.declared.space.Range.{Range}
+use Rattle.av_ranges.specs.Ranges.{marks_at}
+use Rattle.av_ranges.specs.declared.marks.Marks.{Marks}
+use Rattle.av_ranges.specs.declared.marks.Range.{Range}
+use Rattle.av_world.specs.Space.{IsPage, IsSpace, byte_in}
 use Rattle.av_world.specs.declared.space.Space.{Space}
 use Rattle.av_report_judge.specs.Made.{IsMade}
 use Rattle.av_report_judge.specs.Report.{shown_runs}
@@ -57,13 +58,13 @@ prot-is (Some k) at None h = absurd h
 prot-is (Some k) at (Some p) h = ap Some (sym h.0)
 
 -- the longest runs of its pieces are those of `maps`
-pub maps-of : (s : Space) (q : Process) (cut : List Range) (runs : List PlainRange) → IsSpace s q → AreCut s.ranges.items cut
+pub maps-of : (s : Space) (q : Process) (cut : List Range) (runs : List PlainRange) → IsSpace s q → AreCut (marks_at s.ranges) cut
     → AreRunsOf (plain_ranges cut) runs → AreMaps q (map row_of runs)
 maps-of s q cut runs h c r = (
   runs,
   refl,
   r.longest,
-  λ page. r.cover page ∙ c.same page ∙ prot-is (marks_in s.ranges.items page) (byte_in (get nat_cmp s.bytes page)) (q page) (h.pages page),
+  λ page. r.cover page ∙ c.same page ∙ prot-is (marks_at s.ranges page) (byte_in (get nat_cmp s.bytes page)) (q page) (h.pages page),
 )
 
 -- ---- the reply of `maps`
@@ -76,7 +77,7 @@ AreMadeRuns cut fit made = (runs : List PlainRange) × AreRunsOf (plain_ranges c
 abbrev pub ShowsMaps : Process → Option Reply → Type 0
 ShowsMaps q made = (rows : List Row) × AreMaps q rows × IsMade (shown_runs rows) made
 
-module _ (s : Space) (q : Process) (cut : List Range) (fit : Bool) (made : List Row) (has : IsSpace s q) (c : AreCut s.ranges.items cut)
+module _ (s : Space) (q : Process) (cut : List Range) (fit : Bool) (made : List Row) (has : IsSpace s q) (c : AreCut (marks_at s.ranges) cut)
     (r : AreMadeRuns cut fit made) where
   pub maps-wide : fit ≡ false → ShowsMaps q None
   maps-wide e = (

@@ -20,8 +20,9 @@ use crate::entry::fits;
 use crate::made::is_made;
 use crate::runs::pieces;
 use av_base::PAGE_SIZE;
+use av_ranges::Range;
 use av_trace::{Answer, Reply, Row, Rows};
-use av_world::{Range, Space};
+use av_world::Space;
 use std::alloc::{AllocError, Global};
 
 /// Whether a unit is legal for `maps` of a process that has this mapped.
@@ -45,7 +46,7 @@ fn runs_reply(space: &Space, alloc: Global) -> Result<Option<Reply>, AllocError>
     ensures { IfOk result (λ made. (w : World) (p : ℕ) → IsSpace space.now (pages w p)
         → (rows : List AnyRow) × AreMaps (pages w p) rows × IsMade (shown_runs rows) made) }
 {
-    let cut = pieces(alloc, space)?;
+    let cut = pieces(alloc, space.ranges())?;
     let mut reply = Reply::new(alloc);
     if !add_runs(cut.as_slice(), &mut reply.rows)? {
         return Ok(None);

@@ -7,7 +7,9 @@ use Rattle.std.proofs.lemmas.Bool.{cases_lt}
 use Rattle.std.proofs.lemmas.List.{get_or_append_left, get_or-append_right, get_or-drop, get_or-replicate, get_or-take, get_or_past, length-drop, length-replicate, length-take-le, take_all}
 use Rattle.std.proofs.lemmas.Grind.{same_number_lists}
 use Rattle.std.proofs.lemmas.List.FromFn.{get_or-map-range_with_len, length-map-range_with_len}
-use Rattle.std.specs.BTreeMap.{get}
+use Rattle.std.specs.BTreeMap.{BTreeMap, get, is_at}
+use Rattle.std.specs.declared.alloc.Global.{Global}
+use Rattle.std.specs.declared.vec.Vec.{Vec}
 use Rattle.std.specs.Ordering.{nat_cmp}
 use Rattle.av_base.specs.Page.{address_of, page_size}
 use Rattle.av_base.specs.Words.{within}
@@ -15,9 +17,11 @@ use Rattle.av_plain.specs.Access.{after_write}
 use Rattle.av_plain.specs.World.{Page, Process, Shows, World, byte_at, pages, set_process, with_bytes}
 use Rattle.av_plain.proofs.World.TwoWrites.{with_bytes_twice}
 use Rattle.av_world.specs.Bytes.{overlaid}
-use Rattle.av_world.specs.Space.{IsPage, IsSpace, byte_in, marks_in}
-use Rattle.av_world.specs.declared.space.Marks.{Marks}
+use Rattle.av_ranges.specs.Ranges.{marks_at}
+use Rattle.av_world.specs.Space.{IsPage, IsSpace, byte_in, bytes_in}
+use Rattle.av_ranges.specs.declared.marks.Marks.{Marks}
 use Rattle.av_world.specs.declared.space.Space.{Space}
+use Rattle.av_world.proofs.KeptLaws.{key-self, other-key}
 
 -- ---- bytes of a vector
 
@@ -51,8 +55,8 @@ pub pages-laid : (old new : Space) (q : Process) (page at : ℕ) (piece : List �
     → ((other : ℕ) → (other == page) ≡ false → get nat_cmp new.bytes other ≡ get nat_cmp old.bytes other)
     → IsSpace new (with_bytes q (address_of page + at) piece)
 pages-laid old new q page at piece h fits ranges here others = record {
-  pages = λ x. subst (λ rs. IsPage (marks_in rs.items x) (byte_in (get nat_cmp new.bytes x)) (with_bytes q (address_of page + at) piece x)) (sym ranges)
-      (one-laid (marks_in old.ranges.items x) (byte_in (get nat_cmp old.bytes x)) (byte_in (get nat_cmp new.bytes x)) (q x)
+  pages = λ x. subst (λ rs. IsPage (marks_at rs x) (byte_in (get nat_cmp new.bytes x)) (with_bytes q (address_of page + at) piece x)) (sym ranges)
+      (one-laid (marks_at old.ranges x) (byte_in (get nat_cmp old.bytes x)) (byte_in (get nat_cmp new.bytes x)) (q x)
       (address_of page + at) x piece (h.pages x) (λ i low. by x i low (x == page) refl));
   top = λ x high. ap (λ p. with_bytes (λ _. p) (address_of page + at) piece x) (h.top x high);
 }
@@ -87,6 +91,36 @@ pages-laid old new q page at piece h fits ranges here others = record {
     by x i low false e = ap (λ o. byte_in o i) (others x e)
         ∙ sym (ap (λ b. cond b (slice_index piece (4096 * x + i - (4096 * page + at))) (byte_in (get nat_cmp old.bytes x) i))
         (outside x (length piece) i e fits low))
+
+pub some-laid : (old new : BTreeMap ℕ (Vec ℕ Global)) (page at : ℕ) (piece : List ℕ) (o : Option (Vec ℕ Global)) (kept : Vec ℕ Global)
+    → get nat_cmp old page ≡ o → ((q : ℕ) → get nat_cmp new q ≡ cond (is_at (nat_cmp page) q) (Some kept) (get nat_cmp old q))
+    → ((i : ℕ) → slice_index kept.items i ≡ overlaid at piece (slice_index (bytes_in o)) i)
+    → (i : ℕ) → byte_in (get nat_cmp new page) i ≡ overlaid at piece (byte_in (get nat_cmp old page)) i
+some-laid old new page at piece o kept is put laid i =
+    ap (λ o. byte_in o i) (put page ∙ ap (λ b. cond b (Some kept) (get nat_cmp old page)) (key-self page))
+    ∙ laid i ∙ ap (λ o. overlaid at piece (byte_in o) i) (sym is)
+
+-- bytes are put into what is the same as before
+pub put-in : (old same new : BTreeMap ℕ (Vec ℕ Global)) (page : ℕ) (kept : Vec ℕ Global) → same ≡ old
+    → ((q : ℕ) → get nat_cmp new q ≡ cond (is_at (nat_cmp page) q) (Some kept) (get nat_cmp same q))
+    → (q : ℕ) → get nat_cmp new q ≡ cond (is_at (nat_cmp page) q) (Some kept) (get nat_cmp old q)
+put-in old same new page kept is put q = put q ∙ ap (λ m. cond (is_at (nat_cmp page) q) (Some kept) (get nat_cmp m q)) is
+
+pub others-laid : (old new : BTreeMap ℕ (Vec ℕ Global)) (page : ℕ) (kept : Vec ℕ Global)
+    → ((q : ℕ) → get nat_cmp new q ≡ cond (is_at (nat_cmp page) q) (Some kept) (get nat_cmp old q))
+    → (other : ℕ) → (other == page) ≡ false → get nat_cmp new other ≡ get nat_cmp old other
+others-laid old new page kept put other differ = put other
+    ∙ ap (λ b. cond b (Some kept) (get nat_cmp old other)) (other-key page other (λ e. not-same e (other == page) refl differ))
+  where
+    not-same : other ≡ page → (b : Bool) → (other == page) ≡ b → b ≡ false → ⊥
+    not-same e true h g = cc
+    not-same e false h g = let n = grind-same e in absurd (not-both (sym n ∙ h))
+      where
+        grind-same : other ≡ page → (other == page) ≡ true
+        grind-same e = grind (arith, nat_tests, e)
+
+        not-both : true ≡ false → ⊥
+        not-both e = cc
 
 -- ---- pieces in turn
 
@@ -131,7 +165,7 @@ pub page-shown : (s : Space) (q : Process) (page at n : ℕ) → IsSpace s q →
 page-shown s q page at zero h fits = tt
 page-shown s q page at (suc n) h fits = (
   subst (λ o. IfSome o (λ claimed. claimed ≡ byte_in (get nat_cmp s.bytes page) at)) (sym there)
-      (first (marks_in s.ranges.items page) (q page) (h.pages page)),
+      (first (marks_at s.ranges page) (q page) (h.pages page)),
   subst (λ a. Shows q a (map (byte_in (get nat_cmp s.bytes page)) (range_with_len (at + 1) n))) next
       (page-shown s q page (at + 1) n h (omega (arith, fits))),
 )

@@ -1,126 +1,166 @@
 -- What a child gets of the pages of a process.
-use Rattle.std.proofs.Common.{◌≡◌, ℕ, ◌<◌, ◌≤◌, Bool, true, false, cond, not, ◌&&◌, List, [], ◌∷◌, ◌++◌, Option, Some, None, refl, sym, ap, subst, ◌∙◌, arith, nat_le, nat_lt, append-nil}
-use Rattle.std.specs.Prelude.{filter, option_and_then, slice_index}
+use Rattle.std.proofs.Common.{◌≡◌, ℕ, ◌+◌, ◌-◌, ◌<◌, ◌≤◌, Bool, true, false, cond, not, ◌&&◌, Option, Some, None, refl, sym, ap, subst, ◌∙◌, arith, nat_le, nat_lt}
+use Rattle.std.specs.Prelude.{option_and_then, slice_index}
 use Rattle.std.proofs.lemmas.Bool.Decides.{nat_tests}
 use Rattle.std.specs.Ordering.{nat_cmp}
 use Rattle.std.specs.declared.alloc.Global.{Global}
 use Rattle.std.specs.declared.vec.Vec.{Vec}
-use Rattle.std.specs.BTreeMap.{get, is_at}
-use Rattle.std.specs.List.{AllZip}
-use Rattle.std.specs.Map.{lookup}
+use Rattle.std.specs.BTreeMap.{BTreeMap, get, is_at}
 use Rattle.av_base.specs.Flags.{unlocked}
 use Rattle.av_base.specs.Limits.{top_page}
+use Rattle.av_base.specs.Words.{within}
 use Rattle.av_plain.specs.Fork.{goes_over}
 use Rattle.av_plain.specs.World.{Page, Process, child_of, page_of_child, wiped, without_lock}
 use Rattle.av_world.specs.Child.{bytes_go, marks_of_child}
-use Rattle.av_world.specs.Ranges.{part_of}
-use Rattle.av_world.specs.Space.{IsPage, IsSpace, byte_in, marks_in}
-use Rattle.av_world.specs.declared.space.Marks.{Marks}
-use Rattle.av_world.specs.declared.space.Range.{Range}
+use Rattle.av_ranges.specs.Ranges.{marks_at}
+use Rattle.av_world.specs.Space.{IsPage, IsSpace, byte_in}
+use Rattle.av_ranges.specs.declared.marks.Marks.{Marks}
 use Rattle.av_world.specs.declared.space.Space.{Space}
-use Rattle.av_world.proofs.LockLaws.{Same}
-use Rattle.av_world.proofs.SpaceLaws.{kept-at, marks-last}
+use Rattle.av_world.specs.Kept.{IsNext}
+use Rattle.av_world.proofs.KeptLaws.{key-self, other-key}
 
--- ---- ranges
-
--- what is said by some ranges, else by what follows them
-abbrev or_else : Option Marks → Option Marks → Option Marks
-or_else first then_ = elim first [ None ↦ then_ | Some k ↦ Some k ]
-
-else-none : (o : Option Marks) → or_else o None ≡ o
-else-none None = refl
-else-none (Some k) = refl
-
--- a part that follows says of its own pages what it says
-with-part : (made : List Range) (at to : ℕ) (o : Option Marks) (page : ℕ) → at < to
-    → marks_in (made ++ part_of at to o) page ≡ or_else (marks_in made page) (cond (nat_le at page && nat_lt page to) o None)
-with-part made at to None page less = ap (λ rs. marks_in rs page) (append-nil made)
-    ∙ sym (ap (or_else (marks_in made page)) (none (nat_le at page && nat_lt page to)) ∙ else-none (marks_in made page))
-  where
-    nothing : Option Marks
-    nothing = None
-
-    none : (b : Bool) → cond b nothing nothing ≡ None
-    none true = refl
-    none false = refl
-with-part made at to (Some k) page less =
-    ap (λ b. marks_in (made ++ cond b (record { start = at; end = to; marks = k } ∷ []) []) page) (some at to less)
-    ∙ marks-last made (record { start = at; end = to; marks = k }) page
-  where
-    some : (a b : ℕ) → a < b → nat_lt a b ≡ true
-    some a b h = grind (arith, nat_tests, h)
+-- ---- what is said of pages
 
 -- what is made so far says what a child has below a page, and nothing of the others
-pub record AreMade (made ranges : List Range) (at : ℕ) : Type 0 where
-  pub below : (page : ℕ) → page < at → marks_in made page ≡ option_and_then marks_of_child (marks_in ranges page)
-  pub above : (page : ℕ) → at ≤ page → marks_in made page ≡ None
+pub record AreMade (made said : ℕ → Option Marks) (at : ℕ) : Type 0 where
+  pub below : (page : ℕ) → page < at → made page ≡ option_and_then marks_of_child (said page)
+  pub above : (page : ℕ) → at ≤ page → made page ≡ None
 
-pub made-further : (made new ranges : List Range) (at to : ℕ) → at < to → Same ranges at to → AreMade made ranges at
-    → new ≡ made ++ part_of at to (option_and_then marks_of_child (marks_in ranges at)) → AreMade new ranges to
-made-further made new ranges at to less same h is = record {
-  below = λ page low. ap (λ rs. marks_in rs page) is ∙ with-part made at to said page less ∙ by page low (nat_le at page) refl;
-  above = λ page high. ap (λ rs. marks_in rs page) is ∙ with-part made at to said page less
-      ∙ ap (or_else (marks_in made page)) (outside page high) ∙ else-none (marks_in made page) ∙ h.above page (omega (arith, less, high));
-}
-  where
-    said : Option Marks
-    said = option_and_then marks_of_child (marks_in ranges at)
+module _ (made new said : ℕ → Option Marks) (at to : ℕ) (less : at < to) (same : (q : ℕ) → at ≤ q → q < to → said q ≡ said at)
+    (h : AreMade made said at) where
+  from-le : (a b : ℕ) → nat_le a b ≡ true → a ≤ b
+  from-le a b e = grind (arith, nat_tests)
 
-    not-below : (page to : ℕ) → to ≤ page → nat_lt page to ≡ false
-    not-below page to high = grind (arith, nat_tests, high)
+  from-not-le : (a b : ℕ) → nat_le a b ≡ false → b < a
+  from-not-le a b e = grind (arith, nat_tests)
 
-    is-below : (page to : ℕ) → page < to → nat_lt page to ≡ true
-    is-below page to low = grind (arith, nat_tests, low)
+  inside : (at to page : ℕ) → at < to → at ≤ page → page < to → within at (to - at) page ≡ true
+  inside at to page l a b = grind (arith, nat_tests, l, a, b)
 
-    from-le : (a b : ℕ) → nat_le a b ≡ true → a ≤ b
-    from-le a b e = grind (arith, nat_tests)
+  under : (at to page : ℕ) → page < at → within at (to - at) page ≡ false
+  under at to page a = grind (arith, nat_tests, a)
 
-    from-not-le : (a b : ℕ) → nat_le a b ≡ false → b < a
-    from-not-le a b e = grind (arith, nat_tests)
+  over : (at to page : ℕ) → at < to → to ≤ page → within at (to - at) page ≡ false
+  over at to page l a = grind (arith, nat_tests, l, a)
 
-    outside : (page : ℕ) → to ≤ page → cond (nat_le at page && nat_lt page to) said None ≡ None
-    outside page high = ap (λ b. cond (nat_le at page && b) said None) (not-below page to high) ∙ none (nat_le at page)
-      where
-        none : (b : Bool) → cond (b && false) said None ≡ None
-        none true = refl
-        none false = refl
+  -- of pages that a child gets
+  pub made-further : (k : Marks) → option_and_then marks_of_child (said at) ≡ Some k
+      → ((page : ℕ) → new page ≡ cond (within at (to - at) page) (Some k) (made page)) → AreMade new said to
+  made-further k is put = record {
+    below = λ page low. put page ∙ by page low (nat_le at page) refl;
+    above = λ page high. put page ∙ ap (λ b. cond b (Some k) (made page)) (over at to page less high) ∙ h.above page (omega (arith, less, high));
+  }
+    where
+      by : (page : ℕ) → page < to → (b : Bool) → nat_le at page ≡ b
+          → cond (within at (to - at) page) (Some k) (made page) ≡ option_and_then marks_of_child (said page)
+      by page low true e = ap (λ b. cond b (Some k) (made page)) (inside at to page less (from-le at page e) low)
+          ∙ sym is ∙ ap (option_and_then marks_of_child) (sym (same page (from-le at page e) low))
+      by page low false e = ap (λ b. cond b (Some k) (made page)) (under at to page (from-not-le at page e)) ∙ h.below page (from-not-le at page e)
 
-    by : (page : ℕ) → page < to → (b : Bool) → nat_le at page ≡ b
-        → or_else (marks_in made page) (cond (nat_le at page && nat_lt page to) said None) ≡ option_and_then marks_of_child (marks_in ranges page)
-    by page low true e = (λ i. or_else (h.above page (from-le at page e) i) (cond (e i && is-below page to low i) said None))
-        ∙ ap (option_and_then marks_of_child) (sym (same page (from-le at page e) low))
-    by page low false e = ap (λ b. or_else (marks_in made page) (cond (b && nat_lt page to) said None)) e ∙ else-none (marks_in made page)
-        ∙ h.below page (from-not-le at page e)
+  -- and of others
+  pub made-none : option_and_then marks_of_child (said at) ≡ None → AreMade made said to
+  made-none is = record {
+    below = λ page low. by page low (nat_le at page) refl;
+    above = λ page high. h.above page (omega (arith, less, high));
+  }
+    where
+      by : (page : ℕ) → page < to → (b : Bool) → nat_le at page ≡ b → made page ≡ option_and_then marks_of_child (said page)
+      by page low true e = h.above page (from-le at page e) ∙ sym is
+          ∙ ap (option_and_then marks_of_child) (sym (same page (from-le at page e) low))
+      by page low false e = h.below page (from-not-le at page e)
 
 -- ---- bytes
 
--- a copy of pages with bytes, place by place, has the same bytes
-copied : (R : ℕ × Vec ℕ Global → ℕ × Vec ℕ Global → Type 0)
-    → ((p q : ℕ × Vec ℕ Global) → R p q → (q.0 ≡ p.0) × (q.1.items ≡ p.1.items))
-    → (es fs : List (ℕ × Vec ℕ Global)) (k : ℕ) → AllZip R es fs
-    → byte_in (lookup (is_at (nat_cmp k)) fs) ≡ byte_in (lookup (is_at (nat_cmp k)) es)
-copied R same [] [] k h = refl
-copied R same [] (f ∷ fs) k h = absurd h
-copied R same (e ∷ es) [] k h = absurd h
-copied R same (e ∷ es) (f ∷ fs) k h =
-    ap (λ n. byte_in (cond (is_at (nat_cmp k) n) (Some f.1) (lookup (is_at (nat_cmp k)) fs))) (same e f h.0).0
-    ∙ by (is_at (nat_cmp k) e.0) (copied R same es fs k h.1)
-  where
-    by : (b : Bool) → byte_in (lookup (is_at (nat_cmp k)) fs) ≡ byte_in (lookup (is_at (nat_cmp k)) es)
-        → byte_in (cond b (Some f.1) (lookup (is_at (nat_cmp k)) fs)) ≡ byte_in (cond b (Some e.1) (lookup (is_at (nat_cmp k)) es))
-    by true rest = λ i j. slice_index ((same e f h.0).1 i) j
-    by false rest = rest
+-- what is made so far has the bytes that a child has below a page, and none of the others
+pub record AreInherited (made old : BTreeMap ℕ (Vec ℕ Global)) (said : ℕ → Option Marks) (at : ℕ) : Type 0 where
+  pub below : (q : ℕ) → q < at → byte_in (get nat_cmp made q) ≡ byte_in (cond (bytes_go (said q)) (get nat_cmp old q) None)
+  pub above : (q : ℕ) → at ≤ q → get nat_cmp made q ≡ None
 
--- those that pass a test of a copy
-pub copied-where : (R : ℕ × Vec ℕ Global → ℕ × Vec ℕ Global → Type 0)
-    → ((p q : ℕ × Vec ℕ Global) → R p q → (q.0 ≡ p.0) × (q.1.items ≡ p.1.items))
-    → (t : ℕ → Bool) (es fs gs : List (ℕ × Vec ℕ Global)) (k : ℕ) → AllZip R es fs → gs ≡ filter (λ e. t e.0) fs
-    → byte_in (lookup (is_at (nat_cmp k)) gs) ≡ byte_in (cond (t k) (lookup (is_at (nat_cmp k)) es) None)
-copied-where R same t es fs gs k h is = ap (λ gs. byte_in (lookup (is_at (nat_cmp k)) gs)) is ∙ ap byte_in (kept-at t fs k) ∙ by (t k)
+pub none-inherited : (made old : BTreeMap ℕ (Vec ℕ Global)) (said : ℕ → Option Marks) → ((q : ℕ) → get nat_cmp made q ≡ None)
+    → AreInherited made old said 0
+none-inherited made old said empty = record {
+  below = λ q low. absurd (omega (arith, low));
+  above = λ q high. empty q;
+}
+
+module _ (made old : BTreeMap ℕ (Vec ℕ Global)) (said : ℕ → Option Marks) (at end page : ℕ) (next : IsNext old at end page)
+    (h : AreInherited made old said at) where
+  same-none : (b : Bool) (o : Option (Vec ℕ Global)) → o ≡ None → byte_in None ≡ byte_in (cond b o None)
+  same-none true o e = ap byte_in (sym e)
+  same-none false o e = refl
+
+  first : at ≤ page
+  first = next.low
+
+  yes-lt : (a b : ℕ) → nat_lt a b ≡ true → a < b
+  yes-lt a b e = grind (arith, nat_tests)
+
+  not-lt : (a b : ℕ) → nat_lt a b ≡ false → b ≤ a
+  not-lt a b e = grind (arith, nat_tests)
+
+  -- below the page
+  lower : (q : ℕ) → q < page → byte_in (get nat_cmp made q) ≡ byte_in (cond (bytes_go (said q)) (get nat_cmp old q) None)
+  lower q less = by (nat_lt q at) refl
+    where
+      by : (b : Bool) → nat_lt q at ≡ b → byte_in (get nat_cmp made q) ≡ byte_in (cond (bytes_go (said q)) (get nat_cmp old q) None)
+      by true e = h.below q (yes-lt q at e)
+      by false e = ap byte_in (h.above q (not-lt q at e)) ∙ same-none (bytes_go (said q)) (get nat_cmp old q) (next.none q (not-lt q at e) less)
+
+  here : (q : ℕ) → page ≤ q → q < page + 1 → page ≡ q
+  here q a b = omega (arith, a, b)
+
+  -- the page's go over
+  pub inherited-more : (new : BTreeMap ℕ (Vec ℕ Global)) (bytes copy : Vec ℕ Global) → get nat_cmp old page ≡ Some bytes
+      → copy.items ≡ bytes.items → bytes_go (said page) ≡ true
+      → ((q : ℕ) → get nat_cmp new q ≡ cond (is_at (nat_cmp page) q) (Some copy) (get nat_cmp made q)) → AreInherited new old said (page + 1)
+  inherited-more new bytes copy is same goes put = record {
+    below = λ q low. by q low (nat_lt q page) refl;
+    above = λ q high. put q ∙ ap (λ b. cond b (Some copy) (get nat_cmp made q)) (other-key page q (λ e. omega (arith, e, high)))
+        ∙ h.above q (omega (arith, high, first));
+  }
+    where
+      by : (q : ℕ) → q < page + 1 → (b : Bool) → nat_lt q page ≡ b
+          → byte_in (get nat_cmp new q) ≡ byte_in (cond (bytes_go (said q)) (get nat_cmp old q) None)
+      by q low true e = let less = yes-lt q page e in
+          ap byte_in (put q ∙ ap (λ b. cond b (Some copy) (get nat_cmp made q)) (other-key page q (λ s. omega (arith, s, less)))) ∙ lower q less
+      by q low false e = subst (λ q. byte_in (get nat_cmp new q) ≡ byte_in (cond (bytes_go (said q)) (get nat_cmp old q) None))
+          (here q (not-lt q page e) low)
+          (ap byte_in (put page ∙ ap (λ b. cond b (Some copy) (get nat_cmp made page)) (key-self page))
+          ∙ (λ i j. slice_index (same i) j)
+          ∙ sym (ap byte_in (ap (λ b. cond b (get nat_cmp old page) None) goes ∙ is)))
+
+  -- or don't
+  pub inherited-none : bytes_go (said page) ≡ false → AreInherited made old said (page + 1)
+  inherited-none stays = record {
+    below = λ q low. by q low (nat_lt q page) refl;
+    above = λ q high. h.above q (omega (arith, high, first));
+  }
+    where
+      by : (q : ℕ) → q < page + 1 → (b : Bool) → nat_lt q page ≡ b
+          → byte_in (get nat_cmp made q) ≡ byte_in (cond (bytes_go (said q)) (get nat_cmp old q) None)
+      by q low true e = lower q (yes-lt q page e)
+      by q low false e = subst (λ q. byte_in (get nat_cmp made q) ≡ byte_in (cond (bytes_go (said q)) (get nat_cmp old q) None))
+          (here q (not-lt q page e) low)
+          (ap byte_in (h.above page first) ∙ sym (ap byte_in (ap (λ b. cond b (get nat_cmp old page) None) stays)))
+
+pub all-inherited : (made old : BTreeMap ℕ (Vec ℕ Global)) (said : ℕ → Option Marks) (at end : ℕ) → AreInherited made old said at
+    → ((q : ℕ) → at ≤ q → q < end → get nat_cmp old q ≡ None)
+    → (q : ℕ) → q < end → byte_in (get nat_cmp made q) ≡ byte_in (cond (bytes_go (said q)) (get nat_cmp old q) None)
+all-inherited made old said at end h none q low = by (nat_lt q at) refl
   where
-    by : (b : Bool) → byte_in (cond b (lookup (is_at (nat_cmp k)) fs) None) ≡ byte_in (cond b (lookup (is_at (nat_cmp k)) es) None)
-    by true = copied R same es fs k h
-    by false = refl
+    yes-lt : nat_lt q at ≡ true → q < at
+    yes-lt e = grind (arith, nat_tests)
+
+    not-lt : nat_lt q at ≡ false → at ≤ q
+    not-lt e = grind (arith, nat_tests)
+
+    same-none : (b : Bool) (o : Option (Vec ℕ Global)) → o ≡ None → byte_in None ≡ byte_in (cond b o None)
+    same-none true o e = ap byte_in (sym e)
+    same-none false o e = refl
+
+    by : (b : Bool) → nat_lt q at ≡ b → byte_in (get nat_cmp made q) ≡ byte_in (cond (bytes_go (said q)) (get nat_cmp old q) None)
+    by true e = h.below q (yes-lt e)
+    by false e = ap byte_in (h.above q (not-lt e)) ∙ same-none (bytes_go (said q)) (get nat_cmp old q) (none q (not-lt e) low)
 
 -- ---- pages
 
@@ -151,9 +191,9 @@ no-page : (o : Option Marks) (at : ℕ → ℕ) (p : Option Page) → o ≡ None
 no-page o at p ho hp = subst (λ o. IsPage o at p) (sym ho) (subst (λ p. IsPage None at p) (sym hp) tt)
 
 pub child-is : (s new : Space) (q : Process) → IsSpace s q
-    → ((page : ℕ) → page < top_page → marks_in new.ranges.items page ≡ option_and_then marks_of_child (marks_in s.ranges.items page))
-    → ((page : ℕ) → top_page ≤ page → marks_in new.ranges.items page ≡ None)
-    → ((page : ℕ) → byte_in (get nat_cmp new.bytes page) ≡ byte_in (cond (bytes_go (marks_in s.ranges.items page)) (get nat_cmp s.bytes page) None))
+    → ((page : ℕ) → page < top_page → marks_at new.ranges page ≡ option_and_then marks_of_child (marks_at s.ranges page))
+    → ((page : ℕ) → top_page ≤ page → marks_at new.ranges page ≡ None)
+    → ((page : ℕ) → page < top_page → byte_in (get nat_cmp new.bytes page) ≡ byte_in (cond (bytes_go (marks_at s.ranges page)) (get nat_cmp s.bytes page) None))
     → IsSpace new (child_of q)
 child-is s new q h below above bytes = record {
   pages = λ page. by page (nat_lt page top_page) refl;
@@ -170,11 +210,11 @@ child-is s new q h below above bytes = record {
     high-of page e = grind (arith, nat_tests)
 
     by : (page : ℕ) (b : Bool) → nat_lt page top_page ≡ b
-        → IsPage (marks_in new.ranges.items page) (byte_in (get nat_cmp new.bytes page)) (child_of q page)
+        → IsPage (marks_at new.ranges page) (byte_in (get nat_cmp new.bytes page)) (child_of q page)
     by page true e = subst (λ o. IsPage o (byte_in (get nat_cmp new.bytes page)) (child_of q page)) (sym (below page (low-of page e)))
-        (subst (λ at. IsPage (option_and_then marks_of_child (marks_in s.ranges.items page)) at (child_of q page)) (sym (bytes page))
-        (one-child (marks_in s.ranges.items page) (get nat_cmp s.bytes page) (q page) (h.pages page)))
-    by page false e = no-page (marks_in new.ranges.items page) _ (child_of q page) (above page (high-of page e)) (none page (high-of page e))
+        (subst (λ at. IsPage (option_and_then marks_of_child (marks_at s.ranges page)) at (child_of q page)) (sym (bytes page (low-of page e)))
+        (one-child (marks_at s.ranges page) (get nat_cmp s.bytes page) (q page) (h.pages page)))
+    by page false e = no-page (marks_at new.ranges page) _ (child_of q page) (above page (high-of page e)) (none page (high-of page e))
 
 -- ---- entries
 

@@ -1,9 +1,8 @@
-pub mod RangeLaws
-pub mod HoleLaws
-pub mod LockLaws
+pub mod KindLaws
 pub mod SpaceLaws
 pub mod WorldLaws
+pub mod KeptLaws
+pub mod LockLaws
 pub mod BytesLaws
 pub mod ChildLaws
 pub mod RemapLaws
-pub mod ProtLaws

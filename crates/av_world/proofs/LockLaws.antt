@@ -1,149 +1,163 @@
--- Which pages are locked.
-use Rattle.std.proofs.Common.{◌≡◌, ℕ, zero, suc, ◌+◌, ◌-◌, ◌<◌, ◌≤◌, Bool, true, false, cond, map, List, [], ◌∷◌, Option, Some, None, length, get_or, drop, take, refl, sym, ap, ◌∙◌, arith}
-use Rattle.std.specs.Prelude.{option_and_then, ◌||◌}
+-- Which pages are locked, and which processes have one.
+use Rattle.std.proofs.Common.{◌≡◌, ◌⊎◌, inl, inr, ℕ, Bool, true, false, cond, List, [], ◌∷◌, Option, Some, None, refl, sym, ap, subst, ◌∙◌}
+use Rattle.std.specs.Prelude.{MatchBool, ◌||◌, option_and_then}
 use Rattle.std.specs.List.{list_any}
-use Rattle.std.specs.Map.{lookup}
-use Rattle.std.specs.BTreeMap.{is_at}
+use Rattle.std.specs.BTreeMap.{BTreeMap, get, is_at}
+use Rattle.std.specs.BTreeSet.{BTreeSet, contains}
 use Rattle.std.specs.Ordering.{nat_cmp}
-use Rattle.std.specs.Option.{option_map_or}
-use Rattle.std.proofs.lemmas.List.{take_all}
-use Rattle.av_plain.specs.World.{Page, Process, World, is_locked_page, pages, pages_to_locked}
-use Rattle.av_plain.specs.World.{process}
-use Rattle.av_world.specs.Memories.{IsProcess, IsWorld, has_lock}
-use Rattle.av_world.specs.Space.{IsPage, IsSpace, has, has_lock as has_lock_of, marks_in}
-use Rattle.av_world.specs.declared.space.Marks.{Marks}
-use Rattle.av_world.specs.declared.space.Range.{Range}
+use Rattle.av_plain.specs.World.{Page, Process, World, is_locked_page, pages, with_bytes}
+use Rattle.av_ranges.specs.Marks.{is_locked}
+use Rattle.av_ranges.specs.Ranges.{marks_at}
+use Rattle.av_ranges.specs.declared.marks.Marks.{Marks}
+use Rattle.av_world.specs.Memories.{AreNoted, IsProcess, IsWorld}
+use Rattle.av_world.specs.Space.{IsPage, IsSpace}
 use Rattle.av_world.specs.declared.memories.Memories.{Memories}
 use Rattle.av_world.specs.declared.space.Space.{Space}
-use Rattle.av_world.proofs.WorldLaws.{spaces-find}
+use Rattle.av_world.proofs.KeptLaws.{key-self, same-key}
+use Rattle.av_world.proofs.WorldLaws.{found, spaces-find}
 
--- ---- what is said of pages
+pub lock-is : (o : Option Marks) (at : ℕ → ℕ) (p : Option Page) → IsPage o at p → is_locked o ≡ is_locked_page p
+lock-is None at None h = refl
+lock-is None at (Some p) h = absurd h
+lock-is (Some k) at None h = absurd h
+lock-is (Some k) at (Some p) h = λ i. (sym h.1 i).locked
 
-abbrev pub locked_of : Option Marks → Bool
-locked_of o = option_map_or (λ (k : Marks). k.flags.locked) o false
+not-both : (b : Bool) → b ≡ true → b ≡ false → ⊥
+not-both b h g = cc
 
-locked-same : (o : Option Marks) (at : ℕ → ℕ) (p : Option Page) → IsPage o at p → locked_of o ≡ is_locked_page p
-locked-same None at None h = refl
-locked-same None at (Some p) h = absurd h
-locked-same (Some k) at None h = absurd h
-locked-same (Some k) at (Some p) h = λ i. (sym h.1 i).locked
+-- ---- of one process
 
-pub locked-is : (s : Space) (q : Process) (page : ℕ) → IsSpace s q → locked_of (marks_in s.ranges.items page) ≡ is_locked_page (q page)
-locked-is s q page h = locked-same (marks_in s.ranges.items page) _ (q page) (h.pages page)
+pub space-locks : (locks : Bool) (s : Space) (q : Process) → IsSpace s q
+    → (locks ≡ true → (page : ℕ) × (is_locked (marks_at s.ranges page) ≡ true))
+    → (locks ≡ false → (page : ℕ) → is_locked (marks_at s.ranges page) ≡ false)
+    → MatchBool locks ((page : ℕ) × (is_locked_page (q page) ≡ true)) ((page : ℕ) → is_locked_page (q page) ≡ false)
+space-locks true s q h some none =
+    let one = some refl in
+    (one.0, sym (lock-is (marks_at s.ranges one.0) _ (q one.0) (h.pages one.0)) ∙ one.1)
+space-locks false s q h some none = λ page. sym (lock-is (marks_at s.ranges page) _ (q page) (h.pages page)) ∙ none refl page
 
--- ---- up to where the same is said
+-- ---- those that are noted
 
--- the same is said of each page from one on, up to a bound
-abbrev pub Same : List Range → ℕ → ℕ → Type 0
-Same ranges page to = (q : ℕ) → page ≤ q → q < to → marks_in ranges q ≡ marks_in ranges page
-
--- where a first range has each of them or none, the same is said by it and the others
-pub same-first : (rest : List Range) (d : Range) (page to : ℕ) → 1 ≤ length rest
-    → ((q : ℕ) → page ≤ q → q < to → has (get_or rest 0 d) q ≡ has (get_or rest 0 d) page)
-    → Same (take (length rest - 1) (drop 1 rest)) page to → Same rest page to
-same-first [] d page to some first others = absurd (omega (arith, some))
-same-first (r ∷ rs) d page to some first others = λ q low high i. cond (first q low high i) (Some r.marks)
-    ((ap (λ xs. marks_in xs q) (sym (all rs)) ∙ others q low high ∙ ap (λ xs. marks_in xs page) (all rs)) i)
+pub none-noted : (spaces : BTreeMap ℕ Space) (locking : BTreeSet ℕ) → ((p : ℕ) → get nat_cmp spaces p ≡ None) → AreNoted spaces locking
+none-noted spaces locking empty = λ p s page is locked. absurd (differ (sym is ∙ empty p))
   where
-    all : (rs : List Range) → take (length (r ∷ rs) - 1) (drop 1 (r ∷ rs)) ≡ rs
-    all rs = take_all (length (r ∷ rs) - 1) rs (omega arith)
+    differ : {s : Space} → Some s ≡ None → ⊥
+    differ e = cc
 
--- ---- how many come before a locked one
+module _ (old new : BTreeMap ℕ Space) (locking noted : BTreeSet ℕ) (p : ℕ) (h : AreNoted old locking) where
+  -- a process gets such pages
+  pub noted-set : (s : Space) → ((q : ℕ) → get nat_cmp new q ≡ cond (is_at (nat_cmp p) q) (Some s) (get nat_cmp old q))
+      → ((q : ℕ) → is_at (nat_cmp p) q ≡ false → contains nat_cmp locking q ≡ true → contains nat_cmp noted q ≡ true)
+      → ((page : ℕ) → is_locked (marks_at s.ranges page) ≡ true → contains nat_cmp noted p ≡ true) → AreNoted new noted
+  noted-set s put others here = λ q t page is locked. by q t page (is_at (nat_cmp p) q) refl (sym (put q) ∙ is) locked
+    where
+      inner : (a b : Space) → Some a ≡ Some b → a ≡ b
+      inner a b e = cc
 
--- pages that aren't locked are counted
-locked-run : (q : Process) (at k m : ℕ) → ((page : ℕ) → at ≤ page → page < at + k → is_locked_page (q page) ≡ false)
-    → pages_to_locked q at (k + m) ≡ k + pages_to_locked q (at + k) m
-locked-run q at zero m h = (λ i. pages_to_locked q (here at i) (none m i)) ∙ sym (none (pages_to_locked q (at + 0) m))
+      by : (q : ℕ) (t : Space) (page : ℕ) (b : Bool) → is_at (nat_cmp p) q ≡ b → cond b (Some s) (get nat_cmp old q) ≡ Some t
+          → is_locked (marks_at t.ranges page) ≡ true → contains nat_cmp noted q ≡ true
+      by q t page true e is locked = subst (λ q. contains nat_cmp noted q ≡ true) (sym (same-key p q e))
+          (here page (subst (λ (t : Space). is_locked (marks_at t.ranges page) ≡ true) (sym (inner s t is)) locked))
+      by q t page false e is locked = others q e (h q t page is locked)
+
+  -- or goes
+  pub noted-gone : ((q : ℕ) → get nat_cmp new q ≡ cond (is_at (nat_cmp p) q) None (get nat_cmp old q))
+      → ((q : ℕ) → is_at (nat_cmp p) q ≡ false → contains nat_cmp locking q ≡ true → contains nat_cmp noted q ≡ true) → AreNoted new noted
+  noted-gone lost others = λ q t page is locked. by q t page (is_at (nat_cmp p) q) refl (sym (lost q) ∙ is) locked
+    where
+      by : (q : ℕ) (t : Space) (page : ℕ) (b : Bool) → is_at (nat_cmp p) q ≡ b → cond b None (get nat_cmp old q) ≡ Some t
+          → is_locked (marks_at t.ranges page) ≡ true → contains nat_cmp noted q ≡ true
+      by q t page true e is locked = cc
+      by q t page false e is locked = others q e (h q t page is locked)
+
+-- the others stay noted
+pub others-noted : (locking noted : BTreeSet ℕ) (p : ℕ) (locks : Bool)
+    → ((q : ℕ) → contains nat_cmp noted q ≡ cond (is_at (nat_cmp p) q) locks (contains nat_cmp locking q))
+    → (q : ℕ) → is_at (nat_cmp p) q ≡ false → contains nat_cmp locking q ≡ true → contains nat_cmp noted q ≡ true
+others-noted locking noted p locks is q other was = is q ∙ ap (λ b. cond b locks (contains nat_cmp locking q)) other ∙ was
+
+-- whether a process is noted as it is told to be
+pub here-noted : (locking noted : BTreeSet ℕ) (p : ℕ) (locks : Bool) (s : Space)
+    → ((q : ℕ) → contains nat_cmp noted q ≡ cond (is_at (nat_cmp p) q) locks (contains nat_cmp locking q)) → is_at (nat_cmp p) p ≡ true
+    → (locks ≡ false → (page : ℕ) → is_locked (marks_at s.ranges page) ≡ false)
+    → (page : ℕ) → is_locked (marks_at s.ranges page) ≡ true → contains nat_cmp noted p ≡ true
+here-noted locking noted p locks s is self none page locked =
+    is p ∙ ap (λ b. cond b locks (contains nat_cmp locking p)) self ∙ by locks refl
   where
-    none : (m : ℕ) → 0 + m ≡ m
-    none m = omega arith
+    by : (b : Bool) → locks ≡ b → locks ≡ true
+    by true e = e
+    by false e = absurd (not-both (is_locked (marks_at s.ranges page)) locked (none e page))
 
-    here : (a : ℕ) → a ≡ a + 0
-    here a = omega arith
-locked-run q at (suc k) m h =
-    ap (pages_to_locked q at) (turn k m)
-    ∙ ap (λ b. cond b 0 (pages_to_locked q (at + 1) (k + m) + 1)) (h at (omega arith) (omega arith))
-    ∙ ap (λ x. x + 1) (locked-run q (at + 1) k m (λ page low high. h page (omega (arith, low)) (omega (arith, high))))
-    ∙ (λ i. k + pages_to_locked q (further at k i) m + 1) ∙ back k (pages_to_locked q (at + suc k) m)
+-- a process has other pages, and whether it has a locked one is noted
+pub noted-again : (old new : BTreeMap ℕ Space) (locking noted : BTreeSet ℕ) (p : ℕ) (s : Space) (locks : Bool) → AreNoted old locking
+    → ((q : ℕ) → get nat_cmp new q ≡ cond (is_at (nat_cmp p) q) (Some s) (get nat_cmp old q))
+    → ((q : ℕ) → contains nat_cmp noted q ≡ cond (is_at (nat_cmp p) q) locks (contains nat_cmp locking q))
+    → (locks ≡ false → (page : ℕ) → is_locked (marks_at s.ranges page) ≡ false) → AreNoted new noted
+noted-again old new locking noted p s locks h put is none = noted-set old new locking noted p h s put
+    (others-noted locking noted p locks is) (here-noted locking noted p locks s is (key-self p) none)
+
+-- a process that is gone isn't noted
+pub noted-less : (old new : BTreeMap ℕ Space) (locking noted : BTreeSet ℕ) (p : ℕ) → AreNoted old locking
+    → ((q : ℕ) → get nat_cmp new q ≡ cond (is_at (nat_cmp p) q) None (get nat_cmp old q))
+    → ((q : ℕ) → contains nat_cmp noted q ≡ cond (is_at (nat_cmp p) q) false (contains nat_cmp locking q)) → AreNoted new noted
+noted-less old new locking noted p h lost is = noted-gone old new locking noted p h lost (others-noted locking noted p false is)
+
+-- ---- bytes that are written lock none
+
+bytes-lock : (o : Option Page) (a : ℕ) (bytes : List ℕ) (page : ℕ) → is_locked_page (with_bytes (λ _. o) a bytes page) ≡ is_locked_page o
+bytes-lock None a bytes page = refl
+bytes-lock (Some p) a bytes page = refl
+
+pub written-lock : (old new : Space) (q : Process) (a : ℕ) (bytes : List ℕ) (page : ℕ) → IsSpace old q → IsSpace new (with_bytes q a bytes)
+    → is_locked (marks_at new.ranges page) ≡ is_locked (marks_at old.ranges page)
+written-lock old new q a bytes page h g = lock-is (marks_at new.ranges page) _ (with_bytes q a bytes page) (g.pages page)
+    ∙ bytes-lock (q page) a bytes page ∙ sym (lock-is (marks_at old.ranges page) _ (q page) (h.pages page))
+
+-- ---- of any process
+
+-- whether a process is one of some
+abbrev pub is_one : List ℕ → ℕ → Bool
+is_one ps p = list_any (λ q. is_at (nat_cmp p) q) ps
+
+-- each that is noted is one of these, or has no locked page
+abbrev pub AreLeft : Memories → List ℕ → Type 0
+AreLeft memories rest = (p : ℕ) → contains nat_cmp memories.locking p ≡ true
+    → (is_one rest p ≡ true) ⊎ ((w : World) → IsWorld memories w → (page : ℕ) → is_locked_page (pages w p page) ≡ false)
+
+pub one-less : (memories : Memories) (rest later : List ℕ) (number : ℕ) → AreLeft memories rest → rest ≡ number ∷ later
+    → ((w : World) → IsWorld memories w → (page : ℕ) → is_locked_page (pages w number page) ≡ false) → AreLeft memories later
+one-less memories rest later number left is none = λ p noted. elim (left p noted) [
+  | inl one ↦ by p (is_at (nat_cmp p) number) refl (subst (λ rest. is_one rest p ≡ true) is one)
+  | inr free ↦ inr free
+]
   where
-    turn : (k m : ℕ) → suc k + m ≡ suc (k + m)
-    turn k m = omega arith
+    by : (p : ℕ) (b : Bool) → is_at (nat_cmp p) number ≡ b → (b || is_one later p) ≡ true
+        → (is_one later p ≡ true) ⊎ ((w : World) → IsWorld memories w → (page : ℕ) → is_locked_page (pages w p page) ≡ false)
+    by p true e h = inr (subst (λ p. (w : World) → IsWorld memories w → (page : ℕ) → is_locked_page (pages w p page) ≡ false)
+        (same-key p number e) none)
+    by p false e h = inl h
 
-    further : (at k : ℕ) → (at + 1) + k ≡ at + suc k
-    further at k = omega arith
-
-    back : (k x : ℕ) → k + x + 1 ≡ suc k + x
-    back k x = omega arith
-
--- a page that is locked ends it
-pub locked-here : (q : Process) (at end : ℕ) → at < end → is_locked_page (q at) ≡ true → pages_to_locked q at (end - at) ≡ 0
-locked-here q at end less is = ap (pages_to_locked q at) (some at end less) ∙ ap (λ b. cond b 0 (pages_to_locked q (at + 1) (end - (at + 1)) + 1)) is
+-- where none is left, no page is locked
+pub none-locked : (memories : Memories) (w : World) → AreLeft memories [] → IsWorld memories w → (p page : ℕ) → is_locked_page (pages w p page) ≡ false
+none-locked memories w left h p page = by (is_locked_page (pages w p page)) refl
   where
-    some : (at end : ℕ) → at < end → end - at ≡ suc (end - (at + 1))
-    some at end h = omega (arith, h)
+    differ : false ≡ true → ⊥
+    differ e = cc
 
--- one that isn't is counted, with those of which the same is said
-pub locked-further : (s : Space) (q : Process) (at end to : ℕ) → IsSpace s q → at < to → to ≤ end → is_locked_page (q at) ≡ false
-    → Same s.ranges.items at to → pages_to_locked q at (end - at) ≡ (to - at) + pages_to_locked q to (end - to)
-locked-further s q at end to h more most is same =
-    ap (pages_to_locked q at) (split at end to more most)
-    ∙ locked-run q at (to - at) (end - to) (λ page low high. sym (locked-is s q page h)
-    ∙ ap locked_of (same page low (below page at to high more)) ∙ locked-is s q at h ∙ is)
-    ∙ ap (λ a. (to - at) + pages_to_locked q a (end - to)) (reach at to more)
-  where
-    split : (at end to : ℕ) → at < to → to ≤ end → end - at ≡ (to - at) + (end - to)
-    split at end to h g = omega (arith, h, g)
+    locked-there : (o : Option Space) (q : Option Process) → IsProcess o q → is_locked_page (option_and_then (λ (q : Process). q page) q) ≡ true
+        → ((s : Space) → o ≡ Some s → is_locked (marks_at s.ranges page) ≡ true → contains nat_cmp memories.locking p ≡ true)
+        → contains nat_cmp memories.locking p ≡ true
+    locked-there None None g locked noted = cc
+    locked-there None (Some q) g locked noted = absurd g
+    locked-there (Some s) None g locked noted = absurd g
+    locked-there (Some s) (Some q) g locked noted = noted s refl (lock-is (marks_at s.ranges page) _ (q page) (g.pages page) ∙ locked)
 
-    below : (q at to : ℕ) → q < at + (to - at) → at < to → q < to
-    below q at to b h = omega (arith, b, h)
-
-    reach : (at to : ℕ) → at < to → at + (to - at) ≡ to
-    reach at to h = omega (arith, h)
-
--- ---- where no range is locked
-
-or-parts : (a b : Bool) → (a || b) ≡ false → (a ≡ false) × (b ≡ false)
-or-parts true b h = cc
-or-parts false b h = (refl, h)
-
-marks-unlocked : (rs : List Range) (page : ℕ) → list_any (λ (r : Range). r.marks.flags.locked) rs ≡ false
-    → locked_of (marks_in rs page) ≡ false
-marks-unlocked [] page h = refl
-marks-unlocked (r ∷ rs) page h =
-    let parts = or-parts r.marks.flags.locked (list_any (λ (r : Range). r.marks.flags.locked) rs) h in
-    by (has r page) parts.0 (marks-unlocked rs page parts.1)
-  where
-    by : (b : Bool) → r.marks.flags.locked ≡ false → locked_of (marks_in rs page) ≡ false
-        → locked_of (cond b (Some r.marks) (marks_in rs page)) ≡ false
-    by true here later = here
-    by false here later = later
-
-space-unlocked : (ss : List (ℕ × Space)) (p : ℕ) (s : Space)
-    → list_any has_lock_of (map (λ (s : ℕ × Space). s.1) ss) ≡ false
-    → lookup (is_at (nat_cmp p)) ss ≡ Some s → has_lock_of s ≡ false
-space-unlocked [] p s h is = cc
-space-unlocked (e ∷ es) p s h is =
-    let parts = or-parts (has_lock_of e.1) (list_any has_lock_of (map (λ (s : ℕ × Space). s.1) es)) h in
-    by (is_at (nat_cmp p) e.0) parts.0 (space-unlocked es p s parts.1) is
-  where
-    by : (b : Bool) → has_lock_of e.1 ≡ false
-        → (lookup (is_at (nat_cmp p)) es ≡ Some s → has_lock_of s ≡ false)
-        → cond b (Some e.1) (lookup (is_at (nat_cmp p)) es) ≡ Some s → has_lock_of s ≡ false
-    by true here later is = ap (λ o. option_map_or has_lock_of o false) (sym is) ∙ here
-    by false here later is = later is
-
--- no page is
-pub none-locked : (memories : Memories) (w : World) → has_lock memories ≡ false → IsWorld memories w
-    → (p page : ℕ) → is_locked_page (pages w p page) ≡ false
-none-locked memories w none h p page =
-    by (lookup (is_at (nat_cmp p)) memories.spaces.entries) (process w p)
-    (λ s is. space-unlocked memories.spaces.entries p s none is)
-    (spaces-find memories.spaces.entries w p h.spaces)
-  where
-    by : (o : Option Space) (q : Option Process) → ((s : Space) → o ≡ Some s → has_lock_of s ≡ false)
-        → IsProcess o q → is_locked_page (option_and_then (λ q. q page) q) ≡ false
-    by None None free is = refl
-    by None (Some q) free is = absurd is
-    by (Some s) None free is = absurd is
-    by (Some s) (Some q) free is =
-        sym (locked-is s q page is) ∙ marks-unlocked s.ranges.items page (free s refl)
+    by : (b : Bool) → is_locked_page (pages w p page) ≡ b → is_locked_page (pages w p page) ≡ false
+    by false e = e
+    by true e =
+        let noted = locked-there (get nat_cmp memories.spaces p) _ (spaces-find memories.spaces.entries w p h.spaces) e
+        (λ s is locked. h.noted p s page is locked) in
+        elim (left p noted) [
+          | inl one ↦ absurd (differ one)
+          | inr free ↦ free w h page
+        ]

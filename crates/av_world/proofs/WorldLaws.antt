@@ -20,8 +20,9 @@ use Rattle.std.specs.Map.{lookup, remove_entry, set_value}
 use Rattle.av_plain.specs.World.{Page, Process, World, allows, is_locked_page, end_process, lives, no_pages, pages, process, set_process, meets, pages_to_hole, pages_to_locked}
 use Rattle.av_plain.proofs.World.{is_sorted-set}
 use Rattle.av_world.specs.Memories.{AreSpaces, IsProcess, IsWorld}
-use Rattle.av_world.specs.Space.{IsPage, IsSpace, marks_in, marks_of}
-use Rattle.av_world.specs.declared.space.Marks.{Marks}
+use Rattle.av_ranges.specs.Ranges.{marks_at as said_at}
+use Rattle.av_world.specs.Space.{IsPage, IsSpace, marks_of}
+use Rattle.av_ranges.specs.declared.marks.Marks.{Marks}
 use Rattle.av_world.specs.declared.memories.Memories.{Memories}
 use Rattle.av_world.specs.declared.space.Space.{Space}
 
@@ -209,8 +210,8 @@ no-marks o w p page h is = by (process w p) refl (subst (λ o. IsProcess o (proc
     by (Some q) e h = absurd h
 
 pub marks-found : (o : Option Space) (w : World) (p page : ℕ) (s : Space) → IsProcess o (process w p) → o ≡ Some s
-    → option_map marks_of (marks_in s.ranges.items page) ≡ marks_at (pages w p) page
-marks-found o w p page s h is = marks-is (marks_in s.ranges.items page) _ (pages w p page) ((found o w p s h is).1.pages page)
+    → option_map marks_of (said_at s.ranges page) ≡ marks_at (pages w p) page
+marks-found o w p page s h is = marks-is (said_at s.ranges page) _ (pages w p page) ((found o w p s h is).1.pages page)
 
 -- what the marks of a page say of it
 pub allowed-by : (write : Bool) (o : Option Page) (marks : Option (Prot × Flags)) → marks ≡ option_map (λ (p : Page). (p.prot, p.flags)) o
@@ -252,7 +253,7 @@ page-claimed (Some k) at (Some p) h = λ i low. ap is_some (h.2 i low)
 pub world-claimed : (memories : Memories) (w : World) (p page : ℕ) → IsWorld memories w
     → IfSome (pages w p page) (λ (p : Page). (i : ℕ) → i < page_size → is_some (p.bytes i) ≡ true)
 world-claimed memories w p page h = of-world (λ q. IfSome (q page) (λ (p : Page). (i : ℕ) → i < page_size → is_some (p.bytes i) ≡ true))
-    memories w p h tt (λ s q is. page-claimed (marks_in s.ranges.items page) _ (q page) (is.pages page))
+    memories w p h tt (λ s q is. page-claimed (said_at s.ranges page) _ (q page) (is.pages page))
 
 -- ---- a process that doesn't live has no pages
 pub no-pages : (o : Option Space) (w : World) (p : ℕ) → IsProcess o (process w p) → o ≡ None → pages w p ≡ no_pages

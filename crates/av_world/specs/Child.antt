@@ -1,7 +1,7 @@
 -- What a child gets of the pages of a process.
 use Rattle.std.specs.Prelude.{Bool, false, not, ◌&&◌, Option, Some, None, if◌then◌else◌}
 use Rattle.av_base.specs.Flags.{unlocked}
-use Rattle.av_world.specs.declared.space.Marks.{Marks}
+use Rattle.av_ranges.specs.declared.marks.Marks.{Marks}
 
 -- what is said of a page in a child, if that gets the page
 abbrev pub marks_of_child : Marks → Option Marks

@@ -1,7 +1,8 @@
 pub mod Space
-pub mod Ranges
+pub mod Kinds
+pub mod Mapping
+pub mod Kept
 pub mod Memories
-pub mod Holes
 pub mod Bytes
 pub mod Child
 pub mod Remap

@@ -1,13 +1,15 @@
 -- The processes that live, with what they have mapped.
-use Rattle.std.specs.Prelude.{◌≡◌, ℕ, ◌+◌, ◌<◌, ◌≤◌, ◌^◌, Bool, List, [], ◌∷◌, Option, Some, None}
-use Rattle.std.specs.Prelude.{map, true}
-use Rattle.std.specs.List.{list_any}
+use Rattle.std.specs.Prelude.{◌≡◌, ℕ, ◌+◌, ◌<◌, ◌≤◌, ◌^◌, List, [], ◌∷◌, Option, Some, None, true}
+use Rattle.std.specs.BTreeMap.{BTreeMap, get}
+use Rattle.std.specs.BTreeSet.{BTreeSet, contains}
 use Rattle.std.specs.FinMap.Entries.{is_sorted}
 use Rattle.std.specs.Ordering.{nat_cmp}
 use Rattle.av_base.specs.Limits.{top_page}
 use Rattle.av_plain.specs.World.{Process, World, no_pages, wiped, with_change_on, with_page_flag}
 use Rattle.av_plain.specs.World.{with_pages, with_prot_on, zeros}
-use Rattle.av_world.specs.Space.{IsSpace, has_lock as has_lock_of}
+use Rattle.av_ranges.specs.Marks.{is_locked}
+use Rattle.av_ranges.specs.Ranges.{marks_at}
+use Rattle.av_world.specs.Space.{IsSpace}
 use Rattle.av_world.specs.declared.edit.Edit.{Edit}
 use Rattle.av_world.specs.declared.edit.Edit.TheVariants.{Map, Unmap, Protect, Mark, Wipe}
 use Rattle.av_world.specs.declared.memories.Memories.{Memories}
@@ -36,9 +38,15 @@ AreSpaces [] (q ∷ qs) = ⊥
 AreSpaces (s ∷ ss) [] = ⊥
 AreSpaces (s ∷ ss) (q ∷ qs) = (s.0 ≡ q.0) × IsSpace s.1 q.1 × AreSpaces ss qs
 
+-- each process that has a locked page is noted
+abbrev pub AreNoted : BTreeMap ℕ Space → BTreeSet ℕ → Type 0
+AreNoted spaces locking = (p : ℕ) (s : Space) (page : ℕ) → get nat_cmp spaces p ≡ Some s
+    → is_locked (marks_at s.ranges page) ≡ true → contains nat_cmp locking p ≡ true
+
 pub record IsWorld (memories : Memories) (w : World) : Type 0 where
   pub spaces : AreSpaces memories.spaces.entries w
   pub order : is_sorted nat_cmp w ≡ true
+  pub noted : AreNoted memories.spaces memories.locking
 
 -- a process that lives has such pages, and one that doesn't has none
 abbrev pub IsProcess : Option Space → Option Process → Type 0
@@ -46,7 +54,3 @@ IsProcess None None = Unit {0}
 IsProcess None (Some q) = ⊥
 IsProcess (Some s) None = ⊥
 IsProcess (Some s) (Some q) = IsSpace s q
-
--- whether a range of a process is locked
-abbrev pub has_lock : Memories → Bool
-has_lock memories = list_any has_lock_of (map (λ (s : ℕ × Space). s.1) memories.spaces.entries)

@@ -7,15 +7,16 @@ ghost use Rattle.std.specs.BTreeMap.{get};
 ghost use Rattle.av_base.specs.Limits.{top_page};
 ghost use Rattle.av_plain.specs.Fork.{goes_over};
 ghost use Rattle.av_plain.specs.World.{Process, World, child_of, pages, set_process};
+ghost use Rattle.av_ranges.specs.Ranges.{marks_at};
 ghost use Rattle.av_world.specs.Child.{bytes_go, marks_of_child};
 ghost use Rattle.av_world.specs.Memories.{IsWorld};
-ghost use Rattle.av_world.specs.Space.{IsSpace, byte_in, marks_in};
+ghost use Rattle.av_world.specs.Space.{IsSpace, byte_in};
 
-use crate::locks::same_up_to;
+use crate::kept::{Kept, next_of};
 use crate::memories::Memories;
-use crate::ranges::add_mapped;
-use crate::space::{Marks, Range, Space};
+use crate::space::Space;
 use av_base::TOP_PAGE;
+use av_ranges::{Marks, Ranges};
 use std::alloc::AllocError;
 use std::collections::BTreeMap;
 
@@ -43,39 +44,49 @@ fn go_over(marks: Option<Marks>) -> bool
 
 impl Space {
     /// What is said of a child's pages.
-    fn child_ranges(&self) -> Result<Vec<Range>, AllocError>
+    fn child_ranges(&self) -> Result<Ranges, AllocError>
         ensures below { IfOk result (λ made. (page : ℕ) → page < top_page
-            → marks_in made.items page
-            ≡ option_and_then marks_of_child (marks_in self.now.ranges.items page)) }
-        ensures top { IfOk result (λ made. (page : ℕ) → top_page ≤ page
-            → marks_in made.items page ≡ None) }
+            → marks_at made page ≡ option_and_then marks_of_child (marks_at self.now.ranges page)) }
+        ensures top { IfOk result (λ made. (page : ℕ) → top_page ≤ page → marks_at made page ≡ None) }
     {
-        let mut made = Vec::new(self.alloc);
+        let mut made = Ranges::new(self.alloc);
         let mut at = 0;
         while at < TOP_PAGE {
-            let to = same_up_to(self.ranges.as_slice(), at, TOP_PAGE);
-            add_mapped(&mut made, at, to, marks_for_child(self.marks(at)))?;
-            at = to;
+            let from = at;
+            at = self.ranges.same_up_to(from, TOP_PAGE);
+            let Some(marks) = marks_for_child(self.marks(from)) else {
+                continue;
+            };
+            made.put(from, at - from, marks)?;
         }
         Ok(made)
     }
 
     /// Whether what is in a page goes over to a child.
     fn gives(&self, page: u64) -> bool
-        ensures { result ≡ bytes_go (marks_in self.now.ranges.items page) }
+        ensures { result ≡ bytes_go (marks_at self.now.ranges page) }
     {
         go_over(self.marks(page))
     }
 
     /// The bytes of a child's pages.
-    fn child_bytes(&self) -> Result<BTreeMap<u64, Vec<u8>>, AllocError>
-        ensures { IfOk result (λ made. (page : ℕ) → byte_in (get nat_cmp made page)
-            ≡ byte_in (if bytes_go (marks_in self.now.ranges.items page)
+    fn child_bytes(&self) -> Result<Kept, AllocError>
+        ensures { IfOk result (λ made. (page : ℕ) → page < top_page
+            → byte_in (get nat_cmp made page) ≡ byte_in (if bytes_go (marks_at self.now.ranges page)
             then get nat_cmp self.now.bytes page else None)) }
     {
-        let mut bytes = self.bytes.clone()?;
-        bytes.retain(|page, _| self.gives(*page));
-        Ok(bytes)
+        let mut made = BTreeMap::new(self.alloc);
+        let mut at = 0;
+        while let Some(page) = next_of(&self.bytes, at, TOP_PAGE) {
+            at = page + 1;
+            if !self.gives(page) {
+                continue;
+            }
+            if let Some(bytes) = self.bytes.get(&page) {
+                made.insert(page, bytes.clone()?)?;
+            }
+        }
+        Ok(made)
     }
 
     /// What a child gets of the pages.

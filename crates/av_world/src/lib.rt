@@ -7,10 +7,10 @@
 //! accessed, is locked or goes over to a child, how many pages come before a hole or a locked page,
 //! whether pages have one protection, and the greatest gap.
 //!
-//! Pages are kept as ranges, so a call doesn't cost more where its own range is long. But it goes
-//! over all ranges of the process, and where it unmaps or wipes over all its pages with bytes. A
-//! fork does so for each range, behind a copy of all bytes. Ranges that become alike are not
-//! joined. Right, and slow where there are many.
+//! What is said of pages is kept by ranges (`av_ranges`), and bytes by page. So a call costs some
+//! ways down a tree and what it goes over, whatever else the process has mapped; a move costs what
+//! it moves. A fork goes over the parent's ranges and the pages that were written, and copies the
+//! bytes that go over. Processes with a locked page are noted, so `has_lock` looks at no other.
 //!
 //! Only tested: nothing.
 #![tactic(auto)]
@@ -19,15 +19,16 @@ mod bytes;
 mod child;
 mod edit;
 mod holes;
+mod kept;
+mod kinds;
 mod locks;
 mod mapping;
 mod memories;
 mod prots;
 mod questions;
-mod ranges;
 mod remap;
 mod space;
 
 pub use edit::Edit;
 pub use memories::Memories;
-pub use space::{Marks, Range, Space};
+pub use space::Space;

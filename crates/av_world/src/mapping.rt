@@ -5,10 +5,11 @@ ghost use Rattle.av_base.specs.Limits.{top_page};
 ghost use Rattle.av_plain.specs.World.{Process, no_pages, wiped, with_change_on, with_page_flag};
 ghost use Rattle.av_plain.specs.World.{with_pages, with_prot_on, zeros};
 ghost use Rattle.av_world.specs.Space.{IsSpace};
-ghost use Rattle.av_world.specs.Ranges.{AreChanged, AreWiped};
+ghost use Rattle.av_world.specs.Mapping.{AreChanged, AreWiped};
 
-use crate::ranges::{Change, with_change};
-use crate::space::{Marks, Range, Space};
+use crate::kept::wipe;
+use av_ranges::{Change, Marks};
+use crate::space::Space;
 use av_base::{Flag, Flags, Prot};
 use std::alloc::AllocError;
 
@@ -17,11 +18,10 @@ impl Space {
     fn change(&mut self, from: u64, n: u64, change: Change) -> Result<(), AllocError>
         requires { from + n < 2 ^ 64 }
         ensures ok { OnOk result (AreChanged self.old self.new from n change) }
-        ensures err { OnErr result (self.new ≡ self.old) }
+        ensures err { OnErr result ((q : Process) → IsSpace self.old q
+            → IsSpace self.new q) }
     {
-        let ranges = with_change(self.alloc, self.ranges.as_slice(), from, from + n, change)?;
-        self.ranges = ranges;
-        Ok(())
+        self.ranges.change(from, n, change)
     }
 
     /// n pages from one on have zeros.
@@ -31,8 +31,7 @@ impl Space {
         ensures pages { (q : Process) → IsSpace self.old q
             → IsSpace self.new (with_change_on q from n wiped) }
     {
-        let end = from + n;
-        self.bytes.retain(|page, _| *page < from || end <= *page);
+        wipe(&mut self.bytes, from, n);
     }
 
     /// n pages from one on aren't mapped any more. Without memory all stays.
@@ -40,30 +39,28 @@ impl Space {
         requires { from + n < 2 ^ 64 }
         ensures ok { OnOk result ((q : Process) → IsSpace self.old q
             → IsSpace self.new (with_pages q from n no_pages)) }
-        ensures err { OnErr result (self.new ≡ self.old) }
+        ensures err { OnErr result ((q : Process) → IsSpace self.old q
+            → IsSpace self.new q) }
     {
         self.change(from, n, Change::Unmap)?;
         self.wipe(from, n);
         Ok(())
     }
 
-    /// n pages from one on are mapped, with zeros and no flag. Without memory a part may be done.
+    /// n pages from one on are mapped, with zeros and no flag. Without memory all stays.
     pub fn map(&mut self, from: u64, n: u64, prot: Prot) -> Result<(), AllocError>
         requires { from + n ≤ top_page }
-        ensures { OnOk result ((q : Process) → IsSpace self.old q
+        ensures ok { OnOk result ((q : Process) → IsSpace self.old q
             → IsSpace self.new (with_pages q from n (λ _. Some (zeros prot)))) }
+        ensures err { OnErr result ((q : Process) → IsSpace self.old q
+            → IsSpace self.new q) }
     {
-        self.change(from, n, Change::Unmap)?;
-        self.wipe(from, n);
         let marks = Marks {
             prot,
             flags: Flags::NONE,
         };
-        self.ranges.push(Range {
-            start: from,
-            end: from + n,
-            marks,
-        })?;
+        self.ranges.put(from, n, marks)?;
+        self.wipe(from, n);
         Ok(())
     }
 
@@ -72,7 +69,8 @@ impl Space {
         requires { from + n < 2 ^ 64 }
         ensures ok { OnOk result ((q : Process) → IsSpace self.old q
             → IsSpace self.new (with_prot_on q from n prot)) }
-        ensures err { OnErr result (self.new ≡ self.old) }
+        ensures err { OnErr result ((q : Process) → IsSpace self.old q
+            → IsSpace self.new q) }
     {
         self.change(from, n, Change::Protect(prot))
     }
@@ -83,7 +81,8 @@ impl Space {
         requires { from + n < 2 ^ 64 }
         ensures ok { OnOk result ((q : Process) → IsSpace self.old q
             → IsSpace self.new (with_change_on q from n (with_page_flag flag set))) }
-        ensures err { OnErr result (self.new ≡ self.old) }
+        ensures err { OnErr result ((q : Process) → IsSpace self.old q
+            → IsSpace self.new q) }
     {
         self.change(from, n, Change::Mark { flag, set })
     }

@@ -1,6 +1,8 @@
 //! The processes that live.
 
 ghost use Rattle.std.specs.Prelude.{◌≡◌, [], OnOk, length, option_map, true, false};
+ghost use Rattle.std.specs.BTreeMap.{get};
+ghost use Rattle.std.specs.Ordering.{nat_cmp};
 ghost use Rattle.av_plain.specs.Fault.{is_allowed};
 ghost use Rattle.av_plain.specs.Mremap.{marks_at};
 ghost use Rattle.av_world.specs.Space.{marks_of};
@@ -11,15 +13,19 @@ ghost use Rattle.av_world.specs.Space.{IsSpace};
 ghost use Rattle.av_plain.specs.World.{Process as AnyProcess};
 
 use crate::edit::Edit;
-use crate::space::{Marks, Space};
+use crate::locks::note;
+use crate::space::Space;
+use av_ranges::Marks;
 use std::alloc::{AllocError, Global};
-use std::collections::BTreeMap;
+use std::collections::{BTreeMap, BTreeSet};
 
-/// What each process that lives has mapped, by its number.
+/// What each process that lives has mapped, by its number. Each that has a locked page is noted, so
+/// that no other is looked at for one.
 #[derive(Drop)]
 pub struct Memories {
-    pub alloc: Global,
-    pub spaces: BTreeMap<u16, Space>,
+    pub(crate) alloc: Global,
+    pub(crate) spaces: BTreeMap<u16, Space>,
+    pub(crate) locking: BTreeSet<u16>,
 }
 
 impl Memories {
@@ -30,6 +36,7 @@ impl Memories {
         Memories {
             alloc,
             spaces: BTreeMap::new(alloc),
+            locking: BTreeSet::new(alloc),
         }
     }
 
@@ -42,7 +49,8 @@ impl Memories {
 
     /// What a process has mapped, if it lives.
     pub fn get(&self, number: u16) -> Option<&Space>
-        ensures { (w : World) → IsWorld self.now w
+        ensures is { option_map (λ s. s.now) result ≡ get nat_cmp self.now.spaces number }
+        ensures process { (w : World) → IsWorld self.now w
             → IsProcess (option_map (λ s. s.now) result) (process_of w number) }
     {
         self.spaces.get(&number)
@@ -94,13 +102,14 @@ impl Memories {
         }
     }
 
-    /// The process has these pages now, and lives. Without memory all stays.
+    /// The process has these pages now, and lives. Without memory a part may be done.
     pub fn set(&mut self, number: u16, space: Space) -> Result<(), AllocError>
         ensures { OnOk result ((w : World) (q : AnyProcess) → IsWorld self.old w
             → IsSpace space q → IsWorld self.new (set_process w number q)) }
     {
+        let locks = space.ranges.has_lock();
         self.spaces.insert(number, space)?;
-        Ok(())
+        note(&mut self.locking, number, locks)
     }
 
     /// The process is gone.
@@ -108,6 +117,7 @@ impl Memories {
         ensures { (w : World) → IsWorld self.old w → IsWorld self.new (end_process w number) }
     {
         self.spaces.remove(&number);
+        self.locking.remove(&number);
     }
 
     /// Pages of a process change. Without memory a part may be done.
@@ -118,7 +128,11 @@ impl Memories {
     {
         match self.spaces.get_mut(&number) {
             None => Ok(()),
-            Some(space) => space.edit(edit),
+            Some(space) => {
+                space.edit(edit)?;
+                let locks = space.ranges.has_lock();
+                note(&mut self.locking, number, locks)
+            }
         }
     }
 }

@@ -1,35 +1,23 @@
 //! What a process has mapped, as data.
 
 ghost use Rattle.std.specs.Prelude.{◌≡◌};
+ghost use Rattle.std.specs.BTreeMap.{get};
+ghost use Rattle.std.specs.Ordering.{nat_cmp};
 ghost use Rattle.av_plain.specs.World.{no_pages};
-ghost use Rattle.av_world.specs.Space.{IsSpace, marks_in};
+ghost use Rattle.av_ranges.specs.Ranges.{marks_at};
+ghost use Rattle.av_world.specs.Space.{IsSpace, bytes_in};
 
-use av_base::{Flags, Prot};
+use av_ranges::{Marks, Ranges};
 use std::alloc::Global;
 use std::collections::BTreeMap;
 
-/// What is said of a page.
-#[derive(Clone, Copy, Drop)]
-pub struct Marks {
-    pub prot: Prot,
-    pub flags: Flags,
-}
-
-/// Pages side by side of which the same is said, from `start` to below `end`.
-#[derive(Clone, Copy, Drop)]
-pub struct Range {
-    pub start: u64,
-    pub end: u64,
-    pub marks: Marks,
-}
-
-/// What a process has mapped, and the bytes of the pages that were written. Of a page that two
-/// ranges have the first one counts; a byte past those that are kept is 0.
+/// What a process has mapped, and the bytes of the pages that were written. A byte past those that
+/// are kept is 0.
 #[derive(Drop)]
 pub struct Space {
-    pub alloc: Global,
-    pub ranges: Vec<Range>,
-    pub bytes: BTreeMap<u64, Vec<u8>>,
+    pub(crate) alloc: Global,
+    pub(crate) ranges: Ranges,
+    pub(crate) bytes: BTreeMap<u64, Vec<u8>>,
 }
 
 impl Space {
@@ -39,22 +27,32 @@ impl Space {
     {
         Space {
             alloc,
-            ranges: Vec::new(alloc),
+            ranges: Ranges::new(alloc),
             bytes: BTreeMap::new(alloc),
         }
     }
 
+    /// What is said of each page.
+    pub fn ranges(&self) -> &Ranges
+        ensures { result.now ≡ self.now.ranges }
+    {
+        &self.ranges
+    }
+
     /// What is said of a page, if it is mapped.
     pub fn marks(&self, page: u64) -> Option<Marks>
-        ensures { result ≡ marks_in self.now.ranges.items page }
+        ensures { result ≡ marks_at self.now.ranges page }
     {
-        let mut rest = self.ranges.as_slice();
-        while let [first, others @ ..] = rest {
-            if first.start <= page && page < first.end {
-                return Some(first.marks);
-            }
-            rest = others;
+        self.ranges.marks(page)
+    }
+
+    /// The bytes that are kept of a page. Those past their end are 0.
+    pub fn bytes_of(&self, page: u64) -> &[u8]
+        ensures { result.now ≡ bytes_in (get nat_cmp self.now.bytes page) }
+    {
+        match self.bytes.get(&page) {
+            None => &[],
+            Some(kept) => kept.as_slice(),
         }
-        None
     }
 }

@@ -21,7 +21,7 @@ returns c = λ row is read. words-cut row c.args.line.now _
       fourth = record { cut = c.piece-5.ensures.cut; all = c.piece-5.ensures.all };
       fifth = record { cut = c.piece-6.ensures.cut; all = c.piece-6.ensures.all };
       sixth = record { cut = c.piece-7.ensures.cut; all = c.piece-7.ensures.all };
-      offset_is = c.unlabelled.ensures;
-      own_is = c.unlabelled-2.ensures;
-      chain_is = c.unlabelled-3.ensures;
+      offset_is = c.bytes_behind.ensures;
+      own_is = c.bytes_behind-2.ensures;
+      chain_is = c.bytes_behind-3.ensures;
     }) is read

@@ -1,28 +1,25 @@
-use Rattle.std.proofs.Common.{◌++◌, ◌∙◌, ap, arith, subst}
+use Rattle.std.proofs.Common.{ap, sym, ◌∙◌}
 use Rattle.std.specs.Prelude.{option_and_then}
+use Rattle.av_ranges.specs.Ranges.{marks_at}
 use Rattle.av_world.specs.Child.{marks_of_child}
-use Rattle.av_world.specs.Ranges.{part_of}
-use Rattle.av_world.specs.Space.{marks_in}
-use Rattle.av_world.proofs.ChildLaws.{made-further}
-use Rattle.av_world.proofs.LockLaws.{Same}
+use Rattle.av_world.proofs.ChildLaws.{made-further, made-none}
 use Rattle.av_world.proofs.space.Space.child_ranges.Goals as goal
-
-pub loop-at-init : goal.loop-at-init
-loop-at-init c = record {
-  high = omega arith;
-  made = record {
-    below = λ page low. absurd (omega (arith, low));
-    above = λ page high. ap (λ rs. marks_in rs page) c.new-made.ensures.items;
-  };
-}
 
 pub loop-at-preserved : goal.loop-at-preserved
 loop-at-preserved c =
-    let at = c.loop-at.at in
-    let to = c.same_up_to-to.result in record {
-      high = c.same_up_to-to.ensures.most;
-      made = made-further c.loop-at.made.items c.add_mapped.new.made.items c.args.self.now.ranges.items at to c.same_up_to-to.ensures.above
-          (subst (λ rs. Same rs at to) c.as_slice.ensures.value c.same_up_to-to.ensures.same) c.loop-at.invariant.made
-          (c.in_ok-add_mapped.ensures ∙ ap (λ o. c.loop-at.made.items ++ part_of at to o)
-          (c.marks_for_child.ensures ∙ ap (option_and_then marks_of_child) c.marks.ensures));
+    let said = marks_at c.args.self.now.ranges in record {
+      high = c.same_up_to-at.ensures.most;
+      made = made-further (marks_at c.loop-at.made) (marks_at c.put.new.self) said c.loop-at.at c.same_up_to-at.result
+          c.same_up_to-at.ensures.above c.same_up_to-at.ensures.same c.loop-at.invariant.made c.in-Some.marks
+          (ap (option_and_then marks_of_child) (sym c.marks.ensures) ∙ sym c.marks_for_child.ensures ∙ c.in-Some.is) c.in_ok-put.ensures.ok;
+    }
+
+pub loop-at-preserved-in_default : goal.loop-at-preserved-in_default
+loop-at-preserved-in_default c =
+    let made = marks_at c.loop-at.made in
+    let said = marks_at c.args.self.now.ranges in record {
+      high = c.same_up_to-at.ensures.most;
+      made = made-none made made said c.loop-at.at c.same_up_to-at.result c.same_up_to-at.ensures.above c.same_up_to-at.ensures.same
+          c.loop-at.invariant.made
+          (ap (option_and_then marks_of_child) (sym c.marks.ensures) ∙ sym c.marks_for_child.ensures ∙ c.in_default.is);
     }

@@ -1,4 +1,4 @@
-use Rattle.av_world.specs.declared.ranges.Change.TheVariants.{Mark}
+use Rattle.av_ranges.specs.declared.marks.Change.TheVariants.{Mark}
 use Rattle.av_world.proofs.SpaceLaws.{on-ok, pages-changed}
 use Rattle.av_world.proofs.space.Space.mark.Goals as goal
 

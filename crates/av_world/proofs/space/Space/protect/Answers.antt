@@ -1,4 +1,4 @@
-use Rattle.av_world.specs.declared.ranges.Change.TheVariants.{Protect}
+use Rattle.av_ranges.specs.declared.marks.Change.TheVariants.{Protect}
 use Rattle.av_world.proofs.SpaceLaws.{on-ok, pages-changed}
 use Rattle.av_world.proofs.space.Space.protect.Goals as goal
 
