@@ -1,5 +1,5 @@
 -- What a change of the tree below a node leaves there, before a link tells the node anew.
-use Rattle.std.specs.Prelude.{◌≡◌, ℕ, ◌+◌, ◌^◌, ◌<◌, ◌≤◌, max, None, Bool, true, false, IsSome}
+use Rattle.std.specs.Prelude.{◌≡◌, ℕ, ◌+◌, ◌<◌, ◌≤◌, max, None, Bool, true, false, IsSome}
 use Rattle.std.specs.Prelude.{Option, Some, List, ◌∷◌, ◌++◌}
 use Rattle.av_base.specs.Words.{with_at}
 use Rattle.av_arena.specs.Arena.{on_side, side_put}

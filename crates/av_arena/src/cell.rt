@@ -30,11 +30,13 @@ impl<S: Copy + Drop> Twig<S> {
     {
         match link {
             None => Twig::Bare,
-            Some(Link {
-                number,
-                height,
-                sum,
-            }) => Twig::Tree {
+            Some(
+                Link {
+                    number,
+                    height,
+                    sum,
+                },
+            ) => Twig::Tree {
                 height,
                 number,
                 sum,

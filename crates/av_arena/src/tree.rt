@@ -1,6 +1,6 @@
 //! The root of a tree: opened, put together again, and turned where its sides are not level.
 
-ghost use Rattle.std.specs.Prelude.{◌≡◌, ◌+◌, ◌^◌, ◌<◌, ◌≤◌, max, true, Some, IsSome};
+ghost use Rattle.std.specs.Prelude.{◌≡◌, ◌+◌, ◌<◌, ◌≤◌, max, true, Some, IsSome};
 ghost use Rattle.av_arena.specs.Order.{without_key};
 ghost use Rattle.av_arena.specs.Tree.{DifferByAtMost, IsHeightAfter, HasKey, IsHeld, IsJoined};
 ghost use Rattle.av_arena.specs.Tree.{IsOpened, IsPlaceFor, IsPlaced, IsPopped, IsReplaced, IsRoot};

@@ -1,6 +1,6 @@
 -- A link joined behind the last of a list, whose head is kept apart from the heads of all lists.
 use Rattle.av_base.specs.Words.{is_in, with_at}
-use Rattle.std.proofs.Common.{◌≡◌, ℕ, false, cond, List, [], ◌∷◌, ◌++◌, ap, ◌∙◌, sym, subst, Option, Some, None}
+use Rattle.std.proofs.Common.{◌≡◌, ℕ, false, cond, List, [], ◌∷◌, ◌++◌, ap, ◌∙◌, subst, Option, Some, None}
 use denote.RawPtr.{Ptr}
 use Rattle.av_chain.specs.declared.node.Node.{Node}
 use Rattle.av_chain.specs.declared.node.Head.{Head}

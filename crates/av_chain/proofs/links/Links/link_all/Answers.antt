@@ -1,5 +1,5 @@
-use Rattle.std.proofs.Common.{◌++◌, sym, ap, ◌∙◌, subst}
-use Rattle.av_chain.specs.Links.{AreNew, chain_of, users_of, links_to}
+use Rattle.std.proofs.Common.{◌++◌, ap, ◌∙◌}
+use Rattle.av_chain.specs.Links.{chain_of, users_of, links_to}
 use Rattle.av_chain.proofs.TwoMaps.{chain_all, users_all, on_ok}
 use Rattle.av_chain.proofs.links.Links.link_all.Goals as goal
 

@@ -1,7 +1,7 @@
-use Rattle.std.proofs.Common.{◌≡◌, ◌<◌, ◌++◌, [], refl, sym, ap, ◌∙◌, subst, append-nil}
+use Rattle.std.proofs.Common.{◌<◌, refl, sym, subst, append-nil}
 use Rattle.std.specs.HashMap.{get, spare}
 use Rattle.std.specs.Prelude.{nat_eq}
-use Rattle.av_chain.specs.Lists.{AreKeptBut, links_in}
+use Rattle.av_chain.specs.Lists.{links_in}
 use Rattle.av_chain.proofs.Behind.{told_own}
 use Rattle.av_chain.proofs.TwoMaps.{on_err}
 use Rattle.av_chain.proofs.Wholes.{whole_heads}
