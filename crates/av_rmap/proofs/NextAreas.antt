@@ -1,5 +1,5 @@
 -- The areas that a walk looks in, one batch after the other.
-use Rattle.std.proofs.Common.{◌≡◌, ℕ, zero, suc, ◌+◌, ◌-◌, ◌<◌, ◌≤◌, nat_lt, Bool, true, false, cond, ◌||◌, ◌==◌, ◌++◌, Option, Some, None, List, []}
+use Rattle.std.proofs.Common.{◌≡◌, ℕ, zero, suc, ◌+◌, ◌-◌, ◌<◌, ◌≤◌, Bool, true, false, cond, ◌||◌, ◌==◌, ◌++◌, Option, Some, None, List, []}
 use Rattle.std.proofs.Common.{◌∷◌, length, take, drop, length-take, refl, sym, ap, subst, ◌∙◌, arith, IsSomeAnd, IfNone, IfSome}
 use Rattle.std.proofs.lemmas.Bool.{false≢true}
 use Rattle.std.proofs.lemmas.Bool.Decides.{nat_tests}
