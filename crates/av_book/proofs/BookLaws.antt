@@ -1,9 +1,8 @@
 -- What a book keeps of entries is the ledger's.
-use Rattle.std.proofs.Common.{◌≡◌, ℕ, ◌+◌, List, [], ◌∷◌, map, filter, Bool, true, false, not, cond, ◌||◌, ◌==◌, Some, is_some, refl, ap, ◌∙◌, arith}
+use Rattle.std.proofs.Common.{◌≡◌, ℕ, List, [], ◌∷◌, map, filter, Bool, true, false, not, cond, ◌||◌, ◌==◌, Some, is_some, refl, ap, ◌∙◌}
 use Rattle.std.specs.Prelude.{option_map}
 use Rattle.std.specs.List.{list_any}
 use Rattle.std.specs.Map.{keys_of}
-use Rattle.av_base.specs.Words.{how_many}
 use Rattle.av_base.specs.declared.slot.Slot.{Slot}
 use Rattle.av_base.specs.Keys.{Key}
 use Rattle.av_plain.specs.Ledger.{Cached as PlainCached, Entry as PlainEntry, cached_by, names_frame, same_slot}
@@ -43,7 +42,8 @@ pub cached-some : (s : Slot) (cs : List PlainCached)
 cached-some s [] = refl
 cached-some s (c ∷ cs) = by (same_slot s c.slot) (cached-some s cs)
   where
-    by : (b : Bool) → is_some (option_map (λ (c : PlainCached). c.frame) (cached_by (λ c. same_slot s c.slot) cs)) ≡ list_any (λ (c : PlainCached). same_slot s c.slot) cs
+    by : (b : Bool) → is_some (option_map (λ (c : PlainCached). c.frame) (cached_by (λ c. same_slot s c.slot) cs))
+        ≡ list_any (λ (c : PlainCached). same_slot s c.slot) cs
         → is_some (option_map (λ (c : PlainCached). c.frame) (cond b (Some c) (cached_by (λ c. same_slot s c.slot) cs)))
         ≡ (b || list_any (λ (c : PlainCached). same_slot s c.slot) cs)
     by true rest = refl
@@ -82,23 +82,6 @@ pub keys-are : (es : List (Key × Entry)) → map (λ e. e.0) (entries_of es) �
 keys-are [] = refl
 keys-are (e ∷ es) = ap (λ ks. e.0 ∷ ks) (keys-are es)
 
--- ---- entries that are counted
-
--- how many of the entries pass a test, where none is left
-pub all-counted : (p : PlainEntry → Bool) (es : List (Key × Entry)) (n : ℕ) (rest : List Entry) → rest ≡ []
-    → n + how_many (λ e. p (entry_of e)) rest ≡ how_many (λ e. p (entry_of e)) (map (λ e. e.1) es)
-    → n ≡ how_many (λ (e : Key × PlainEntry). p e.1) (entries_of es)
-all-counted p es n rest over left =
-    plus n (how_many (λ e. p (entry_of e)) rest) _ (ap (how_many (λ e. p (entry_of e))) over) left ∙ each es
-  where
-    plus : (n r t : ℕ) → r ≡ 0 → n + r ≡ t → n ≡ t
-    plus n r t e h = omega (arith, e, h)
-
-    each : (es : List (Key × Entry)) → how_many (λ e. p (entry_of e)) (map (λ e. e.1) es)
-        ≡ how_many (λ (e : Key × PlainEntry). p e.1) (entries_of es)
-    each [] = refl
-    each (e ∷ es) = ap (λ n. cond (p (entry_of e.1)) 1 0 + n) (each es)
-
 -- ---- cached pairs that are changed
 
 pub change-pairs : (g : Cached → Cached) (h : PlainCached → PlainCached) → ((c : Cached) → cached_of (g c) ≡ h (cached_of c))
@@ -113,17 +96,17 @@ stale-is stale s c = by (same_slot s c.slot)
     by true = refl
     by false = refl
 
--- the keys of the entries that name a frame
-pub walk-is : (f : ℕ) (es : List (Key × Entry)) → keys_of (filter (λ (e : Key × Entry). names_frame f (entry_of e.1)) es)
-    ≡ map (λ e. e.0) (filter (λ (e : Key × PlainEntry). names_frame f e.1) (entries_of es))
-walk-is f [] = refl
-walk-is f (e ∷ es) = by (names_frame f (entry_of e.1)) (walk-is f es)
+-- the keys of the entries that pass a test
+pub passing-keys : (p : PlainEntry → Bool) (es : List (Key × Entry)) → keys_of (filter (λ (e : Key × Entry). p (entry_of e.1)) es)
+    ≡ map (λ e. e.0) (filter (λ (e : Key × PlainEntry). p e.1) (entries_of es))
+passing-keys p [] = refl
+passing-keys p (e ∷ es) = by (p (entry_of e.1)) (passing-keys p es)
   where
     rest : List (Key × Entry)
-    rest = filter (λ (e : Key × Entry). names_frame f (entry_of e.1)) es
+    rest = filter (λ (e : Key × Entry). p (entry_of e.1)) es
 
     says : List (Key × PlainEntry)
-    says = filter (λ (e : Key × PlainEntry). names_frame f e.1) (entries_of es)
+    says = filter (λ (e : Key × PlainEntry). p e.1) (entries_of es)
 
     by : (b : Bool) → keys_of rest ≡ map (λ e. e.0) says
         → keys_of (cond b (e ∷ rest) rest) ≡ map (λ (e : Key × PlainEntry). e.0) (cond b ((e.0, entry_of e.1) ∷ says) says)

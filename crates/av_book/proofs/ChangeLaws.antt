@@ -18,7 +18,9 @@ use Rattle.av_base.specs.Keys.{Key, key_cmp, same_key}
 use Rattle.av_base.specs.Words.{renamed}
 use Rattle.av_index.proofs.Rising.{keys-exact}
 use Rattle.av_plain.specs.Ledger.{names_frame}
-use Rattle.av_book.specs.Entries.{changed_at, entry_of}
+use Rattle.av_plain.specs.Ledger.{Entry as PlainEntry}
+use Rattle.av_plain.specs.Reclaim.{names_seen}
+use Rattle.av_book.specs.Entries.{changed_at, entries_of, entry_of, without_seen_of}
 use Rattle.av_book.specs.declared.book.Entry.{Entry}
 use Rattle.av_book.specs.declared.book.Entry.TheVariants.{Zero, InFrame, InSlot}
 use Rattle.av_book.specs.declared.changes.Change.{Change}
@@ -80,27 +82,29 @@ key-next p made more k e es rest all grown first passes left =
 
 -- ---- lists of entries whose keys rise
 
-below : (x : Key) (es : List (Key × Entry)) → AllByRecursion (λ y. key_cmp x y ≡ Less) (keys_of es) → T (below_all key_cmp x es)
-below x [] h = tt
-below x (e ∷ es) h = subst (λ o. T (is_lt o && below_all key_cmp x es)) (sym h.0) (below x es h.1)
+module _ {X : Type 0} where
+  below : (x : Key) (es : List (Key × X)) → AllByRecursion (λ y. key_cmp x y ≡ Less) (keys_of es) → T (below_all key_cmp x es)
+  below x [] h = tt
+  below x (e ∷ es) h = subst (λ o. T (is_lt o && below_all key_cmp x es)) (sym h.0) (below x es h.1)
 
-sorted : (es : List (Key × Entry)) → IsStrictlySortedBy key_cmp (keys_of es) → T (is_sorted key_cmp es)
-unfolding IsStrictlySortedBy
-sorted [] h = tt
-sorted (e ∷ es) h = both (below_all key_cmp e.0 es) (is_sorted key_cmp es) (below e.0 es h.0) (sorted es h.1)
-  where
-    both : (a b : Bool) → T a → T b → T (a && b)
-    both true b p q = q
-    both false b p q = p
+  sorted : (es : List (Key × X)) → IsStrictlySortedBy key_cmp (keys_of es) → T (is_sorted key_cmp es)
+  unfolding IsStrictlySortedBy
+  sorted [] h = tt
+  sorted (e ∷ es) h = both (below_all key_cmp e.0 es) (is_sorted key_cmp es) (below e.0 es h.0) (sorted es h.1)
+    where
+      both : (a b : Bool) → T a → T b → T (a && b)
+      both true b p q = q
+      both false b p q = p
 
-found-so : (es : List (Key × Entry)) (q : Key) → find key_cmp q es ≡ lookup (is_at (key_cmp q)) es
-found-so [] q = refl
-found-so (e ∷ es) q = ap (cond (same_key q e.0) (Some e.1)) (found-so es q)
+  found-so : (es : List (Key × X)) (q : Key) → find key_cmp q es ≡ lookup (is_at (key_cmp q)) es
+  found-so [] q = refl
+  found-so (e ∷ es) q = ap (cond (same_key q e.0) (Some e.1)) (found-so es q)
 
-pub same-entries : (es fs : List (Key × Entry)) → IsStrictlySortedBy key_cmp (keys_of es) → IsStrictlySortedBy key_cmp (keys_of fs)
-    → ((q : Key) → lookup (is_at (key_cmp q)) es ≡ lookup (is_at (key_cmp q)) fs) → es ≡ fs
-same-entries es fs rise rises same = same_entries key_cmp keys_total keys-exact es fs (sorted es rise) (sorted fs rises)
-    (λ q. found-so es q ∙ same q ∙ sym (found-so fs q))
+  -- two with the same values are one
+  pub same-entries : (es fs : List (Key × X)) → IsStrictlySortedBy key_cmp (keys_of es) → IsStrictlySortedBy key_cmp (keys_of fs)
+      → ((q : Key) → lookup (is_at (key_cmp q)) es ≡ lookup (is_at (key_cmp q)) fs) → es ≡ fs
+  same-entries es fs rise rises same = same_entries key_cmp keys_total keys-exact es fs (sorted es rise) (sorted fs rises)
+      (λ q. found-so es q ∙ same q ∙ sym (found-so fs q))
 
 module _ (f : ℕ) (ch : Change) where
   -- an entry, if there is one, as it will be
@@ -180,3 +184,27 @@ module _ (f : ℕ) (ch : Change) where
           let none = is ∙ ap (λ k. lookup (is_at (key_cmp k)) es) (same_key-is k q same) in
           sym none ∙ ap ends_as none
       by false same = refl
+
+-- where no entry of a frame is seen, all are unseen as they are
+pub unseen-stay : (f : ℕ) (es : List (Key × Entry)) → list_any (λ (e : Key × PlainEntry). names_seen f e.1) (entries_of es) ≡ false
+    → es ≡ map (λ e. (e.0, without_seen_of f e.1)) es
+unseen-stay f [] none = refl
+unseen-stay f (e ∷ es) none =
+    λ i. (e.0, first e.1 (left (names_seen f (entry_of e.1)) _ none) i) ∷ unseen-stay f es (right (names_seen f (entry_of e.1)) _ none) i
+  where
+    left : (a b : Bool) → (a || b) ≡ false → a ≡ false
+    left true b e = e
+    left false b e = refl
+
+    right : (a b : Bool) → (a || b) ≡ false → b ≡ false
+    right true b e = cc
+    right false b e = e
+
+    first : (e : Entry) → names_seen f (entry_of e) ≡ false → e ≡ without_seen_of f e
+    first Zero is = refl
+    first (InFrame g seen) is = ap (InFrame g) (by (f == g) seen is)
+      where
+        by : (b c : Bool) → (b && c) ≡ false → c ≡ (not b && c)
+        by true c is = is
+        by false c is = refl
+    first (InSlot s) is = refl

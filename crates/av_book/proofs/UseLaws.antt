@@ -1,11 +1,13 @@
 -- What is used, by the counts.
 use Rattle.std.proofs.Common.{◌≡◌, ℕ, suc, ◌+◌, ◌-◌, ◌≤◌, List, [], ◌∷◌, length, Bool, true, false, cond, not, None, Some, refl, sym, ap, ◌∙◌, arith}
-use Rattle.std.specs.Prelude.{filter, is_none, nat_lt, option_map, ◌==◌, ◌&&◌, ◌||◌}
+use Rattle.std.proofs.lemmas.Option.{same_Some}
+use Rattle.std.specs.Prelude.{slice_get, filter, is_none, nat_lt, option_map, ◌==◌, ◌&&◌, ◌||◌}
 use Rattle.std.specs.List.{list_any}
 use Rattle.std.proofs.lemmas.Bool.Decides.{nat_tests}
 use Rattle.av_base.specs.Words.{how_many}
 use Rattle.av_base.specs.declared.slot.Slot.{Slot}
 use Rattle.av_plain.specs.Ledger.{Cached, Ledger, cached_by, is_free, map_count, same_slot, slot_count, slot_entries}
+use Rattle.av_book.specs.Filters.{IsFirst}
 use Rattle.av_book.proofs.RangeLaws.{any-count}
 
 none-cached : {B : Type 0} (g : Cached → B) (p : Cached → Bool) (cs : List Cached) → (how_many p cs == 0) ≡ is_none (option_map g (cached_by p cs))
@@ -37,14 +39,6 @@ used-is l f = sym (free-is l f) ∙ zero (map_count l f + how_many (λ (c : Cach
   where
     zero : (n : ℕ) → (n == 0) ≡ not (nat_lt 0 n)
     zero n = grind (arith, nat_tests)
-
--- a slot is cached where it has more uses than names
-pub cached-is : (n : ℕ) (s : Slot) (cs : List Cached)
-    → nat_lt n (n + how_many (λ (c : Cached). same_slot s c.slot) cs) ≡ list_any (λ (c : Cached). same_slot s c.slot) cs
-cached-is n s cs = more n (how_many (λ (c : Cached). same_slot s c.slot) cs) ∙ any-count (λ (c : Cached). same_slot s c.slot) cs
-  where
-    more : (n h : ℕ) → nat_lt n (n + h) ≡ nat_lt 0 h
-    more n h = grind (arith, nat_tests)
 
 -- a slot with a use has a count
 pub count-is : (l : Ledger) (s : Slot)
@@ -102,13 +96,19 @@ no-pair g p (c ∷ cs) none = by (p c) none (no-pair g p cs)
     by true none more = cc
     by false none more = more none
 
--- as many uses as names
-pub no-use : (n : ℕ) (p : Cached → Bool) (cs : List Cached) (uses names : ℕ) → uses ≡ n + how_many p cs → names ≡ n → uses ≡ names
-    → list_any p cs ≡ false
-no-use n p cs uses names all named same = sym (any-count p cs) ∙ none (how_many p cs) (zero (how_many p cs) uses names all named same)
+-- none passes where none is counted
+pub no-use : (p : Cached → Bool) (cs : List Cached) → how_many p cs ≡ 0 → list_any p cs ≡ false
+no-use p cs none = sym (any-count p cs) ∙ zero (how_many p cs) none
   where
-    zero : (h uses names : ℕ) → uses ≡ n + h → names ≡ n → uses ≡ names → h ≡ 0
-    zero h uses names e f g = omega (arith, e, f, g)
+    zero : (h : ℕ) → h ≡ 0 → nat_lt 0 h ≡ false
+    zero h e = grind (arith, nat_tests, e)
 
-    none : (h : ℕ) → h ≡ 0 → nat_lt 0 h ≡ false
-    none h e = grind (arith, nat_tests, e)
+-- ---- the first of some pages
+
+pub no-first : (pages others : List ℕ) → None ≡ slice_get pages 0 → pages ≡ others → others ≡ []
+no-first [] others none same = sym same
+no-first (n ∷ ns) others none same = cc
+
+pub first-is : (k n : ℕ) (pages others : List ℕ) → Some n ≡ slice_get pages 0 → pages ≡ others → IsFirst k others (Some (record { area = k; page = n }))
+first-is k n [] others some same = cc
+first-is k n (m ∷ ms) others some same = (ms, refl, sym same ∙ ap (λ p. p ∷ ms) (sym (same_Some n m some)))

@@ -7,5 +7,5 @@ pub mod Machine
 pub mod Need
 pub mod Pages
 pub mod Shortage
-pub mod SlotUses
+pub mod SlotHolders
 pub mod Spared

@@ -1,15 +1,14 @@
 -- What is kept of pages: their entries and the cached pairs.
 use Rattle.std.specs.BTreeMap.{is_at}
+use Rattle.std.specs.List.{range_with_len}
 use Rattle.std.specs.List.Sorted.{IsStrictlySortedBy}
 use Rattle.std.specs.Map.{keys_of, lookup}
-use Rattle.std.specs.Option.{option_map_or}
-use Rattle.std.specs.Prelude.{◌≡◌, ℕ, Bool, false, List, Option, map}
+use Rattle.std.specs.Prelude.{ℕ, ◌+◌, ◌-◌, List, map, filter, nat_lt, option_map}
 use Rattle.av_base.specs.Keys.{Key, key_cmp}
-use Rattle.av_index.specs.KeyIndex.{has_key}
-use Rattle.av_plain.specs.Ledger.{names_frame}
-use Rattle.av_plain.specs.Reclaim.{names_seen}
+use Rattle.av_base.specs.Words.{how_many}
+use Rattle.av_plain.specs.Ledger.{names_slot, same_slot}
 use Rattle.av_book.specs.Entries.{cached_of, entries_of, entry_of}
-use Rattle.av_book.specs.Index.{Counts}
+use Rattle.av_book.specs.Index.{CountsPairs, Tells}
 use Rattle.av_book.specs.declared.book.Cached.{Cached}
 use Rattle.av_book.specs.declared.book.Entry.{Entry}
 use Rattle.av_book.specs.declared.index.Index.{Index}
@@ -19,23 +18,18 @@ pub record Content : Type 0 where
   pub entries : List (Key × Entry)
   pub cache : List Cached
 
--- whether there is an entry, and it names the frame
-abbrev pub names_in : ℕ → Option Entry → Bool
-names_in f o = option_map_or (λ (e : Entry). names_frame f (entry_of e)) o false
+-- the pages of an area with so many whose slot an entry names, or a pair caches
+abbrev pub used_pages : Content → ℕ → ℕ → List ℕ
+used_pages content area pages =
+    filter (λ page. nat_lt 0
+    (how_many (λ e. names_slot (record { area = area; page = page }) e.1)
+    (entries_of content.entries)
+    + how_many (λ c. same_slot (record { area = area; page = page }) c.slot)
+    (map cached_of content.cache)))
+    (range_with_len 1 (pages - 1))
 
--- whether the entry of a key names the frame
-abbrev pub names_at : ℕ → Key → List (Key × Entry) → Bool
-names_at f k es = names_in f (lookup (is_at (key_cmp k)) es)
-
--- whether the entry of a key names the frame and is seen
-abbrev pub seen_at : ℕ → List (Key × Entry) → Key → Bool
-seen_at f es k =
-    option_map_or (λ (e : Entry). names_seen f (entry_of e)) (lookup (is_at (key_cmp k)) es) false
-
--- the keys rise, the index counts the entries and the pairs, and each frame has the keys of its
--- entries
-pub record IsIndexed (i : Index) (keys : List (ℕ × List Key)) (es : List (Key × Entry))
-    (cs : List Cached) : Type 0 where
+-- the keys rise, the index tells each key's entry, and counts the pairs
+pub record IsIndexed (i : Index) (es : List (Key × Entry)) (cs : List Cached) : Type 0 where
   pub rising : IsStrictlySortedBy key_cmp (keys_of es)
-  pub counts : Counts i (entries_of es) (map cached_of cs)
-  pub listed : (f : ℕ) (k : Key) → has_key keys f k ≡ names_at f k es
+  pub tells : (k : Key) → Tells i k (option_map entry_of (lookup (is_at (key_cmp k)) es))
+  pub pairs : CountsPairs i (map cached_of cs)

@@ -20,7 +20,7 @@ impl Book {
         if self.pages.cache().is_empty() {
             return None;
         }
-        if self.pages.frame_uses(frame) == self.pages.frame_names(frame) {
+        if self.pages.frame_pairs(frame) == 0 {
             return None;
         }
         let mut rest = self.pages.cache();
@@ -54,7 +54,7 @@ impl Book {
     pub fn is_cached(&self, slot: Slot) -> bool
         ensures { result ≡ is_cached (ledger_of self.now) slot }
     {
-        self.pages.slot_uses(slot) > self.pages.slot_names(slot)
+        self.pages.slot_pairs(slot) > 0
     }
 
     /// Whether its page changed since its last write began.
@@ -89,7 +89,7 @@ impl Book {
     pub fn is_free(&self, frame: u32) -> bool
         ensures { result ≡ is_free (ledger_of self.now) frame }
     {
-        self.pages.frame_uses(frame) == 0
+        !self.pages.is_frame_used(frame)
     }
 
     /// Whether the slot is cached in vain.

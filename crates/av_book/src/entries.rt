@@ -4,7 +4,7 @@ ghost use Rattle.std.specs.Prelude.{◌≡◌, ◌^◌, ◌<◌, IfOk, OnOk, opt
 ghost use Rattle.av_base.specs.Words.{how_many};
 ghost use Rattle.av_plain.specs.Event.{change_entries, set_entry, without_seen};
 ghost use Rattle.av_plain.specs.Ledger.{InSlot as NamesSlot, entry, map_count, slot_entries};
-ghost use Rattle.av_plain.specs.Ledger.{walk};
+ghost use Rattle.av_plain.specs.Ledger.{keys_of_slot, walk};
 ghost use Rattle.av_plain.specs.Ledger.{names_frame as names_frame_of, names_slot as names_slot_of};
 ghost use Rattle.av_plain.specs.Reclaim.{is_referenced, names_seen as names_seen_of};
 ghost use Rattle.av_book.specs.Book.{entry_of, ledger_of, without_entry};
@@ -86,6 +86,13 @@ impl Book {
         self.pages.keys_of_frame(alloc, frame)
     }
 
+    /// The keys of the entries that name a slot, by process and page.
+    pub fn keys_of_slot(&self, alloc: Global, slot: Slot) -> Result<Vec<(u16, u64)>, AllocError>
+        ensures { IfOk result (λ keys. keys.items ≡ keys_of_slot (ledger_of self.now) slot) }
+    {
+        self.pages.keys_of_slot(alloc, slot)
+    }
+
     /// How many entries name the frame.
     pub fn maps(&self, frame: u32) -> u64
         ensures { result ≡ map_count (ledger_of self.now) frame }
@@ -113,7 +120,7 @@ impl Book {
         ensures { OnOk result (ledger_of self.new
             ≡ change_entries frame without_seen (ledger_of self.old)) }
     {
-        self.pages.change(self.alloc, frame, Change::Unseen)
+        self.pages.unsee(self.alloc, frame)
     }
 
     /// The frame's entries name the slot. Without memory a part may be done.

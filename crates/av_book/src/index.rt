@@ -1,107 +1,153 @@
-//! How often frames and slots are used, and slots named.
+//! What is kept of frames and slots beside the entries and the cached pairs.
 
-ghost use Rattle.std.specs.Prelude.{OnErr, OnOk, false, option_map};
-ghost use Rattle.av_plain.specs.Ledger.{InFrame as NamesFrame, InSlot as NamesSlot};
+ghost use Rattle.std.specs.Prelude.{◌≡◌, Bool, None, OnErr, OnOk, Some, [], option_map};
+ghost use Rattle.av_base.specs.Keys.{Key};
+ghost use Rattle.av_plain.specs.Ledger.{InFrame as NamesFrame};
 ghost use Rattle.av_book.specs.Entries.{cached_of, entry_of};
-ghost use Rattle.av_book.specs.Index.{Adds, HasRoom, IsEmpty, Keeps, Takes, cached_marks};
-ghost use Rattle.av_book.specs.Index.{entry_marks, marks_of};
+ghost use Rattle.av_book.specs.Index.{AddsPair, CountsPairs, HasRoom, KeepsKeys, KeepsOthers};
+ghost use Rattle.av_book.specs.Index.{KeepsPairs, TakesPair, Tells};
 
 use crate::book::{Cached, Entry};
-use crate::slot_uses::SlotUses;
+use crate::slot_holders::SlotHolders;
 use av_base::Slot;
-use av_index::Uses;
+use av_index::Holders;
 use std::alloc::{AllocError, Global};
 
-/// How often each frame and each slot is used: named by an entry, or cached; and how often each slot
-/// is named. (How often a frame is named, its keys say.)
+/// For each frame and each slot the keys of the entries that name it, and how many cached pairs
+/// have it.
 #[derive(Drop)]
 pub(crate) struct Index {
-    pub(crate) frame_uses: Uses,
-    pub(crate) slot_names: SlotUses,
-    pub(crate) slot_uses: SlotUses,
+    frames: Holders,
+    slots: SlotHolders,
 }
 
 impl Index {
     /// Nothing is named or cached.
     pub(crate) fn new(alloc: Global) -> Index
-        ensures { IsEmpty result }
+        ensures tells { (k : Key) → Tells result k None }
+        ensures pairs { CountsPairs result [] }
     {
         Index {
-            frame_uses: Uses::new(alloc),
-            slot_names: SlotUses::new(alloc),
-            slot_uses: SlotUses::new(alloc),
+            frames: Holders::new(alloc),
+            slots: SlotHolders::new(alloc),
         }
     }
 
-    /// One entry more names the frame. Without memory all stays.
-    fn add_frame(&mut self, frame: u32) -> Result<(), AllocError>
-        requires { HasRoom self.old }
-        ensures ok { OnOk result (Adds self.old self.new (entry_marks (NamesFrame frame false))) }
-        ensures err { OnErr result (Keeps self.old self.new) }
+    /// What holds each frame.
+    pub(crate) fn frames(&self) -> &Holders
+        ensures { result.now ≡ self.now.frames }
     {
-        self.frame_uses.add(frame)
+        &self.frames
     }
 
-    /// One entry more names the slot. Without memory all stays.
-    fn add_slot(&mut self, slot: Slot) -> Result<(), AllocError>
-        requires { HasRoom self.old }
-        ensures ok { OnOk result (Adds self.old self.new (entry_marks (NamesSlot slot))) }
-        ensures err { OnErr result (Keeps self.old self.new) }
+    /// What holds each slot.
+    pub(crate) fn slots(&self) -> &SlotHolders
+        ensures { result.now ≡ self.now.slots }
     {
-        self.slot_uses.add(slot)?;
-        let added = self.slot_names.add(slot);
+        &self.slots
+    }
+
+    /// The key's entry goes.
+    fn take_entry(&mut self, key: (u16, u64), entry: Entry)
+        requires { Tells self.old key (Some (entry_of entry)) }
+        ensures gone { Tells self.new key None }
+        ensures others { KeepsOthers self.old self.new key }
+        ensures pairs { KeepsPairs self.old self.new }
+    {
+        match entry {
+            Entry::Zero => {}
+            Entry::InFrame { frame, .. } => self.frames.take(frame, key),
+            Entry::InSlot(slot) => self.slots.take(slot, key),
+        }
+    }
+
+    /// The key has no entry any more, if it had one.
+    pub(crate) fn take(&mut self, key: (u16, u64), entry: Option<Entry>)
+        requires { Tells self.old key (option_map entry_of entry) }
+        ensures gone { Tells self.new key None }
+        ensures others { KeepsOthers self.old self.new key }
+        ensures pairs { KeepsPairs self.old self.new }
+    {
+        if let Some(entry) = entry {
+            self.take_entry(key, entry);
+        }
+    }
+
+    /// The key, which had no entry, has this one. Without memory all stays.
+    fn add(&mut self, key: (u16, u64), entry: Entry) -> Result<(), AllocError>
+        requires { Tells self.old key None }
+        ensures ok { OnOk result (Tells self.new key (Some (entry_of entry))) }
+        ensures err { OnErr result (Tells self.new key None) }
+        ensures others { KeepsOthers self.old self.new key }
+        ensures pairs { KeepsPairs self.old self.new }
+    {
+        match entry {
+            Entry::Zero => Ok(()),
+            Entry::InFrame { frame, seen } => self.frames.add(frame, key, seen),
+            Entry::InSlot(slot) => self.slots.add(slot, key),
+        }
+    }
+
+    /// The key's entry stays at its frame, and is seen or not. Without memory the key has no entry.
+    fn see(&mut self, key: (u16, u64), frame: u32, seen: bool) -> Result<(), AllocError>
+        requires { (was : Bool) × Tells self.old key (Some (NamesFrame frame was)) }
+        ensures ok { OnOk result (Tells self.new key (Some (NamesFrame frame seen))) }
+        ensures err { OnErr result (Tells self.new key None) }
+        ensures others { KeepsOthers self.old self.new key }
+        ensures pairs { KeepsPairs self.old self.new }
+    {
+        let added = self.frames.add(frame, key, seen);
         if added.is_err() {
-            self.slot_uses.take(slot);
+            self.frames.take(frame, key);
         }
         added
     }
 
-    /// One entry more. Without memory all stays.
-    pub(crate) fn add(&mut self, entry: Entry) -> Result<(), AllocError>
-        requires { HasRoom self.old }
-        ensures ok { OnOk result (Adds self.old self.new (entry_marks (entry_of entry))) }
-        ensures err { OnErr result (Keeps self.old self.new) }
+    /// The key has this entry in place of the one that it had, if it had one. Without memory it has
+    /// none.
+    pub(crate) fn put(
+        &mut self,
+        key: (u16, u64),
+        old: Option<Entry>,
+        entry: Entry,
+    ) -> Result<(), AllocError>
+        requires { Tells self.old key (option_map entry_of old) }
+        ensures ok { OnOk result (Tells self.new key (Some (entry_of entry))) }
+        ensures err { OnErr result (Tells self.new key None) }
+        ensures others { KeepsOthers self.old self.new key }
+        ensures pairs { KeepsPairs self.old self.new }
     {
-        match entry {
-            Entry::Zero => Ok(()),
-            Entry::InFrame { frame, .. } => self.add_frame(frame),
-            Entry::InSlot(slot) => self.add_slot(slot),
-        }
-    }
-
-    /// The entry that there may be goes.
-    pub(crate) fn take(&mut self, entry: Option<Entry>)
-        ensures { Takes self.old self.new (marks_of (option_map entry_of entry)) }
-    {
-        match entry {
-            Some(Entry::InFrame { frame, .. }) => self.frame_uses.take(frame),
-            Some(Entry::InSlot(slot)) => {
-                self.slot_names.take(slot);
-                self.slot_uses.take(slot);
+        let both = (old, entry);
+        if let (Some(Entry::InFrame { frame: at, .. }), Entry::InFrame { frame, seen }) = both {
+            if at == frame {
+                return self.see(key, frame, seen);
             }
-            _ => {}
         }
+        self.take(key, old);
+        self.add(key, entry)
     }
 
     /// One cached pair more. Without memory all stays.
     pub(crate) fn hold(&mut self, cached: Cached) -> Result<(), AllocError>
         requires { HasRoom self.old }
-        ensures ok { OnOk result (Adds self.old self.new (cached_marks (cached_of cached))) }
-        ensures err { OnErr result (Keeps self.old self.new) }
+        ensures ok { OnOk result (AddsPair self.old self.new (cached_of cached)) }
+        ensures err { OnErr result (KeepsPairs self.old self.new) }
+        ensures keys { KeepsKeys self.old self.new }
     {
-        self.frame_uses.add(cached.frame)?;
-        let added = self.slot_uses.add(cached.slot);
+        self.frames.hold(cached.frame)?;
+        let added = self.slots.hold(cached.slot);
         if added.is_err() {
-            self.frame_uses.take(cached.frame);
+            self.frames.drop_pair(cached.frame);
         }
         added
     }
 
     /// The cached pair goes.
     pub(crate) fn drop_pair(&mut self, cached: Cached)
-        ensures { Takes self.old self.new (cached_marks (cached_of cached)) }
+        ensures pairs { TakesPair self.old self.new (cached_of cached) }
+        ensures keys { KeepsKeys self.old self.new }
     {
-        self.frame_uses.take(cached.frame);
-        self.slot_uses.take(cached.slot);
+        self.frames.drop_pair(cached.frame);
+        self.slots.drop_pair(cached.slot);
     }
 }

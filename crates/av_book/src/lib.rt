@@ -7,8 +7,9 @@
 //! Nothing asks that the ledger is sound. After want of memory a book may have followed a part of
 //! a note.
 //!
-//! Counts are kept beside the entries and the cached pairs (`Pages`), by an invariant that says
-//! that they are right: how often a frame or a slot is named or used is a look-up.
+//! For each frame and each slot the keys of its entries are kept beside these, and how many cached
+//! pairs have it (`Pages`), by an invariant that says that they are right: how often a frame or a
+//! slot is named or used, and whether an entry of a frame is seen, is a look-up.
 //!
 //! Only tested: nothing.
 #![tactic(auto)]
@@ -26,7 +27,7 @@ mod moves;
 mod need;
 mod pages;
 mod shortage;
-mod slot_uses;
+mod slot_holders;
 mod slots;
 mod spared;
 mod totals;

@@ -1,37 +1,35 @@
-//! The entries of pages and the cached pairs, with the counts beside them.
+//! The entries of pages and the cached pairs, with what is kept beside them.
 
-ghost use Rattle.std.specs.Prelude.{◌≡◌, ◌+◌, ◌-◌, ◌^◌, ◌<◌, ◌==◌, ◌&&◌, ◌||◌, ℕ, List, [], ◌∷◌};
-ghost use Rattle.std.specs.Prelude.{IfOk, OnErr, OnOk, None, Some, if◌then◌else◌, filter, length};
-ghost use Rattle.std.specs.Prelude.{map, nat_lt, not, option_map, set};
+ghost use Rattle.std.specs.Prelude.{◌≡◌, ◌+◌, ◌-◌, ◌^◌, ◌<◌, ◌==◌, [], ◌∷◌};
+ghost use Rattle.std.specs.Prelude.{IfOk, OnOk, None, Some, if◌then◌else◌, filter, length};
+ghost use Rattle.std.specs.Prelude.{map, nat_lt, not, option_map, set, slice_get};
 ghost use Rattle.std.specs.BTreeMap.{insert_entry, is_at};
 ghost use Rattle.std.specs.List.{list_any, range_with_len};
 ghost use Rattle.std.specs.List.Sorted.{IsStrictlySortedBy};
 ghost use Rattle.std.specs.Map.{keys_of, lookup, remove_entry};
 ghost use Rattle.av_base.specs.Keys.{Key, key_cmp, same_key};
 ghost use Rattle.av_base.specs.Words.{how_many};
-ghost use Rattle.av_index.specs.KeyIndex.{has_key};
-ghost use Rattle.av_plain.specs.Ledger.{Entry as PlainEntry, names_frame, names_slot, same_slot};
+ghost use Rattle.av_plain.specs.Ledger.{names_frame, names_slot, same_slot};
 ghost use Rattle.av_plain.specs.Reclaim.{names_seen};
 ghost use Rattle.av_book.specs.Entries.{cached_of, changed_at, changed_pair, entries_of, entry_of};
-ghost use Rattle.av_book.specs.Index.{Adds, Counts, HasRoom, Keeps, entry_marks};
-ghost use Rattle.av_book.specs.Pages.{names_in, seen_at};
+ghost use Rattle.av_book.specs.Entries.{without_seen_of};
+ghost use Rattle.av_book.specs.Index.{CountsPairs, KeepsKeys};
+ghost use Rattle.av_book.specs.Pages.{used_pages};
 
 use crate::book::{Cached, Entry};
 use crate::changes::{Change, PairChange};
 use crate::index::Index;
 use av_base::Slot;
-use av_index::KeyIndex;
 use std::alloc::{AllocError, Global};
 use std::collections::BTreeMap;
 use std::marker::Model;
 
-/// Entries by process and page, cached pairs, and how often each frame and slot is named and used.
+/// Entries by process and page, cached pairs, and what each frame and slot has of them.
 #[derive(Drop)]
 pub struct Pages {
     entries: BTreeMap<(u16, u64), Entry>,
     cache: Vec<Cached>,
     index: Index,
-    frame_keys: KeyIndex,
 }
 
 impl Model for Pages {
@@ -43,7 +41,7 @@ impl Model for Pages {
 
     ghost view = { λ a. record { entries = a.entries.entries; cache = a.cache.items } };
 
-    ghost invariant = { λ a. IsIndexed a.index a.frame_keys a.entries.entries a.cache.items };
+    ghost invariant = { λ a. IsIndexed a.index a.entries.entries a.cache.items };
 }
 
 impl Pages {
@@ -56,7 +54,6 @@ impl Pages {
             entries: BTreeMap::new(alloc),
             cache: Vec::new(alloc),
             index: Index::new(alloc),
-            frame_keys: KeyIndex::new(alloc),
         }
     }
 
@@ -83,8 +80,7 @@ impl Pages {
         ensures cache { self.new.cache ≡ self.old.cache }
     {
         let entry = self.entries.remove(&(process, page));
-        self.index.take(entry);
-        unlist(&mut self.frame_keys, (process, page), entry);
+        self.index.take((process, page), entry);
         entry
     }
 
@@ -98,16 +94,8 @@ impl Pages {
         ensures rising { IsStrictlySortedBy key_cmp (keys_of self.new.entries) }
         ensures cache { self.new.cache ≡ self.old.cache }
     {
-        are_few(&self.entries, self.cache.as_slice());
         let old = self.entries.insert((process, page), entry)?;
-        self.index.take(old);
-        unlist(&mut self.frame_keys, (process, page), old);
-        match enter(
-            &mut self.index,
-            &mut self.frame_keys,
-            (process, page),
-            entry,
-        ) {
+        match self.index.put((process, page), old, entry) {
             Ok(()) => Ok(()),
             Err(error) => {
                 let _ = self.entries.remove(&(process, page));
@@ -120,18 +108,23 @@ impl Pages {
     pub(crate) fn frame_names(&self, frame: u32) -> u64
         ensures { result ≡ how_many (λ e. names_frame frame e.1) (entries_of self.now.entries) }
     {
-        match self.frame_keys.of(u64::from(frame)) {
-            None => 0,
-            Some(keys) => keys.len() as u64,
-        }
+        self.index.frames().names(frame)
     }
 
-    /// How many entries name a frame, and how many pairs cache at it.
-    pub(crate) fn frame_uses(&self, frame: u32) -> u64
-        ensures { result ≡ how_many (λ e. names_frame frame e.1) (entries_of self.now.entries)
-            + how_many (λ c. frame == c.frame) (map cached_of self.now.cache) }
+    /// How many pairs cache at a frame.
+    pub(crate) fn frame_pairs(&self, frame: u32) -> u64
+        ensures { result ≡ how_many (λ c. frame == c.frame) (map cached_of self.now.cache) }
     {
-        self.index.frame_uses.count(frame)
+        self.index.frames().pairs(frame)
+    }
+
+    /// Whether an entry names the frame, or a pair caches at it.
+    pub(crate) fn is_frame_used(&self, frame: u32) -> bool
+        ensures { result ≡ nat_lt 0
+            (how_many (λ e. names_frame frame e.1) (entries_of self.now.entries)
+            + how_many (λ c. frame == c.frame) (map cached_of self.now.cache)) }
+    {
+        self.index.frames().is_used(frame)
     }
 
     /// How many entries name a slot.
@@ -140,16 +133,14 @@ impl Pages {
             ≡ how_many (λ e. names_slot slot e.1) (entries_of self.now.entries) }
         ensures fits { result < 2 ^ 63 }
     {
-        are_few(&self.entries, self.cache.as_slice());
-        self.index.slot_names.count(slot)
+        self.index.slots().names(slot)
     }
 
-    /// How many entries name a slot, and how many pairs cache it.
-    pub(crate) fn slot_uses(&self, slot: Slot) -> u64
-        ensures { result ≡ how_many (λ e. names_slot slot e.1) (entries_of self.now.entries)
-            + how_many (λ c. same_slot slot c.slot) (map cached_of self.now.cache) }
+    /// How many pairs cache a slot.
+    pub(crate) fn slot_pairs(&self, slot: Slot) -> u64
+        ensures { result ≡ how_many (λ c. same_slot slot c.slot) (map cached_of self.now.cache) }
     {
-        self.index.slot_uses.count(slot)
+        self.index.slots().pairs(slot)
     }
 
     /// How many of the first frames are used.
@@ -159,19 +150,21 @@ impl Pages {
             + how_many (λ c. f == c.frame) (map cached_of self.now.cache)))
             (range_with_len 0 frames)) }
     {
-        self.index.frame_uses.len_within(0, frames)
+        self.index.frames().len_within(0, frames)
     }
 
     /// How many slots of an area are used, where it has so many pages.
     pub(crate) fn slots_used(&self, area: u8, pages: u32) -> u32
-        ensures { result ≡ length (filter (λ page. nat_lt 0
-            (how_many (λ e. names_slot (record { area = area; page = page }) e.1)
-            (entries_of self.now.entries)
-            + how_many (λ c. same_slot (record { area = area; page = page }) c.slot)
-            (map cached_of self.now.cache)))
-            (range_with_len 1 (pages - 1))) }
+        ensures { result ≡ length (used_pages self.now area pages) }
     {
-        self.index.slot_uses.len_within(area, 1, pages)
+        self.index.slots().len_within(area, 1, pages)
+    }
+
+    /// The least page of a slot of an area that is used, where it has so many pages.
+    pub(crate) fn least_used(&self, area: u8, pages: u32) -> Option<u32>
+        ensures { result ≡ slice_get (used_pages self.now area pages) 0 }
+    {
+        self.index.slots().least(area, 1, pages)
     }
 
     /// The keys of the entries that name a frame, rising.
@@ -184,32 +177,26 @@ impl Pages {
             ≡ keys_of (filter (λ e. names_frame frame (entry_of e.1)) self.now.entries)) }
         ensures rising { IsStrictlySortedBy key_cmp (keys_of self.now.entries) }
     {
-        self.frame_keys.keys(alloc, u64::from(frame))
+        self.index.frames().keys(alloc, frame)
     }
 
-    /// Whether the entry of a page names a frame and is seen.
-    fn is_seen_at(&self, key: (u16, u64), frame: u32) -> bool
-        ensures { result ≡ seen_at frame self.now.entries key }
+    /// The keys of the entries that name a slot, rising.
+    pub(crate) fn keys_of_slot(
+        &self,
+        alloc: Global,
+        slot: Slot,
+    ) -> Result<Vec<(u16, u64)>, AllocError>
+        ensures { IfOk result (λ keys. keys.items
+            ≡ keys_of (filter (λ e. names_slot slot (entry_of e.1)) self.now.entries)) }
     {
-        match self.entries.get(&key) {
-            None => false,
-            Some(entry) => entry.names_seen(frame),
-        }
+        self.index.slots().keys(alloc, slot)
     }
 
     /// Whether an entry of a frame is seen.
     pub(crate) fn is_seen(&self, frame: u32) -> bool
         ensures { result ≡ list_any (λ e. names_seen frame e.1) (entries_of self.now.entries) }
     {
-        let Some(keys) = self.frame_keys.of(u64::from(frame)) else {
-            return false;
-        };
-        for key in keys {
-            if self.is_seen_at(*key, frame) {
-                return true;
-            }
-        }
-        false
+        self.index.frames().seen(frame) > 0
     }
 
     /// The entries of a frame change. Without memory a part may have changed.
@@ -230,6 +217,18 @@ impl Pages {
         Ok(())
     }
 
+    /// The entries of a frame are unseen. Without memory a part may have changed.
+    pub(crate) fn unsee(&mut self, alloc: Global, frame: u32) -> Result<(), AllocError>
+        ensures entries { OnOk result (self.new.entries
+            ≡ map (λ e. (e.0, without_seen_of frame e.1)) self.old.entries) }
+        ensures cache { self.new.cache ≡ self.old.cache }
+    {
+        if !self.is_seen(frame) {
+            return Ok(());
+        }
+        self.change(alloc, frame, Change::Unseen)
+    }
+
     /// The entry of a page changes, if it has one that names the frame. Without memory it may have
     /// lost it.
     fn change_at(&mut self, key: (u16, u64), frame: u32, change: Change) -> Result<(), AllocError>
@@ -241,9 +240,18 @@ impl Pages {
             → IsStrictlySortedBy key_cmp (keys_of self.new.entries) }
         ensures cache { self.new.cache ≡ self.old.cache }
     {
-        match self.entries().get(&key).copied() {
-            None => Ok(()),
-            Some(entry) => self.set(key.0, key.1, entry.changed_at(frame, change)),
+        let Some(place) = self.entries.get_mut(&key) else {
+            return Ok(());
+        };
+        let old = *place;
+        let entry = old.changed_at(frame, change);
+        *place = entry;
+        match self.index.put(key, Some(old), entry) {
+            Ok(()) => Ok(()),
+            Err(error) => {
+                let _ = self.entries.remove(&key);
+                Err(error)
+            }
         }
     }
 
@@ -252,7 +260,7 @@ impl Pages {
         ensures cache { OnOk result (self.new.cache ≡ pair ∷ self.old.cache) }
         ensures entries { self.new.entries ≡ self.old.entries }
     {
-        are_few(&self.entries, self.cache.as_slice());
+        are_few(self.cache.as_slice());
         self.index.hold(pair)?;
         match self.cache.insert(0, pair) {
             Ok(()) => Ok(()),
@@ -279,7 +287,7 @@ impl Pages {
         ensures cache { OnOk result (self.new.cache ≡ set self.old.cache place pair) }
         ensures entries { self.new.entries ≡ self.old.entries }
     {
-        are_few(&self.entries, self.cache.as_slice());
+        are_few(self.cache.as_slice());
         self.index.hold(pair)?;
         self.index.drop_pair(self.cache[place]);
         self.cache[place] = pair;
@@ -300,62 +308,17 @@ impl Pages {
     }
 }
 
-/// A frame's key goes, if the entry named one.
-fn unlist(keys: &mut KeyIndex, key: (u16, u64), entry: Option<Entry>)
-    ensures { (f : ℕ) (k : Key) → has_key keys.new f k
-        ≡ (not (names_in f entry && same_key key k) && has_key keys.old f k) }
+/// There is memory for fewer pairs than these.
+fn are_few(cache: &[Cached])
+    ensures { length cache.now < 2 ^ 63 }
 {
-    if let Some(Entry::InFrame { frame, .. }) = entry {
-        keys.take(u64::from(frame), key);
-    }
-}
-
-/// A frame has the key, if the entry names one. Without memory all stays.
-fn list(keys: &mut KeyIndex, key: (u16, u64), entry: Entry) -> Result<(), AllocError>
-    ensures ok { OnOk result ((f : ℕ) (k : Key) → has_key keys.new f k
-        ≡ ((names_frame f (entry_of entry) && same_key key k) || has_key keys.old f k)) }
-    ensures err { OnErr result (keys.new ≡ keys.old) }
-{
-    match entry {
-        Entry::InFrame { frame, .. } => keys.add(u64::from(frame), key),
-        _ => Ok(()),
-    }
-}
-
-/// The entry is counted, and its key listed. Without memory all stays.
-fn enter(
-    index: &mut Index,
-    keys: &mut KeyIndex,
-    key: (u16, u64),
-    entry: Entry,
-) -> Result<(), AllocError>
-    requires { HasRoom index.old }
-    ensures counts { OnOk result (Adds index.old index.new (entry_marks (entry_of entry))) }
-    ensures keys { OnOk result ((f : ℕ) (k : Key) → has_key keys.new f k
-        ≡ ((names_frame f (entry_of entry) && same_key key k) || has_key keys.old f k)) }
-    ensures kept { OnErr result (Keeps index.old index.new) }
-    ensures same { OnErr result (keys.new ≡ keys.old) }
-{
-    index.add(entry)?;
-    let listed = list(keys, key, entry);
-    if listed.is_err() {
-        index.take(Some(entry));
-    }
-    listed
-}
-
-/// There is memory for fewer than these.
-fn are_few(entries: &BTreeMap<(u16, u64), Entry>, cache: &[Cached])
-    ensures entries { length entries.now.entries < 2 ^ 63 }
-    ensures cache { length cache.now < 2 ^ 63 }
-{
-    let _ = (entries.len(), cache.len());
+    let _ = cache.len();
 }
 
 /// The pairs of a slot go.
 fn drop_pairs(index: &mut Index, cache: &[Cached], slot: Slot)
-    ensures { (es : List (Key × PlainEntry)) → Counts index.old es (map cached_of cache.now)
-        → Counts index.new es
+    ensures keys { KeepsKeys index.old index.new }
+    ensures pairs { CountsPairs index.old (map cached_of cache.now) → CountsPairs index.new
         (map cached_of (filter (λ c. not (same_slot slot c.slot)) cache.now)) }
 {
     for pair in cache {

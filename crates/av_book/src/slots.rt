@@ -5,7 +5,7 @@ ghost use Rattle.av_plain.specs.Ledger.{free_slots, has_free, has_free_slot, is_
 ghost use Rattle.av_plain.specs.Ledger.{is_on, may_give, no_slot, slot_count};
 ghost use Rattle.av_plain.specs.Ledger.{is_open as is_open_by, slots_in_use};
 ghost use Rattle.av_base.specs.Words.{how_many};
-ghost use Rattle.av_book.specs.Filters.{gives};
+ghost use Rattle.av_book.specs.Filters.{IsFirst, gives};
 ghost use Rattle.av_book.specs.Book.{area_of, ledger_of};
 ghost use Rattle.av_book.specs.Machine.{setting_of};
 
@@ -34,6 +34,15 @@ impl Book {
             ≡ length (slots_in_use (setting_of machine.now) (ledger_of self.now) area) }
     {
         self.pages.slots_used(area, machine.size(area))
+    }
+
+    /// The least slot of an area in use, if one is.
+    pub fn least_in_use(&self, machine: &Machine, area: u8) -> Option<Slot>
+        ensures { IsFirst area (slots_in_use (setting_of machine.now) (ledger_of self.now) area)
+            result }
+    {
+        let page = self.pages.least_used(area, machine.size(area))?;
+        Some(Slot { area, page })
     }
 
     /// How many slots of an area that is on are free.

@@ -1,2 +1,2 @@
-pub mod KeyIndex
-pub mod Uses
+pub mod Holders
+pub mod Holding

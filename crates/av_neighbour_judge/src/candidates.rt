@@ -44,37 +44,44 @@ fn may_merge(memories: &Memories, key: (u16, u64)) -> bool
 }
 
 /// Whether a page is locked whose entry names the frame.
-fn is_locked(book: &Book, memories: &Memories, frame: u32) -> bool
-    ensures { (w : World) → IsWorld memories.now w
-        → result ≡ is_locked_in w (ledger_of book.now) frame }
+fn is_locked(book: &Book, memories: &Memories, frame: u32) -> Result<bool, AllocError>
+    ensures { IfOk result (λ locked. (w : World) → IsWorld memories.now w
+        → locked ≡ is_locked_in w (ledger_of book.now) frame) }
 {
-    for (key, entry) in book.entries().iter() {
-        if entry.names_frame(frame) && memories.locks(key.0, key.1) {
-            return true;
+    let keys = book.keys_of_frame(book.alloc, frame)?;
+    let mut rest = keys.as_slice();
+    while let [key, others @ ..] = rest {
+        if memories.locks(key.0, key.1) {
+            return Ok(true);
         }
+        rest = others;
     }
-    false
+    Ok(false)
 }
 
 /// The frame of a page, if it may join another.
-pub fn candidate(book: &Book, memories: &Memories, key: (u16, u64)) -> Option<u32>
-    ensures below { IfSome result (λ frame. key.1 < top_page) }
-    ensures is { (w : World) → IsWorld memories.now w
-        → result ≡ candidate_in w (ledger_of book.now) key }
+pub fn candidate(
+    book: &Book,
+    memories: &Memories,
+    key: (u16, u64),
+) -> Result<Option<u32>, AllocError>
+    ensures below { IfOk result (λ found. IfSome found (λ frame. key.1 < top_page)) }
+    ensures is { IfOk result (λ found. (w : World) → IsWorld memories.now w
+        → found ≡ candidate_in w (ledger_of book.now) key) }
 {
     match book.entry(key.0, key.1) {
         Some(Entry::InFrame { frame, .. }) => {
             if may_merge(memories, key)
                 && !book.is_merged(frame)
                 && book.slot_of(frame).is_none()
-                && !is_locked(book, memories, frame)
+                && !is_locked(book, memories, frame)?
             {
-                Some(frame)
+                Ok(Some(frame))
             } else {
-                None
+                Ok(None)
             }
         }
-        _ => None,
+        _ => Ok(None),
     }
 }
 

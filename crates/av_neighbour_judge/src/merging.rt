@@ -88,7 +88,8 @@ fn merges(
     let mut earlier = Vec::new(book.alloc);
     let mut rest = keys;
     while let [key, others @ ..] = rest {
-        if let Some(frame) = candidate(book, memories, *key) {
+        let found = candidate(book, memories, *key)?;
+        if let Some(frame) = found {
             let merged = merged_like(book, machine, memories, pages, frame);
             let other = other_like(memories, pages, earlier.as_slice(), frame);
             joins(book, notes, *key, merged, other)?;

@@ -10,7 +10,6 @@ ghost use Rattle.av_world.specs.Memories.{IsWorld};
 ghost use Rattle.av_swapoff_judge.specs.Close.{AreEmptied, Closes, IsWhole, close_of};
 
 use crate::emptying::{Emptying, empties};
-use crate::users::least_in_use;
 use av_access_judge::sparing;
 use av_book::{Book, Machine, Spared};
 use av_judge::{Unit, completes};
@@ -57,7 +56,7 @@ fn empties_all(
         (ledger_of book.old) unit.old.rest.now (option_map close_of found)
         (ledger_of book.new)) }
 {
-    while let Some(slot) = least_in_use(book, machine, area) {
+    while let Some(slot) = book.least_in_use(machine, area) {
         let spared = sparing_closing(unit.alloc, book, memories, area)?;
         match empties(book, unit, machine, &spared, slot)? {
             None => return Ok(None),

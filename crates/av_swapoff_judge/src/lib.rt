@@ -7,8 +7,8 @@
 //! not be sound. After want of memory a book may have followed a part of the notes.
 //!
 //! Not judged here: the line of the answer, and that the area is off in the end. What a pass spares
-//! is asked of the memories anew at each slot, and the least slot in use is looked for from the
-//! first on: that costs a step for each entry and for each slot of the area.
+//! is asked of the memories anew at each slot: that costs a step for each entry where a page is
+//! locked. The least slot in use and the entries that name it are looked up.
 //!
 //! Only tested: nothing.
 #![tactic(auto)]

@@ -1,48 +1,18 @@
-//! The slots of an area in use, and the entries that name a slot.
+//! The entries that name a slot.
 
 ghost use Rattle.std.specs.Prelude.{◌≡◌, ◌∷◌, [], IfOk, map};
 ghost use Rattle.av_base.specs.Keys.{Key};
 ghost use Rattle.av_base.specs.Page.{address_of};
 ghost use Rattle.av_trace.specs.declared.note.Note.TheVariants as notes;
-ghost use Rattle.av_plain.specs.Ledger.{keys_of_slot, slots_in_use};
 ghost use Rattle.av_plain.specs.Swapoff.{map_notes};
 ghost use Rattle.av_book.specs.Book.{ledger_of};
-ghost use Rattle.av_book.specs.Machine.{setting_of};
 ghost use Rattle.av_judge.specs.Finds.{Reads};
-ghost use Rattle.av_swapoff_judge.specs.Users.{IsFirst};
 
 use av_base::{PAGE_SIZE, Slot};
-use av_book::{Book, Machine};
+use av_book::Book;
 use av_judge::{ADDRESS_PAGES, Unit, reads};
 use av_trace::Note;
-use std::alloc::{AllocError, Global};
-
-/// The least slot of an area in use, if one is.
-pub fn least_in_use(book: &Book, machine: &Machine, area: u8) -> Option<Slot>
-    ensures { IsFirst area (slots_in_use (setting_of machine.now) (ledger_of book.now) area)
-        result }
-{
-    for page in 1..machine.size(area) {
-        let slot = Slot { area, page };
-        if book.count(slot) > 0 {
-            return Some(slot);
-        }
-    }
-    None
-}
-
-/// The keys of the entries that name a slot, by process and page.
-fn keys_of(book: &Book, alloc: Global, slot: Slot) -> Result<Vec<(u16, u64)>, AllocError>
-    ensures { IfOk result (λ made. made.items ≡ keys_of_slot (ledger_of book.now) slot) }
-{
-    let mut made = Vec::new(alloc);
-    for (key, entry) in book.entries().iter() {
-        if entry.names_slot(slot) {
-            made.push(*key)?;
-        }
-    }
-    Ok(made)
-}
+use std::alloc::AllocError;
 
 /// The entry of a page becomes a frame.
 fn maps(
@@ -102,7 +72,7 @@ pub fn frees(
     ensures { IfOk result (λ read. Reads (λ ns. ns ≡ map_notes (ledger_of book.old) slot frame)
         (ledger_of book.old) unit.old.rest.now read (ledger_of book.new) unit.new.rest.now) }
 {
-    let keys = keys_of(book, unit.alloc, slot)?;
+    let keys = book.keys_of_slot(unit.alloc, slot)?;
     if !maps_all(book, unit, keys.as_slice(), frame)? {
         return Ok(false);
     }

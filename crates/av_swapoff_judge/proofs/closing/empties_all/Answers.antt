@@ -8,7 +8,7 @@ use Rattle.av_judge.specs.Stage.{Meets}
 use Rattle.av_judge.proofs.FetchLaws.{some-left}
 use Rattle.av_swapoff_judge.specs.Close.{AreEmptied, IsWhole}
 use Rattle.av_swapoff_judge.specs.Empty.{Empties, IsStuck, emptied_of}
-use Rattle.av_swapoff_judge.specs.Users.{IsFirst}
+use Rattle.av_book.specs.Filters.{IsFirst}
 use Rattle.av_swapoff_judge.specs.declared.emptying.Emptying.{Emptying}
 use Rattle.av_swapoff_judge.proofs.CloseLaws.{emptied-halt, emptied-more, emptied-neither, emptied-over, emptied-then, none-left}
 use Rattle.av_swapoff_judge.proofs.closing.empties_all.Goals as goal

@@ -9,6 +9,7 @@ abbrev pub invariant-loop-number : goal.invariant-loop-number
 invariant-loop-number l = record {
   can_next : (goal.iterator-loop-number).can_next l.number-iterator;
   is_finite : (goal.iterator-loop-number).is_finite l.number-iterator;
-  left : l.n + sum_by (free_slots (setting_of l.machine) (ledger_of l.self)) (areas_of l.number-iterator) ≡ sum_by (free_slots (setting_of l.machine) (ledger_of l.self)) (areas_of l.self.on.entries);
+  left : l.n + sum_by (free_slots (setting_of l.machine) (ledger_of l.self)) (areas_of l.number-iterator)
+      ≡ sum_by (free_slots (setting_of l.machine) (ledger_of l.self)) (areas_of l.self.on.entries);
   fits : l.n + length l.number-iterator * 2 ^ 32 < 2 ^ 95;
 }

@@ -1,10 +1,10 @@
-use Rattle.std.proofs.Common.{map, ◌∙◌}
+use Rattle.std.proofs.Common.{ap, map, ◌∙◌}
 use Rattle.std.specs.Prelude.{nat_lt}
-use Rattle.av_plain.specs.Ledger.{slot_entries}
-use Rattle.av_book.specs.Book.{cached_of, ledger_of}
-use Rattle.av_book.proofs.UseLaws.{cached-is}
+use Rattle.av_plain.specs.Ledger.{Cached as PlainCached, same_slot}
+use Rattle.av_book.specs.Book.{cached_of}
+use Rattle.av_book.proofs.RangeLaws.{any-count}
 use Rattle.av_book.proofs.book.Book.is_cached.Goals as goal
 
 pub returns : goal.returns
-returns c = (λ i. nat_lt (c.slot_names.ensures.names i) (c.slot_uses.ensures i))
-    ∙ cached-is (slot_entries (ledger_of c.args.self.now) c.args.slot) c.args.slot (map cached_of c.args.self.now.pages.cache)
+returns c = ap (nat_lt 0) c.slot_pairs.ensures
+    ∙ any-count (λ (t : PlainCached). same_slot c.args.slot t.slot) (map cached_of c.args.self.now.pages.cache)

@@ -1,12 +1,11 @@
-use Rattle.std.proofs.Common.{◌==◌, map}
-use Rattle.av_plain.specs.Ledger.{Cached as PlainCached, map_count}
-use Rattle.av_book.specs.Book.{cached_of, ledger_of}
+use Rattle.std.proofs.Common.{◌==◌, map, sym, ◌∙◌}
+use Rattle.av_plain.specs.Ledger.{Cached as PlainCached}
+use Rattle.av_book.specs.Book.{cached_of}
 use Rattle.av_book.proofs.UseLaws.{no-pair, no-use}
 use Rattle.av_book.proofs.book.Book.slot_of.Goals as goal
 
-pub returns-then-frame_uses-frame_names : goal.returns-then-frame_uses-frame_names
-returns-then-frame_uses-frame_names c =
+pub returns-then-frame_pairs-eq0 : goal.returns-then-frame_pairs-eq0
+returns-then-frame_pairs-eq0 c =
     let cs = map cached_of c.args.self.now.pages.cache in
     let p = λ (t : PlainCached). c.args.frame == t.frame in
-    no-pair (λ t. t.slot) p cs
-    (no-use (map_count (ledger_of c.args.self.now) c.args.frame) p cs _ _ c.frame_uses.ensures c.frame_names.ensures c.if-frame_uses-frame_names.true)
+    no-pair (λ t. t.slot) p cs (no-use p cs (sym c.frame_pairs.ensures ∙ c.if-frame_pairs-eq0.true))

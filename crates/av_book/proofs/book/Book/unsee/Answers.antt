@@ -7,17 +7,17 @@ use Rattle.av_book.proofs.BookLaws.{change-entries, unseen-is}
 use Rattle.av_book.proofs.book.Book.unsee.Goals as goal
 
 pub returns : goal.returns
-returns c = on_ok_weaker c.change.result
+returns c = on_ok_weaker c.unsee.result
     (λ changes. let same = ap entries_of changes
     ∙ change-entries (without_seen_of c.args.frame) (λ e. cond (names_frame c.args.frame e) (without_seen e) e)
     (unseen-is c.args.frame) c.args.self.now.pages.entries in
     λ i. record {
       entries = same i;
-      cache = map cached_of (c.change.ensures.cache i);
+      cache = map cached_of (c.unsee.ensures.cache i);
       flight = c.args.self.now.flight.items;
       active = c.args.self.now.active.items;
       inactive = c.args.self.now.inactive.items;
       merged = c.args.self.now.merged.items;
       on = areas_of c.args.self.now.on.entries;
     })
-    c.change.ensures.entries
+    c.unsee.ensures.entries

@@ -1,20 +1,19 @@
-use Rattle.std.proofs.Common.{map, subst, sym}
+use Rattle.std.proofs.Common.{None, subst, sym}
 use Rattle.std.specs.Prelude.{option_map}
-use Rattle.av_book.specs.Entries.{cached_of, entries_of, entry_of}
-use Rattle.av_book.specs.Index.{Counts, Takes, marks_of}
-use Rattle.av_book.proofs.CountLaws.{entry-gone}
-use Rattle.av_book.proofs.KeyLaws.{names-less}
+use Rattle.av_book.specs.Entries.{entry_of}
+use Rattle.av_book.specs.Index.{Tells}
+use Rattle.av_book.proofs.IndexLaws.{tells-all}
+use Rattle.av_book.proofs.PairLaws.{pairs-kept}
 use Rattle.av_book.proofs.pages.Pages.remove.Goals as goal
 
+pub take-requires : goal.take-requires
+take-requires c = subst (λ o. Tells c.self.inside.index (c.args.process, c.args.page) (option_map entry_of o)) (sym c.remove-entry.ensures.value)
+    (c.self.invariant.tells (c.args.process, c.args.page))
+
 pub invariant_of-self : goal.invariant_of-self
-invariant_of-self c =
-    let cs = map cached_of c.self.inside.cache.items in
-    let gone = entry-gone _ _ c.self.inside.entries.entries cs (c.args.process, c.args.page) c.self.invariant.counts
-    (subst (λ o. Takes c.self.inside.index c.take.new.self (marks_of (option_map entry_of o))) c.remove-entry.ensures.value c.take.ensures) in
-    let es = c.self.inside.entries.entries in
-    record {
-      listed = λ f k. names-less f (c.args.process, c.args.page) k es c.remove-entry.new.self.entries c.remove-entry.result _ _ c.remove-entry.ensures.value
-          (c.remove-entry.ensures.updates.0 k) (c.self.invariant.listed f k) (c.unlist.ensures f k);
-      rising = c.remove-entry.ensures.ordered;
-      counts = subst (λ es. Counts c.take.new.self (entries_of es) cs) (sym c.remove-entry.ensures.entries) gone;
-    }
+invariant_of-self c = record {
+  rising = c.remove-entry.ensures.ordered;
+  tells = tells-all _ _ c.self.inside.entries.entries c.remove-entry.new.self.entries (c.args.process, c.args.page) None c.self.invariant.tells
+      c.remove-entry.ensures.updates.0 c.take.ensures.others c.take.ensures.gone;
+  pairs = pairs-kept _ _ _ c.self.invariant.pairs c.take.ensures.pairs;
+}
