@@ -252,6 +252,7 @@ remapped from n to m stays old new q h marks bytes below = record {
         (byte_in (option_and_then (get nat_cmp old.bytes) (cond a (cond b (Some (from + (page - to))) None) (cond c None (Some page)))))
         (cond a (cond b (q (from + (page - to))) (option_map wiped (q (from + n - 1)))) (cond c (left_behind stays (q page)) (q page)))
     by page true true c = h.pages (from + (page - to))
-    by page true false c = one-wiped true (rs (from + n - 1)) (get nat_cmp old.bytes (from + n - 1)) byte_in (q (from + n - 1)) zero-byte (h.pages (from + n - 1))
+    by page true false c = one-wiped true (rs (from + n - 1)) (get nat_cmp old.bytes (from + n - 1)) byte_in (q (from + n - 1))
+        zero-byte (h.pages (from + n - 1))
     by page false b true = one-behind stays (rs page) (byte_in (get nat_cmp old.bytes page)) (q page) (h.pages page)
     by page false b false = h.pages page

@@ -11,7 +11,8 @@ use Rattle.av_world.specs.declared.space.Space.{Space}
 -- what is said of n pages from one on is changed, and their bytes are not
 pub record AreChanged (old new : Space) (from n : ℕ) (change : Change) : Type 0 where
   pub ranges : (page : ℕ) → marks_at new.ranges page ≡ (if within from n page
-      then option_and_then (change_of change) (marks_at old.ranges page) else marks_at old.ranges page)
+      then option_and_then (change_of change) (marks_at old.ranges page)
+      else marks_at old.ranges page)
   pub bytes : new.bytes ≡ old.bytes
 
 -- n pages from one on have no bytes but zeros, and what is said of them stays

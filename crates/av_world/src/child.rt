@@ -47,7 +47,8 @@ impl Space {
     fn child_ranges(&self) -> Result<Ranges, AllocError>
         ensures below { IfOk result (λ made. (page : ℕ) → page < top_page
             → marks_at made page ≡ option_and_then marks_of_child (marks_at self.now.ranges page)) }
-        ensures top { IfOk result (λ made. (page : ℕ) → top_page ≤ page → marks_at made page ≡ None) }
+        ensures top { IfOk result (λ made. (page : ℕ) → top_page ≤ page
+            → marks_at made page ≡ None) }
     {
         let mut made = Ranges::new(self.alloc);
         let mut at = 0;

@@ -5,9 +5,9 @@ ghost use Rattle.av_vma.specs.Join.{same_prot as same_prot_of};
 ghost use Rattle.av_ranges.specs.Ranges.{marks_at};
 ghost use Rattle.av_world.specs.Kinds.{is_kind, pages_before};
 
-use av_ranges::Marks;
 use crate::space::Space;
 use av_base::Prot;
+use av_ranges::Marks;
 
 /// What a page is like.
 #[derive(Clone, Copy, Drop)]

@@ -8,9 +8,9 @@ ghost use Rattle.av_world.specs.Space.{IsSpace};
 ghost use Rattle.av_world.specs.Mapping.{AreChanged, AreWiped};
 
 use crate::kept::wipe;
-use av_ranges::{Change, Marks};
 use crate::space::Space;
 use av_base::{Flag, Flags, Prot};
+use av_ranges::{Change, Marks};
 use std::alloc::AllocError;
 
 impl Space {

@@ -40,7 +40,8 @@ fn copy(said: &Ranges, from: u64, n: u64, others: &mut Ranges, to: u64) -> Resul
     requires few { from + n < 2 ^ 64 }
     requires new_few { to + n < 2 ^ 64 }
     ensures { OnOk result ((page : ℕ) → marks_at others.new page ≡ (if within to n page
-        then option_or (marks_at said.now (from + (page - to))) (marks_at others.old page) else marks_at others.old page)) }
+        then option_or (marks_at said.now (from + (page - to))) (marks_at others.old page)
+        else marks_at others.old page)) }
 {
     let end = from + n;
     let mut at = from;

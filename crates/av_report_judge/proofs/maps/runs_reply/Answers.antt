@@ -16,13 +16,15 @@ cut-of s bounds cut is h = subst (λ bounds. AreCut (marks_at bounds) cut) is h
 
 pub returns-then-not-branch : goal.returns-then-not-branch
 returns-then-not-branch c = λ w p has.
-    maps-wide c.args.space.now (pages w p) c.in_ok-cut.cut.items c.in_ok-add_runs.field-0 c.add_runs.new.rows has (cut-of c.args.space.now c.ranges-2.result.now c.in_ok-cut.cut.items c.ranges-2.ensures c.in_ok-cut.ensures)
+    maps-wide c.args.space.now (pages w p) c.in_ok-cut.cut.items c.in_ok-add_runs.field-0 c.add_runs.new.rows has
+    (cut-of c.args.space.now c.ranges-2.result.now c.in_ok-cut.cut.items c.ranges-2.ensures c.in_ok-cut.ensures)
     (subst (λ (cs : List Range). AreMadeRuns cs c.in_ok-add_runs.field-0 c.add_runs.new.rows) c.as_slice.ensures.value c.in_ok-add_runs.ensures)
     c.if-not-branch.true
 
 pub returns : goal.returns
 returns c = λ w p has.
-    maps-told c.args.space.now (pages w p) c.in_ok-cut.cut.items c.in_ok-add_runs.field-0 c.add_runs.new.rows has (cut-of c.args.space.now c.ranges-2.result.now c.in_ok-cut.cut.items c.ranges-2.ensures c.in_ok-cut.ensures)
+    maps-told c.args.space.now (pages w p) c.in_ok-cut.cut.items c.in_ok-add_runs.field-0 c.add_runs.new.rows has
+    (cut-of c.args.space.now c.ranges-2.result.now c.in_ok-cut.cut.items c.ranges-2.ensures c.in_ok-cut.ensures)
     (subst (λ (cs : List Range). AreMadeRuns cs c.in_ok-add_runs.field-0 c.add_runs.new.rows) c.as_slice.ensures.value c.in_ok-add_runs.ensures)
     (record { answer = Runs (length c.as_slice-2.result.now); notes = c.new-reply.result.notes; rows = c.add_runs.new.rows })
     c.if-not-branch.false

@@ -24,7 +24,8 @@ returns-in-Some c = on-ok c.write.result c.write.ensures (λ is w h alive.
       spaces = subst (λ es. AreSpaces es (set_process w c.args.number q)) (sym follows.0)
           (spaces-set c.args.self.now.spaces.entries w c.args.number c.write.new.self q (true-of h.order) h.spaces f.0 (is (pages w c.args.number) f.1));
       order = sorted-set w c.args.number q h.order;
-      noted = noted-set c.args.self.now.spaces (c.get_mut.follows.lender c.write.new.self) c.args.self.now.locking c.args.self.now.locking c.args.number h.noted c.write.new.self
+      noted = noted-set c.args.self.now.spaces (c.get_mut.follows.lender c.write.new.self) c.args.self.now.locking c.args.self.now.locking
+          c.args.number h.noted c.write.new.self
           (follows.3 (there _ c.in-Some.space.now (sym c.in-Some.ensures.value))).0 (λ q other was. was)
           (λ page locked. h.noted c.args.number c.in-Some.space.now page (sym c.in-Some.ensures.value)
           (sym (written-lock c.in-Some.space.now c.write.new.self (pages w c.args.number) c.args.address bytes page f.1
