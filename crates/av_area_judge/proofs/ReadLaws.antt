@@ -21,9 +21,9 @@ use Rattle.av_trace.proofs.RowLaws.{area_line-is}
 use Rattle.av_trace.proofs.Split.{lacks-append, lacks-cons, lacks as has_none}
 use Rattle.av_judge.specs.Notes.{lacks}
 use Rattle.av_judge.proofs.NoteLaws.{lacks-same}
-use Rattle.av_area_judge.specs.Read.{AreWords, bytes_behind, joined, shown_areas}
+use Rattle.av_area_judge.specs.Read.{AreWords, bytes_behind, words_with, shown_areas}
 use Rattle.av_area_judge.specs.declared.read.Words.{Words}
-use Rattle.av_area_judge.proofs.WordLaws.{IsPiece, label-same, piece-joined}
+use Rattle.av_area_judge.proofs.WordLaws.{IsPiece, label-same, piece-words_with}
 
 -- ---- the words of a row
 
@@ -76,16 +76,16 @@ words-cut (Run start end prot) line w c is read = absurd is
 words-cut (Entry p address) line w c is read = absurd is
 words-cut (Area start end prot offset own chain flags) line w c is read =
     let all = c.first.cut [] (row_line (Area start end prot offset own chain flags)) refl read in
-    let one = piece-joined 32 (range_text start end) (area_words prot offset own chain flags) c.from_range c.range c.from_prot c.second
+    let one = piece-words_with 32 (range_text start end) (area_words prot offset own chain flags) c.from_range c.range c.from_prot c.second
     (spaceless (range_text start end) (range-named is.0 is.1).plain.space) all.1 in
     let ends = c.addresses.cut (hex start) (hex end) (sym (lacks-same 45 (hex start)) ∙ lacks-low 16 45 start sixteen (omega arith) is.0) one.0 in
-    let two = piece-joined 32 (prot_text prot) (link_words offset own chain ++ flag_words flags) c.from_prot w.prot.now c.from_offset c.third
+    let two = piece-words_with 32 (prot_text prot) (link_words offset own chain ++ flag_words flags) c.from_prot w.prot.now c.from_offset c.third
     (spaceless (prot_text prot) (plain-prot prot).space) one.1 in
-    let three = piece-joined 32 (codes "off=" ++ hex offset) ((codes "own=" ++ own_text own) ∷ (codes "chain=" ++ chain_text chain) ∷ flag_words flags)
+    let three = piece-words_with 32 (codes "off=" ++ hex offset) ((codes "own=" ++ own_text own) ∷ (codes "chain=" ++ chain_text chain) ∷ flag_words flags)
     c.from_offset c.offset c.from_own c.fourth (labelled (codes "off=") (hex offset) refl (hex-named is.2).plain.space) two.1 in
-    let four = piece-joined 32 (codes "own=" ++ own_text own) ((codes "chain=" ++ chain_text chain) ∷ flag_words flags) c.from_own c.own c.from_chain
+    let four = piece-words_with 32 (codes "own=" ++ own_text own) ((codes "chain=" ++ chain_text chain) ∷ flag_words flags) c.from_own c.own c.from_chain
     c.fifth (labelled (codes "own=") (own_text own) refl (own-spaceless own is.3)) three.1 in
-    let five = piece-joined 32 (codes "chain=" ++ chain_text chain) (flag_words flags) c.from_chain c.chain w.flags.now c.sixth
+    let five = piece-words_with 32 (codes "chain=" ++ chain_text chain) (flag_words flags) c.from_chain c.chain w.flags.now c.sixth
     (labelled (codes "chain=") (chain_text chain) refl (chain-spaceless chain is.4)) four.1 in (
       ends.0,
       ends.1,
@@ -104,7 +104,7 @@ pub record ReadOf (w : Words) (start end : ℕ) (prot : Prot) (offset : ℕ) (ow
   pub offsets : (n : ℕ) → IsWide n → w.offset.now ≡ hex n → offset ≡ n
   pub owns : (o : Option ℕ) → IfSome o IsWide → w.own.now ≡ own_text o → own ≡ o
   pub chains : (ns : List ℕ) → AllByRecursion IsWide ns → w.chain.now ≡ chain_text ns → chain ≡ ns
-  pub flagged : (f : Flags) → w.flags.now ≡ joined 32 (flag_words f) → flags ≡ f
+  pub flagged : (f : Flags) → w.flags.now ≡ words_with 32 (flag_words f) → flags ≡ f
 
 pub row-same : (row : Row) (w : Words) (start end : ℕ) (prot : Prot) (offset : ℕ) (own : Option ℕ) (chain : List ℕ) (flags : Flags)
     → ReadOf w start end prot offset own chain flags → IsAreaRow row → AreWords row w → Area start end prot offset own chain flags ≡ row

@@ -13,7 +13,7 @@ use Rattle.av_trace.specs.Row.{chain_text, flag_words, own_text}
 use Rattle.av_trace.proofs.PlainWords.{lacks-low, word_of, word_of-again}
 use Rattle.av_judge.specs.Notes.{IsCut, lacks}
 use Rattle.av_judge.proofs.NoteLaws.{cut-one, lacks-not, lacks-same}
-use Rattle.av_area_judge.specs.Read.{behind, bytes_behind, flag_in, joined}
+use Rattle.av_area_judge.specs.Read.{behind, bytes_behind, flag_in, words_with}
 
 -- ---- pieces
 
@@ -31,12 +31,12 @@ pub record IsPiece (c : ℕ) (bytes first others : List ℕ) : Type 0 where
   pub all : lacks c bytes ≡ true → (first ≡ bytes) × (others ≡ [])
 
 -- the first of some words, and the others
-pub piece-joined : (c : ℕ) (w : List ℕ) (words : List (List ℕ)) (bytes first others : List ℕ) → IsPiece c bytes first others
-    → lacks c w ≡ true → bytes ≡ joined c (w ∷ words) → (first ≡ w) × (others ≡ joined c words)
-piece-joined c w [] bytes first others p none is =
+pub piece-words_with : (c : ℕ) (w : List ℕ) (words : List (List ℕ)) (bytes first others : List ℕ) → IsPiece c bytes first others
+    → lacks c w ≡ true → bytes ≡ words_with c (w ∷ words) → (first ≡ w) × (others ≡ words_with c words)
+piece-words_with c w [] bytes first others p none is =
     let same : bytes ≡ w = is ∙ append-nil w in
     let h = p.all (subst (λ b. lacks c b ≡ true) (sym same) none) in (h.0 ∙ same, h.1)
-piece-joined c w (v ∷ words) bytes first others p none is = p.cut w (joined c (v ∷ words)) none is
+piece-words_with c w (v ∷ words) bytes first others p none is = p.cut w (words_with c (v ∷ words)) none is
 
 -- ---- labels
 
@@ -100,7 +100,7 @@ own-same word (Some n) (Some v) top most some none wide is =
 
 -- numbers with commas between
 abbrev pub numbers_text : List ℕ → List ℕ
-numbers_text ns = joined 44 (map decimal ns)
+numbers_text ns = words_with 44 (map decimal ns)
 
 commas : (ns : List ℕ) → flat_map (λ n. 44 ∷ decimal n) ns ≡ flat_map (λ v. 44 ∷ v) (map decimal ns)
 commas [] = refl
@@ -131,7 +131,7 @@ part-number chain numbers rest first others part some piece = by part.0 part.1 p
     by : (left : List ℕ) → chain ≡ numbers ++ left → AllByRecursion IsWide left → rest ≡ numbers_text left → HasNumber chain numbers first others
     by [] whole wide is = absurd (some is)
     by (n ∷ ns) whole wide is =
-        let h = piece-joined 44 (decimal n) (map decimal ns) rest first others piece
+        let h = piece-words_with 44 (decimal n) (map decimal ns) rest first others piece
         (sym (lacks-same 44 (decimal n)) ∙ lacks-low 10 44 n ten (omega arith) wide.0) is in
         (n, wide.0, h.0, (ns, whole ∙ sym (append_assoc numbers (n ∷ []) ns), wide.1, h.1))
 
@@ -172,7 +172,7 @@ flags_read words =
     let c = flag_in (codes "locked") b.1 in
     record { dont_fork = a.0; wipe_on_fork = b.0; locked = c.0; mergeable = (flag_in (codes "mergeable") c.1).0 }
 
-flags-again : (d w l m : Bool) → flags_read (joined 32 (flag_words (record { dont_fork = d; wipe_on_fork = w; locked = l; mergeable = m })))
+flags-again : (d w l m : Bool) → flags_read (words_with 32 (flag_words (record { dont_fork = d; wipe_on_fork = w; locked = l; mergeable = m })))
     ≡ record { dont_fork = d; wipe_on_fork = w; locked = l; mergeable = m }
 unfolding after
 flags-again false false false false = refl
@@ -192,7 +192,7 @@ flags-again true true false true = refl
 flags-again true true true false = refl
 flags-again true true true true = refl
 
-pub flags-same : (flags : Flags) (words : List ℕ) → words ≡ joined 32 (flag_words flags)
+pub flags-same : (flags : Flags) (words : List ℕ) → words ≡ words_with 32 (flag_words flags)
     → (d w l m : Bool) (a b c e : List ℕ) → (d, a) ≡ flag_in (codes "dontfork") words → (w, b) ≡ flag_in (codes "wipeonfork") a
     → (l, c) ≡ flag_in (codes "locked") b → (m, e) ≡ flag_in (codes "mergeable") c
     → record { dont_fork = d; wipe_on_fork = w; locked = l; mergeable = m } ≡ flags

@@ -16,9 +16,9 @@ abbrev pub shown_areas : List Row → Reply
 shown_areas rows = record { answer = AreaList (length rows); notes = []; rows = rows }
 
 -- words with a byte between
-abbrev pub joined : ℕ → List (List ℕ) → List ℕ
-joined c [] = []
-joined c (w ∷ words) = w ++ flat_map (λ v. c ∷ v) words
+abbrev pub words_with : ℕ → List (List ℕ) → List ℕ
+words_with c [] = []
+words_with c (w ∷ words) = w ++ flat_map (λ v. c ∷ v) words
 
 -- the bytes behind a label, or all
 abbrev pub behind : Option (List ℕ) → List ℕ → List ℕ
@@ -41,5 +41,5 @@ abbrev pub AreWords : Row → Words → Type 0
 AreWords (Area start end prot offset own chain flags) w =
     (w.start.now ≡ hex start) × (w.end.now ≡ hex end) × (w.prot.now ≡ prot_text prot)
     × (w.offset.now ≡ hex offset) × (w.own.now ≡ own_text own)
-    × (w.chain.now ≡ chain_text chain) × (w.flags.now ≡ joined 32 (flag_words flags))
+    × (w.chain.now ≡ chain_text chain) × (w.flags.now ≡ words_with 32 (flag_words flags))
 AreWords row w = ⊥

@@ -10,7 +10,7 @@ ghost use Rattle.av_text.specs.Number.{IsWide};
 ghost use Rattle.av_text.specs.Prot.{prot_text};
 ghost use Rattle.av_trace.specs.Row.{chain_text, flag_words, own_text};
 ghost use Rattle.av_judge.specs.Notes.{lacks};
-ghost use Rattle.av_area_judge.specs.Read.{flag_in, joined};
+ghost use Rattle.av_area_judge.specs.Read.{flag_in, words_with};
 ghost use Rattle.av_area_judge.specs.Read.{bytes_behind as bytes_behind_of};
 
 use av_base::{Flags, Prot};
@@ -122,7 +122,7 @@ fn flag_at<'a>(words: &'a [u8], name: &[u8]) -> (bool, &'a [u8])
 
 /// The flags that words name.
 pub fn flags_of(words: &[u8]) -> Flags
-    ensures { (flags : AnyFlags) → words.now ≡ joined 32 (flag_words flags) → result ≡ flags }
+    ensures { (flags : AnyFlags) → words.now ≡ words_with 32 (flag_words flags) → result ≡ flags }
 {
     let (dont_fork, rest) = flag_at(words, b"dontfork");
     let (wipe_on_fork, rest) = flag_at(rest, b"wipeonfork");

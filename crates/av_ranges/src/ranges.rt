@@ -81,7 +81,8 @@ impl Ranges {
     pub fn change(&mut self, from: u64, n: u64, change: Change) -> Result<(), AllocError>
         requires { from + n < 2 ^ 64 }
         ensures ok { OnOk result ((page : ℕ) → marks_at self.new page
-            ≡ (if within from n page then option_and_then (change_of change) (marks_at self.old page)
+            ≡ (if within from n page
+            then option_and_then (change_of change) (marks_at self.old page)
             else marks_at self.old page)) }
         ensures err { OnErr result ((page : ℕ) → marks_at self.new page ≡ marks_at self.old page) }
     {
