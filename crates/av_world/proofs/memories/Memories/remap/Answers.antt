@@ -23,7 +23,7 @@ returns-in_ok-remap-in-Some c = on-ok c.note.result c.note.ensures (λ noted w h
           (c.in_ok-remap-in-Some.ensures (pages w c.args.number) f.1 below));
       order = sorted-set w c.args.number q h.order;
       noted = noted-again c.args.self.now.spaces (c.get_mut.follows.lender c.remap.new.self)
-        c.args.self.now.locking c.note.new.locking c.args.number c.remap.new.self
+          c.args.self.now.locking c.note.new.locking c.args.number c.remap.new.self
           c.has_lock-locks.result h.noted
           (follows.3 (there _ c.in-Some.space.now (sym c.in-Some.ensures.value))).0 noted.0 c.has_lock-locks.ensures.none;
     })
