@@ -1,7 +1,8 @@
 //! Which command goes where, and what a refusal replies.
 
 ghost use Rattle.std.specs.Prelude.{◌≡◌, ◌≤◌, OnOk, false, length, true};
-ghost use Rattle.av_trace.specs.Reply.{IsCleared};
+ghost use Rattle.av_trace.specs.Reply.{IsCleared, answer_only};
+ghost use Rattle.av_trace.specs.declared.reply.Answer.TheVariants.{Refused};
 ghost use Rattle.av_swapdev.specs.Device.{most_areas};
 ghost use Rattle.av_plain.specs.Device.{IsSameDevice, seen_by};
 ghost use Rattle.av_plain.specs.Transcript.{State};
@@ -19,12 +20,12 @@ use av_ksm::merge;
 use av_mem::Mem;
 use av_migrate::compact;
 use av_report::{areas, entry, maps, rmap, stat};
-use av_step::Refusal;
+use av_step::{Refusal, answer_with};
 use av_swap::reclaim::{age, complete, reclaim};
 use av_swap::{slot, swapoff, swapon};
 use av_swapdev::SwapDev;
 use av_text::Bytes;
-use av_trace::{Answer, Command, Reply};
+use av_trace::{Answer, Command, Errno, Reply};
 use std::alloc::{AllocError, Global};
 use std::mem::swap;
 
@@ -63,12 +64,20 @@ pub fn perform<D: SwapDev>(
     match dispatch(mem, dev, sizes, spare, alloc, command, reply) {
         Ok(()) => Ok(()),
         Err(Refusal::Refused(error)) => {
-            reply.clear();
-            reply.answer = Answer::Refused(error);
+            refuse(reply, error);
             Ok(())
         }
         Err(Refusal::Memory) => Err(AllocError),
     }
+}
+
+/// Makes a reply a refusal, whatever it was.
+#[inline(always)]
+fn refuse(reply: &mut Reply, error: Errno)
+    ensures { reply.new ≡ answer_only (Refused error) }
+{
+    reply.clear();
+    answer_with(reply, Answer::Refused(error));
 }
 
 /// Does a command, and fills the reply.
