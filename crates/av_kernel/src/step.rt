@@ -159,6 +159,7 @@ fn do_beside(
 }
 
 /// Does a command that maps, unmaps or changes pages.
+#[inline(always)]
 fn map_or_change(mem: &mut Mem, command: &Command, reply: &mut Reply) -> Result<(), Refusal>
     requires steady { IsSteady mem.old }
     requires cleared { IsCleared reply.old }
