@@ -1,15 +1,17 @@
 -- What is mapped, cut where something else is said.
-use Rattle.std.specs.Prelude.{◌≡◌, ℕ, ◌<◌, ◌≤◌, List, [], ◌∷◌, map, Option, None, Some}
+use Rattle.std.specs.Prelude.{◌≡◌, ◌≢◌, ℕ, ◌<◌, ◌≤◌, List, [], ◌∷◌, map, Option, None, Some}
 use Rattle.std.specs.Prelude.{MatchOption, option_map}
 use Rattle.av_base.specs.declared.prot.Prot.{Prot}
 use Rattle.av_plain.specs.Report.{AreApart, AreLongest, Range as PlainRange, prot_in}
 use Rattle.av_ranges.specs.declared.marks.Marks.{Marks}
 use Rattle.av_ranges.specs.declared.marks.Range.{Range}
 
--- from a page on to below a bound the same is said of each; or there is no bound, and nothing is
+-- from a page on to below a bound the same is said of each, and something else of the bound; or
+-- there is no bound, and nothing is
 abbrev pub IsBound : (ℕ → Option Marks) → ℕ → Option ℕ → Type 0
 IsBound said page bound = MatchOption bound ((q : ℕ) → page ≤ q → said q ≡ None)
-    (λ next. (page < next) × ((q : ℕ) → page ≤ q → q < next → said q ≡ said page))
+    (λ next. (page < next) × ((q : ℕ) → page ≤ q → q < next → said q ≡ said page)
+    × (said next ≢ said page))
 
 -- pages of which the same is said, if they are mapped
 abbrev pub piece : ℕ → ℕ → Option Marks → List Range
