@@ -4,11 +4,11 @@ use Rattle.std.specs.Prelude.{option_map}
 use Rattle.std.proofs.lemmas.Bool.{cases_eq}
 use Rattle.av_base.specs.Words.{is_in, how_many, with_at}
 use Rattle.std.specs.List.{range_with_len, AllByRecursion}
-use Rattle.av_chain.specs.Links.{one_if, AreMutual}
+use Rattle.av_chain.specs.Links.{one_if, users_with, AreMutual}
 use Rattle.av_interval.specs.declared.span.Span.{Span}
 use Rattle.av_vma.specs.declared.area.Area.{Area}
 use Rattle.av_anon.specs.declared.infos.Info.{Info}
-use Rattle.av_anon.specs.Anons.{give_own, with_links, own_of, users_with, with_own, Family, IsRising}
+use Rattle.av_anon.specs.Anons.{give_own, with_links, own_of, with_own, Family, IsRising}
 use Rattle.av_anon.specs.Order.{IsArea, IsChain, IsCounted, IsInOrder, owns}
 use Rattle.av_anon.specs.Spans.{GoWithLinks}
 use Rattle.av_anon.proofs.Words.{with_at-here, with_at-other, how_many-more}
