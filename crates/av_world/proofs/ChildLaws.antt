@@ -1,11 +1,16 @@
 -- What a child gets of the pages of a process.
-use Rattle.std.proofs.Common.{◌≡◌, ℕ, ◌+◌, ◌-◌, ◌<◌, ◌≤◌, Bool, true, false, cond, not, ◌&&◌, Option, Some, None, refl, sym, ap, subst, ◌∙◌, arith, nat_le, nat_lt}
-use Rattle.std.specs.Prelude.{option_and_then, slice_index}
+use Rattle.std.proofs.Common.{◌≡◌, ℕ, ◌+◌, ◌-◌, ◌<◌, ◌≤◌, Bool, true, false, cond, not, ◌&&◌, List, [], ◌∷◌, Option, Some, None, refl, sym, ap, subst, ◌∙◌, arith, nat_le, nat_lt}
+use Rattle.std.specs.Prelude.{filter, option_and_then, slice_index}
 use Rattle.std.proofs.lemmas.Bool.Decides.{nat_tests}
-use Rattle.std.specs.Ordering.{nat_cmp}
+use Rattle.std.specs.Cmp.{ranked}
+use Rattle.std.specs.Ordering.{is_eq, nat_cmp}
+use Rattle.std.specs.declared.cmp.Ordering.{Ordering}
+use Rattle.std.specs.declared.cmp.Ordering.TheVariants.{Less, Equal, Greater}
 use Rattle.std.specs.declared.alloc.Global.{Global}
 use Rattle.std.specs.declared.vec.Vec.{Vec}
-use Rattle.std.specs.BTreeMap.{BTreeMap, get, is_at}
+use Rattle.std.specs.BTreeMap.{get, is_at}
+use Rattle.std.specs.List.{AllZip}
+use Rattle.std.specs.Map.{lookup}
 use Rattle.av_base.specs.Flags.{unlocked}
 use Rattle.av_base.specs.Limits.{top_page}
 use Rattle.av_base.specs.Words.{within}
@@ -16,8 +21,6 @@ use Rattle.av_ranges.specs.Ranges.{marks_at}
 use Rattle.av_world.specs.Space.{IsPage, IsSpace, byte_in}
 use Rattle.av_ranges.specs.declared.marks.Marks.{Marks}
 use Rattle.av_world.specs.declared.space.Space.{Space}
-use Rattle.av_world.specs.Kept.{IsNext}
-use Rattle.av_world.proofs.KeptLaws.{key-self, other-key}
 
 -- ---- what is said of pages
 
@@ -71,96 +74,71 @@ module _ (made new said : ℕ → Option Marks) (at to : ℕ) (less : at < to) (
 
 -- ---- bytes
 
--- what is made so far has the bytes that a child has below a page, and none of the others
-pub record AreInherited (made old : BTreeMap ℕ (Vec ℕ Global)) (said : ℕ → Option Marks) (at : ℕ) : Type 0 where
-  pub below : (q : ℕ) → q < at → byte_in (get nat_cmp made q) ≡ byte_in (cond (bytes_go (said q)) (get nat_cmp old q) None)
-  pub above : (q : ℕ) → at ≤ q → get nat_cmp made q ≡ None
-
-pub none-inherited : (made old : BTreeMap ℕ (Vec ℕ Global)) (said : ℕ → Option Marks) → ((q : ℕ) → get nat_cmp made q ≡ None)
-    → AreInherited made old said 0
-none-inherited made old said empty = record {
-  below = λ q low. absurd (omega (arith, low));
-  above = λ q high. empty q;
-}
-
-module _ (made old : BTreeMap ℕ (Vec ℕ Global)) (said : ℕ → Option Marks) (at end page : ℕ) (next : IsNext old at end page)
-    (h : AreInherited made old said at) where
-  same-none : (b : Bool) (o : Option (Vec ℕ Global)) → o ≡ None → byte_in None ≡ byte_in (cond b o None)
-  same-none true o e = ap byte_in (sym e)
-  same-none false o e = refl
-
-  first : at ≤ page
-  first = next.low
-
-  yes-lt : (a b : ℕ) → nat_lt a b ≡ true → a < b
-  yes-lt a b e = grind (arith, nat_tests)
-
-  not-lt : (a b : ℕ) → nat_lt a b ≡ false → b ≤ a
-  not-lt a b e = grind (arith, nat_tests)
-
-  -- below the page
-  lower : (q : ℕ) → q < page → byte_in (get nat_cmp made q) ≡ byte_in (cond (bytes_go (said q)) (get nat_cmp old q) None)
-  lower q less = by (nat_lt q at) refl
-    where
-      by : (b : Bool) → nat_lt q at ≡ b → byte_in (get nat_cmp made q) ≡ byte_in (cond (bytes_go (said q)) (get nat_cmp old q) None)
-      by true e = h.below q (yes-lt q at e)
-      by false e = ap byte_in (h.above q (not-lt q at e)) ∙ same-none (bytes_go (said q)) (get nat_cmp old q) (next.none q (not-lt q at e) less)
-
-  here : (q : ℕ) → page ≤ q → q < page + 1 → page ≡ q
-  here q a b = omega (arith, a, b)
-
-  -- the page's go over
-  pub inherited-more : (new : BTreeMap ℕ (Vec ℕ Global)) (bytes copy : Vec ℕ Global) → get nat_cmp old page ≡ Some bytes
-      → copy.items ≡ bytes.items → bytes_go (said page) ≡ true
-      → ((q : ℕ) → get nat_cmp new q ≡ cond (is_at (nat_cmp page) q) (Some copy) (get nat_cmp made q)) → AreInherited new old said (page + 1)
-  inherited-more new bytes copy is same goes put = record {
-    below = λ q low. by q low (nat_lt q page) refl;
-    above = λ q high. put q ∙ ap (λ b. cond b (Some copy) (get nat_cmp made q)) (other-key page q (λ e. omega (arith, e, high)))
-        ∙ h.above q (omega (arith, high, first));
-  }
-    where
-      by : (q : ℕ) → q < page + 1 → (b : Bool) → nat_lt q page ≡ b
-          → byte_in (get nat_cmp new q) ≡ byte_in (cond (bytes_go (said q)) (get nat_cmp old q) None)
-      by q low true e = let less = yes-lt q page e in
-          ap byte_in (put q ∙ ap (λ b. cond b (Some copy) (get nat_cmp made q)) (other-key page q (λ s. omega (arith, s, less)))) ∙ lower q less
-      by q low false e = subst (λ q. byte_in (get nat_cmp new q) ≡ byte_in (cond (bytes_go (said q)) (get nat_cmp old q) None))
-          (here q (not-lt q page e) low)
-          (ap byte_in (put page ∙ ap (λ b. cond b (Some copy) (get nat_cmp made page)) (key-self page))
-          ∙ (λ i j. slice_index (same i) j)
-          ∙ sym (ap byte_in (ap (λ b. cond b (get nat_cmp old page) None) goes ∙ is)))
-
-  -- or don't
-  pub inherited-none : bytes_go (said page) ≡ false → AreInherited made old said (page + 1)
-  inherited-none stays = record {
-    below = λ q low. by q low (nat_lt q page) refl;
-    above = λ q high. h.above q (omega (arith, high, first));
-  }
-    where
-      by : (q : ℕ) → q < page + 1 → (b : Bool) → nat_lt q page ≡ b
-          → byte_in (get nat_cmp made q) ≡ byte_in (cond (bytes_go (said q)) (get nat_cmp old q) None)
-      by q low true e = lower q (yes-lt q page e)
-      by q low false e = subst (λ q. byte_in (get nat_cmp made q) ≡ byte_in (cond (bytes_go (said q)) (get nat_cmp old q) None))
-          (here q (not-lt q page e) low)
-          (ap byte_in (h.above page first) ∙ sym (ap byte_in (ap (λ b. cond b (get nat_cmp old page) None) stays)))
-
-pub all-inherited : (made old : BTreeMap ℕ (Vec ℕ Global)) (said : ℕ → Option Marks) (at end : ℕ) → AreInherited made old said at
-    → ((q : ℕ) → at ≤ q → q < end → get nat_cmp old q ≡ None)
-    → (q : ℕ) → q < end → byte_in (get nat_cmp made q) ≡ byte_in (cond (bytes_go (said q)) (get nat_cmp old q) None)
-all-inherited made old said at end h none q low = by (nat_lt q at) refl
+-- what passes a test of its page
+kept-at : (t : ℕ → Bool) (es : List (ℕ × Vec ℕ Global)) (k : ℕ)
+    → lookup (is_at (nat_cmp k)) (filter (λ e. t e.0) es) ≡ cond (t k) (lookup (is_at (nat_cmp k)) es) None
+kept-at t [] k = none (t k)
   where
-    yes-lt : nat_lt q at ≡ true → q < at
-    yes-lt e = grind (arith, nat_tests)
+    nothing : Option (Vec ℕ Global)
+    nothing = None
 
-    not-lt : nat_lt q at ≡ false → at ≤ q
-    not-lt e = grind (arith, nat_tests)
+    none : (b : Bool) → nothing ≡ cond b nothing nothing
+    none true = refl
+    none false = refl
+kept-at t (e ∷ es) k = by (nat_cmp k e.0) refl (kept-at t es k)
+  where
+    rest : List (ℕ × Vec ℕ Global)
+    rest = filter (λ e. t e.0) es
 
-    same-none : (b : Bool) (o : Option (Vec ℕ Global)) → o ≡ None → byte_in None ≡ byte_in (cond b o None)
-    same-none true o e = ap byte_in (sym e)
-    same-none false o e = refl
+    here : (b : Bool) → lookup (is_at (nat_cmp k)) rest ≡ cond b (lookup (is_at (nat_cmp k)) es) None
+        → is_eq (nat_cmp k e.0) ≡ true
+        → lookup (is_at (nat_cmp k)) (cond b (e ∷ rest) rest) ≡ cond b (Some e.1) None
+    here true ih is = ap (λ b. cond b (Some e.1) (lookup (is_at (nat_cmp k)) rest)) is
+    here false ih is = ih
 
-    by : (b : Bool) → nat_lt q at ≡ b → byte_in (get nat_cmp made q) ≡ byte_in (cond (bytes_go (said q)) (get nat_cmp old q) None)
-    by true e = h.below q (yes-lt e)
-    by false e = ap byte_in (h.above q (not-lt e)) ∙ same-none (bytes_go (said q)) (get nat_cmp old q) (none q (not-lt e) low)
+    there : (b : Bool) → is_eq (nat_cmp k e.0) ≡ false
+        → lookup (is_at (nat_cmp k)) (cond b (e ∷ rest) rest) ≡ lookup (is_at (nat_cmp k)) rest
+    there true is = ap (λ b. cond b (Some e.1) (lookup (is_at (nat_cmp k)) rest)) is
+    there false is = refl
+
+    by : (o : Ordering) → nat_cmp k e.0 ≡ o
+        → lookup (is_at (nat_cmp k)) rest ≡ cond (t k) (lookup (is_at (nat_cmp k)) es) None
+        → lookup (is_at (nat_cmp k)) (cond (t e.0) (e ∷ rest) rest)
+        ≡ cond (t k) (cond (is_eq o) (Some e.1) (lookup (is_at (nat_cmp k)) es)) None
+    by Less at ih = there (t e.0) (ap is_eq at) ∙ ih
+    by Greater at ih = there (t e.0) (ap is_eq at) ∙ ih
+    by Equal at ih =
+        let same : k ≡ e.0 = ranked k e.0 Equal (sym at) in
+        ap (λ b. lookup (is_at (nat_cmp k)) (cond b (e ∷ rest) rest)) (ap t (sym same))
+        ∙ here (t k) ih (ap is_eq at)
+
+-- a copy of pages with bytes, place by place, has the same bytes
+copied : (R : ℕ × Vec ℕ Global → ℕ × Vec ℕ Global → Type 0)
+    → ((p q : ℕ × Vec ℕ Global) → R p q → (q.0 ≡ p.0) × (q.1.items ≡ p.1.items))
+    → (es fs : List (ℕ × Vec ℕ Global)) (k : ℕ) → AllZip R es fs
+    → byte_in (lookup (is_at (nat_cmp k)) fs) ≡ byte_in (lookup (is_at (nat_cmp k)) es)
+copied R same [] [] k h = refl
+copied R same [] (f ∷ fs) k h = absurd h
+copied R same (e ∷ es) [] k h = absurd h
+copied R same (e ∷ es) (f ∷ fs) k h =
+    ap (λ n. byte_in (cond (is_at (nat_cmp k) n) (Some f.1) (lookup (is_at (nat_cmp k)) fs))) (same e f h.0).0
+    ∙ by (is_at (nat_cmp k) e.0) (copied R same es fs k h.1)
+  where
+    by : (b : Bool) → byte_in (lookup (is_at (nat_cmp k)) fs) ≡ byte_in (lookup (is_at (nat_cmp k)) es)
+        → byte_in (cond b (Some f.1) (lookup (is_at (nat_cmp k)) fs)) ≡ byte_in (cond b (Some e.1) (lookup (is_at (nat_cmp k)) es))
+    by true rest = λ i j. slice_index ((same e f h.0).1 i) j
+    by false rest = rest
+
+-- those that pass a test of a copy
+pub copied-where : (R : ℕ × Vec ℕ Global → ℕ × Vec ℕ Global → Type 0)
+    → ((p q : ℕ × Vec ℕ Global) → R p q → (q.0 ≡ p.0) × (q.1.items ≡ p.1.items))
+    → (t : ℕ → Bool) (es fs gs : List (ℕ × Vec ℕ Global)) (k : ℕ) → AllZip R es fs → gs ≡ filter (λ e. t e.0) fs
+    → byte_in (lookup (is_at (nat_cmp k)) gs) ≡ byte_in (cond (t k) (lookup (is_at (nat_cmp k)) es) None)
+copied-where R same t es fs gs k h is = ap (λ gs. byte_in (lookup (is_at (nat_cmp k)) gs)) is ∙ ap byte_in (kept-at t fs k) ∙ by (t k)
+  where
+    by : (b : Bool) → byte_in (cond b (lookup (is_at (nat_cmp k)) fs) None) ≡ byte_in (cond b (lookup (is_at (nat_cmp k)) es) None)
+    by true = copied R same es fs k h
+    by false = refl
 
 -- ---- pages
 

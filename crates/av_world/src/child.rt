@@ -12,13 +12,12 @@ ghost use Rattle.av_world.specs.Child.{bytes_go, marks_of_child};
 ghost use Rattle.av_world.specs.Memories.{IsWorld};
 ghost use Rattle.av_world.specs.Space.{IsSpace, byte_in};
 
-use crate::kept::{Kept, next_of};
+use crate::kept::Kept;
 use crate::memories::Memories;
 use crate::space::Space;
 use av_base::TOP_PAGE;
 use av_ranges::{Marks, Ranges};
 use std::alloc::AllocError;
-use std::collections::BTreeMap;
 
 /// What is said of a page in a child, if that gets the page.
 fn marks_for_child(marks: Option<Marks>) -> Option<Marks>
@@ -76,18 +75,9 @@ impl Space {
             → byte_in (get nat_cmp made page) ≡ byte_in (if bytes_go (marks_at self.now.ranges page)
             then get nat_cmp self.now.bytes page else None)) }
     {
-        let mut made = BTreeMap::new(self.alloc);
-        let mut at = 0;
-        while let Some(page) = next_of(&self.bytes, at, TOP_PAGE) {
-            at = page + 1;
-            if !self.gives(page) {
-                continue;
-            }
-            if let Some(bytes) = self.bytes.get(&page) {
-                made.insert(page, bytes.clone()?)?;
-            }
-        }
-        Ok(made)
+        let mut bytes = self.bytes.clone()?;
+        bytes.retain(|page, _| self.gives(*page));
+        Ok(bytes)
     }
 
     /// What a child gets of the pages.

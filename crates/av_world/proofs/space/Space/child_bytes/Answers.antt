@@ -1,31 +1,14 @@
-use Rattle.std.proofs.Common.{arith, sym, ◌∙◌}
+use Rattle.std.proofs.Common.{rules}
 use Rattle.std.specs.List.{each_same}
-use Rattle.av_base.specs.Limits.{top_page}
+use Rattle.std.proofs.lemmas.Map.Made.{filter_same_pairs}
 use Rattle.av_ranges.specs.Ranges.{marks_at}
-use Rattle.av_world.proofs.ChildLaws.{all-inherited, inherited-more, inherited-none}
+use Rattle.av_world.specs.Child.{bytes_go}
+use Rattle.av_world.proofs.ChildLaws.{copied-where}
 use Rattle.av_world.proofs.space.Space.child_bytes.Goals as goal
 
-pub loop-page-preserved-then-not-gives : goal.loop-page-preserved-then-not-gives
-loop-page-preserved-then-not-gives c =
-    let s = c.args.self.now in
-    let high = c.in-Some.ensures.high in record {
-      high = omega (arith, high);
-      made = inherited-none c.loop-page.made s.bytes (marks_at s.ranges) c.loop-page.at top_page c.in-Some.page c.in-Some.ensures
-          c.loop-page.invariant.made (sym c.gives.ensures ∙ c.if-not-gives.true);
-    }
-
-pub loop-page-preserved-in_ok-insert-2 : goal.loop-page-preserved-in_ok-insert-2
-loop-page-preserved-in_ok-insert-2 c =
-    let s = c.args.self.now in
-    let high = c.in-Some.ensures.high in record {
-      high = omega (arith, high);
-      made = inherited-more c.loop-page.made s.bytes (marks_at s.ranges) c.loop-page.at top_page c.in-Some.page c.in-Some.ensures
-          c.loop-page.invariant.made c.insert.new.self c.in-Some-get.bytes.now c.in_ok-clone.field-0 (sym c.in-Some-get.ensures.value)
-          (each_same c.in-Some-get.bytes.now.items c.in_ok-clone.field-0.items c.in_ok-clone.ensures.cases.0)
-          (sym c.gives.ensures ∙ c.if-not-gives.false) c.in_ok-insert.ensures.updates.0;
-    }
-
 pub returns : goal.returns
-returns c =
+returns c = λ page low.
     let s = c.args.self.now in
-    all-inherited c.loop-page.made s.bytes (marks_at s.ranges) c.loop-page.at top_page c.loop-page.invariant.made c.in_default.ensures
+    copied-where _ (λ p q r. (r.0, each_same p.1.items q.1.items r.1.0)) (λ page. bytes_go (marks_at s.ranges page))
+    s.bytes.entries c.in_ok-bytes.bytes.entries c.retain.new.self.entries page c.in_ok-bytes.ensures.cases
+    (filter_same_pairs _ (λ e. bytes_go (marks_at s.ranges e.0)) _ (λ k v b w f' t. search rules) _ _ c.retain.ensures.filtered)
