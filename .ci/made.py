@@ -44,7 +44,7 @@ CARRIERS = {
     "compactions_take_the_lowest_frames numbers_add_up replies_are_determined "
     "replies_of_runs_are_read_back texts_of_runs_say_replies runs_lay_areas runs_cover_entries",
     "av_audit_laws": "replies_tell_events units_leave_one transcripts_are_judged",
-    "av_index": "Uses KeyIndex",
+    "av_index": "Holders",
     "av_book": "Book Machine Spared",
     "av_events": "touch zap_process zap_range fork move_entries turn_on turn_off",
     "av_judge": "seeks takes fetches swaps_in completes judges_complete judges_age "
