@@ -6,9 +6,9 @@
 //! them differ no merge is legal, and the answer is no. A merge asks that memories and ledger are
 //! sound: else a merged frame that no entry names could hold anything. A compaction asks nothing.
 //!
-//! A compaction looks at each frame once or twice, and each look goes over all entries. A merge
-//! looks, for each page that may be merged, at all entries and all frames, and compares the bytes
-//! of those that are merged or were candidates.
+//! A compaction looks at each frame once or twice. A merge goes over all entries once. For each
+//! page that may be merged it looks at the entries of its frame and at all frames, and compares the
+//! bytes of those that are merged or were candidates.
 //!
 //! Only tested: nothing.
 #![tactic(auto)]
