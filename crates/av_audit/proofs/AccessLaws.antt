@@ -128,13 +128,13 @@ ends-below m w l p write from n bytes reach l' low denied h = by (nat_lt (2 ^ 52
         let more : 2 ^ 52 < from + n = grind (arith, nat_tests, e) in
         ap (turns_of write from) (split more)
         ∙ turns-split write from (2 ^ 52 - from) (suc (from + n - (2 ^ 52 + 1)))
-        ∙ ap (λ a. turns_of write from (2 ^ 52 - from) ++ turns_of write a (suc (from + n - (2 ^ 52 + 1)))) reach
+        ∙ ap (λ a. turns_of write from (2 ^ 52 - from) ++ turns_of write a (suc (from + n - (2 ^ 52 + 1)))) at_top
       where
         split : 2 ^ 52 < from + n → n ≡ (2 ^ 52 - from) + suc (from + n - (2 ^ 52 + 1))
         split more = omega (arith, more, low)
 
-        reach : from + (2 ^ 52 - from) ≡ 2 ^ 52
-        reach = omega (arith, low)
+        at_top : from + (2 ^ 52 - from) ≡ 2 ^ 52
+        at_top = omega (arith, low)
 
     count_is : nat_lt (2 ^ 52) (from + n) ≡ true → min (from + n) (2 ^ 52) - from ≡ 2 ^ 52 - from
     count_is e = let more : 2 ^ 52 < from + n = grind (arith, nat_tests, e) in omega (arith, more)
