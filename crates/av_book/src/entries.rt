@@ -5,8 +5,7 @@ ghost use Rattle.av_base.specs.Words.{how_many};
 ghost use Rattle.av_plain.specs.Event.{change_entries, set_entry, without_seen};
 ghost use Rattle.av_plain.specs.Ledger.{InSlot as NamesSlot, entry, map_count, slot_entries};
 ghost use Rattle.av_plain.specs.Ledger.{keys_of_slot, walk};
-ghost use Rattle.av_plain.specs.Ledger.{names_frame as names_frame_of, names_slot as names_slot_of};
-ghost use Rattle.av_plain.specs.Reclaim.{is_referenced, names_seen as names_seen_of};
+ghost use Rattle.av_plain.specs.Reclaim.{is_referenced};
 ghost use Rattle.av_book.specs.Book.{entry_of, ledger_of, without_entry};
 
 use crate::book::{Book, Entry};
@@ -14,38 +13,6 @@ use crate::changes::Change;
 use av_base::Slot;
 use std::alloc::{AllocError, Global};
 use std::collections::BTreeMap;
-
-impl Entry {
-    /// Whether it names the frame.
-    pub fn names_frame(self, frame: u32) -> bool
-        ensures { result ≡ names_frame_of frame (entry_of self) }
-    {
-        match self {
-            Entry::InFrame { frame: other, .. } => frame == other,
-            _ => false,
-        }
-    }
-
-    /// Whether it names the slot.
-    pub fn names_slot(self, slot: Slot) -> bool
-        ensures { result ≡ names_slot_of slot (entry_of self) }
-    {
-        match self {
-            Entry::InSlot(other) => slot == other,
-            _ => false,
-        }
-    }
-
-    /// Whether it names the frame and was seen.
-    pub fn names_seen(self, frame: u32) -> bool
-        ensures { result ≡ names_seen_of frame (entry_of self) }
-    {
-        match self {
-            Entry::InFrame { frame: other, seen } => frame == other && seen,
-            _ => false,
-        }
-    }
-}
 
 impl Book {
     /// The entry of a page, if it has one.

@@ -9,8 +9,9 @@
 //!
 //! What is said of pages is kept by ranges (`av_ranges`), and bytes by page. So a call costs some
 //! ways down a tree and what it goes over, whatever else the process has mapped; a move costs what
-//! it moves. A fork goes over the parent's ranges and the pages that were written, and copies the
-//! bytes that go over. Processes with a locked page are noted, so `has_lock` looks at no other.
+//! it moves. A fork goes over the parent's ranges, copies the bytes of each page that was written,
+//! and drops those that don't go over. Processes with a locked page are noted, so `has_lock` looks
+//! at no other.
 //!
 //! Only tested: nothing.
 #![tactic(auto)]
