@@ -8,9 +8,10 @@ ghost use Rattle.av_arena.specs.Avl.{IsLonger, IsParts};
 ghost use Rattle.av_arena.specs.Monoid.{total};
 
 use crate::arena::Arena;
+use crate::cell::Twig;
 use crate::entry::Entry;
 use crate::link::{Link, Stored};
-use crate::tree::{join, open, place, remove, replace, split, sum};
+use crate::tree::{join, open_cell, place, remove, replace, split, sum_in};
 use std::alloc::{AllocError, Global};
 use std::marker::Model;
 
@@ -38,20 +39,22 @@ impl<T: Entry> Model for Avl<T> {
 #[derive(Drop)]
 pub struct Part<'a, T: Entry> {
     arena: &'a Arena<T, T::Sum>,
-    tree: Option<Link<T::Sum>>,
+    tree: Twig<T::Sum>,
 }
 
 impl<'a, T: Entry> Model for Part<'a, T> {
     ghost use Rattle.std.specs.Prelude.{List};
     ghost use Rattle.av_arena.specs.Arena.{store_of};
+    ghost use Rattle.av_arena.specs.Cell.{link_in};
     ghost use Rattle.av_arena.specs.Avl.{IsPart};
     ghost use Rattle.av_arena.specs.Tree.{entries_at};
 
     ghost Value = { List T };
 
-    ghost view = { λ p. entries_at (store_of p.arena.now) p.tree };
+    ghost view = { λ p. entries_at (store_of p.arena.now) (link_in p.tree) };
 
-    ghost invariant = { λ p. IsPart T.key T.unit T.op T.of (store_of p.arena.now) p.tree };
+    ghost invariant = { λ p. IsPart T.key T.unit T.op T.of (store_of p.arena.now)
+        (link_in p.tree) };
 }
 
 impl<T: Entry> Avl<T> {
@@ -72,7 +75,7 @@ impl<T: Entry> Avl<T> {
     {
         Part {
             arena: &self.arena,
-            tree: self.root,
+            tree: Twig::of(self.root),
         }
     }
 
@@ -168,7 +171,7 @@ impl<'a, T: Entry> Part<'a, T> {
     pub fn sum(&self) -> T::Sum
         ensures { result ≡ total T.unit T.op T.of self.now }
     {
-        sum::<T>(self.tree)
+        sum_in::<T>(&self.tree)
     }
 
     /// Adds the entries in the order of their keys. It takes time linear in their number.
@@ -205,18 +208,18 @@ impl<'a, T: Entry> Part<'a, T> {
         ensures parts { MatchOption result (self.now ≡ [])
             (λ p. IsParts T.key self.now p.0 p.1 p.2) }
     {
-        let Some(tree) = self.tree else {
+        let Some(tree) = self.tree.link() else {
             return None;
         };
-        let Stored { left, entry, right } = open(self.arena, tree);
+        let cell = open_cell(self.arena, tree);
         let before = Part {
             arena: self.arena,
-            tree: left,
+            tree: cell.left,
         };
         let after = Part {
             arena: self.arena,
-            tree: right,
+            tree: cell.right,
         };
-        Some((before, entry, after))
+        Some((before, cell.entry, after))
     }
 }

@@ -25,7 +25,8 @@ use crate::tree::{balance, close, is_same_link, pop_first, sum_in};
 #[inline(always)]
 fn level_link<T: Entry>(arena: &Arena<T, T::Sum>, number: u32) -> Option<Link<T::Sum>>
     requires { IsUnsettled T.key T.unit T.op T.of 2 (store_of arena.now) number }
-    ensures { MatchOption result (IsLevelAt T.key T.unit T.op T.of (store_of arena.now) number false)
+    ensures { MatchOption result
+        (IsLevelAt T.key T.unit T.op T.of (store_of arena.now) number false)
         (λ link. IsLevelAt T.key T.unit T.op T.of (store_of arena.now) number true
         × IsTold T.key T.unit T.op T.of (store_of arena.now) number link) }
 {

@@ -1,4 +1,7 @@
 //! How a node lies in its arena: in fewer bytes than its two links take.
+//!
+//! On the way down and up a tree a cell is read where it lies, and no more of it than is asked
+//! for: a whole `Stored` costs a branch and a copy for each side.
 
 ghost use Rattle.std.specs.Prelude.{◌≡◌};
 ghost use Rattle.av_arena.specs.Arena.{on_side, with_side};
@@ -27,7 +30,7 @@ pub struct Cell<T, S> {
 impl<S: Copy + Drop> Twig<S> {
     /// The tree that a link tells, if there is one.
     #[inline(always)]
-    fn of(link: Option<Link<S>>) -> Twig<S>
+    pub(crate) fn of(link: Option<Link<S>>) -> Twig<S>
         ensures { link_in result ≡ link }
     {
         match link {

@@ -60,7 +60,7 @@ pub fn open<T: Entry>(arena: &Arena<T, T::Sum>, tree: Link<T::Sum>) -> Stored<T,
 
 /// The node at the root of a tree, as it lies in its arena.
 #[inline(always)]
-fn open_cell<T: Entry>(arena: &Arena<T, T::Sum>, tree: Link<T::Sum>) -> &Cell<T, T::Sum>
+pub fn open_cell<T: Entry>(arena: &Arena<T, T::Sum>, tree: Link<T::Sum>) -> &Cell<T, T::Sum>
     requires { IsHeld T.key T.unit T.op T.of (store_of arena.now) (Some tree) }
     ensures { IsOpened T.key T.unit T.op T.of (store_of arena.now) tree (node_in result.now) }
 {

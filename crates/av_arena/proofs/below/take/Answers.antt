@@ -11,7 +11,8 @@ pub returns-in_default-clause-taken : goal.returns-in_default-clause-taken
 returns-in_default-clause-taken g c =
     let m = g.T.Entry in
     let none : (node_in c.cell-cell.result.now).right ≡ None = sym c.link.ensures ∙ search rules in
-    rw c.link-before.ensures (taken_last m.key m.unit m.op m.of g.met.T.Entry.laws (store_of c.args.arena.now) c.args.number (node_in c.cell-cell.result.now) c.args.like.now
+    rw c.link-before.ensures (taken_last m.key m.unit m.op m.of g.met.T.Entry.laws (store_of c.args.arena.now) c.args.number
+    (node_in c.cell-cell.result.now) c.args.like.now
     c.cell-cell.ensures c.requires.same none)
 
 pub pop_first-first-requires-clause-held : goal.pop_first-first-requires-clause-held
@@ -19,7 +20,8 @@ pop_first-first-requires-clause-held g c =
     let m = g.T.Entry in
     let s = store_of c.args.arena.now in
     let r = c.requires.there in
-    let o = opened_at m.key m.unit m.op m.of g.met.T.Entry.laws s c.args.number r.link (node_in c.cell-cell.result.now) r.number r.asked.held c.cell-cell.ensures in
+    let o = opened_at m.key m.unit m.op m.of g.met.T.Entry.laws s c.args.number r.link
+    (node_in c.cell-cell.result.now) r.number r.asked.held c.cell-cell.ensures in
     subst (IsHeld m.key m.unit m.op m.of s) (sym c.link.ensures ∙ c.in-Some.is) o.right
 
 pub pop_first-first-requires-clause-low : goal.pop_first-first-requires-clause-low
@@ -27,7 +29,8 @@ pop_first-first-requires-clause-low g c =
     let m = g.T.Entry in
     let s = store_of c.args.arena.now in
     let r = c.requires.there in
-    let o = opened_at m.key m.unit m.op m.of g.met.T.Entry.laws s c.args.number r.link (node_in c.cell-cell.result.now) r.number r.asked.held c.cell-cell.ensures in
+    let o = opened_at m.key m.unit m.op m.of g.met.T.Entry.laws s c.args.number r.link
+    (node_in c.cell-cell.result.now) r.number r.asked.held c.cell-cell.ensures in
     let e = ap height_of (sym c.link.ensures ∙ c.in-Some.is) in
     let h = o.height in
     let l = r.low in
@@ -38,8 +41,10 @@ balance-whole-requires-clause-spot g c =
     let m = g.T.Entry in
     let s = store_of c.args.arena.now in
     let r = c.requires.there in
-    let o = opened_at m.key m.unit m.op m.of g.met.T.Entry.laws s c.args.number r.link (node_in c.cell-cell.result.now) r.number r.asked.held c.cell-cell.ensures in
-    rw c.link-before.ensures (removed_middle_ready m.key m.unit m.op m.of g.met.T.Entry.laws s (store_of c.pop_first-first.new.arena) r.link c.in-Some.right (node_in c.cell-cell.result.now)
+    let o = opened_at m.key m.unit m.op m.of g.met.T.Entry.laws s c.args.number r.link
+    (node_in c.cell-cell.result.now) r.number r.asked.held c.cell-cell.ensures in
+    rw c.link-before.ensures (removed_middle_ready m.key m.unit m.op m.of g.met.T.Entry.laws s (store_of c.pop_first-first.new.arena) r.link c.in-Some.right
+    (node_in c.cell-cell.result.now)
     c.pop_first-first.result.0 c.pop_first-first.result.1 c.pop_first-first.result.2 o (sym c.link.ensures ∙ c.in-Some.is) c.pop_first-first.ensures.popped)
 
 pub balance-whole-requires-clause-level : goal.balance-whole-requires-clause-level
@@ -47,7 +52,8 @@ balance-whole-requires-clause-level g c =
     let m = g.T.Entry in
     let s = store_of c.args.arena.now in
     let r = c.requires.there in
-    let o = opened_at m.key m.unit m.op m.of g.met.T.Entry.laws s c.args.number r.link (node_in c.cell-cell.result.now) r.number r.asked.held c.cell-cell.ensures in
+    let o = opened_at m.key m.unit m.op m.of g.met.T.Entry.laws s c.args.number r.link
+    (node_in c.cell-cell.result.now) r.number r.asked.held c.cell-cell.ensures in
     let e = ap height_of (sym c.link.ensures ∙ c.in-Some.is) in
     let l = o.level.0 in
     let h = o.level.1 in
@@ -61,7 +67,8 @@ balance-whole-requires-clause-low g c =
     let m = g.T.Entry in
     let s = store_of c.args.arena.now in
     let r = c.requires.there in
-    let o = opened_at m.key m.unit m.op m.of g.met.T.Entry.laws s c.args.number r.link (node_in c.cell-cell.result.now) r.number r.asked.held c.cell-cell.ensures in
+    let o = opened_at m.key m.unit m.op m.of g.met.T.Entry.laws s c.args.number r.link
+    (node_in c.cell-cell.result.now) r.number r.asked.held c.cell-cell.ensures in
     let e = ap height_of (sym c.link.ensures ∙ c.in-Some.is) in
     let h = o.height in
     let l = r.low in

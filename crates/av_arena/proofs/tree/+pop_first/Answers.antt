@@ -12,7 +12,8 @@ with_left-whole-requires-clause-spot g t c =
     rw c.link-after.ensures (
     popped_ready m.key m.unit m.op m.of g.met.T.Entry.laws (store_of c.args.arena.now) (store_of c.pop_first-number.new.arena)
     c.args.tree c.in-Some.left
-    (node_in c.open_cell-cell.result.now) _ _ c.pop_first-number.result.2 c.open_cell-cell.ensures (sym c.link.ensures ∙ c.in-Some.is) c.pop_first-number.ensures.popped)
+    (node_in c.open_cell-cell.result.now) _ _
+    c.pop_first-number.result.2 c.open_cell-cell.ensures (sym c.link.ensures ∙ c.in-Some.is) c.pop_first-number.ensures.popped)
 
 pub returns-in_default-clause-popped : goal.returns-in_default-clause-popped
 returns-in_default-clause-popped g t c = let m = g.T.Entry in
@@ -27,7 +28,8 @@ returns-clause-popped g t c =
     c.args.tree.number c.pop_first-number.result.2 c.open_cell-cell.result.now.entry r c.with_left-whole.result)
     c.link-after.ensures c.with_left-whole.ensures.joined in
     popped_later m.key m.unit m.op m.of g.met.T.Entry.laws (store_of c.args.arena.now) (store_of c.pop_first-number.new.arena)
-    (store_of c.with_left-whole.new.arena) c.args.tree c.in-Some.left (node_in c.open_cell-cell.result.now) c.pop_first-number.result.0 c.pop_first-number.result.1
+    (store_of c.with_left-whole.new.arena) c.args.tree c.in-Some.left (node_in c.open_cell-cell.result.now)
+    c.pop_first-number.result.0 c.pop_first-number.result.1
     c.pop_first-number.result.2 c.with_left-whole.result c.open_cell-cell.ensures (sym c.link.ensures ∙ c.in-Some.is) c.pop_first-number.ensures.popped
     joined
 
@@ -37,7 +39,8 @@ with_left-whole-requires-clause-root g t c =
     rw c.link-after.ensures (
     popped_root m.key m.unit m.op m.of g.met.T.Entry.laws (store_of c.args.arena.now) (store_of c.pop_first-number.new.arena)
     c.args.tree c.in-Some.left
-    (node_in c.open_cell-cell.result.now) _ _ c.pop_first-number.result.2 c.open_cell-cell.ensures (sym c.link.ensures ∙ c.in-Some.is) c.pop_first-number.ensures.popped)
+    (node_in c.open_cell-cell.result.now) _ _
+    c.pop_first-number.result.2 c.open_cell-cell.ensures (sym c.link.ensures ∙ c.in-Some.is) c.pop_first-number.ensures.popped)
 
 pub with_left-whole-requires-clause-level : goal.with_left-whole-requires-clause-level
 with_left-whole-requires-clause-level g t c =
