@@ -1,7 +1,7 @@
 //! What holds one number.
 
 ghost use Rattle.std.specs.Prelude.{◌≡◌, ◌+◌, ◌-◌, ◌<◌, ◌^◌, ◌==◌, if◌then◌else◌, None, Some};
-ghost use Rattle.std.specs.Prelude.{OnErr, OnOk, [], length};
+ghost use Rattle.std.specs.Prelude.{IfOk, OnErr, OnOk, [], length};
 ghost use Rattle.std.specs.BTreeMap.{is_at};
 ghost use Rattle.std.specs.List.Sorted.{IsStrictlySortedBy};
 ghost use Rattle.std.specs.Map.{keys_of, lookup};
@@ -9,15 +9,15 @@ ghost use Rattle.av_base.specs.Keys.{Key, key_cmp, same_key};
 ghost use Rattle.av_base.specs.Words.{how_many};
 ghost use Rattle.av_index.specs.Holding.{is_seen, uses_of};
 
+use crate::keys::Keys;
 use std::alloc::{AllocError, Global};
-use std::collections::BTreeMap;
 use std::marker::Model;
 
 /// What holds a number: the keys of the entries that name it, each with whether it is seen, and
 /// how many cached pairs have it.
 #[derive(Drop)]
 pub(crate) struct Holder {
-    keys: BTreeMap<(u16, u64), bool>,
+    keys: Keys,
     // How many of the keys are seen.
     seen: u64,
     pairs: u64,
@@ -28,26 +28,31 @@ impl Model for Holder {
 
     ghost Value = { Holding };
 
-    ghost view = { λ a. record { keys = a.keys.entries; pairs = a.pairs } };
+    ghost view = { λ a. record { keys = a.keys; pairs = a.pairs } };
 
-    ghost invariant = { λ a. IsCounted a.keys.entries a.seen };
+    ghost invariant = { λ a. IsCounted a.keys a.seen };
 }
 
 impl Holder {
     /// Nothing.
-    pub(crate) fn new(alloc: Global) -> Holder
+    pub(crate) fn new() -> Holder
         ensures keys { result.keys ≡ [] }
         ensures pairs { result.pairs ≡ 0 }
     {
         Holder {
-            keys: BTreeMap::new(alloc),
+            keys: Keys::new(),
             seen: 0,
             pairs: 0,
         }
     }
 
     /// The key names the number now, seen or not. Without memory all stays.
-    pub(crate) fn add(&mut self, key: (u16, u64), seen: bool) -> Result<(), AllocError>
+    pub(crate) fn add(
+        &mut self,
+        alloc: Global,
+        key: (u16, u64),
+        seen: bool,
+    ) -> Result<(), AllocError>
         ensures keys { OnOk result ((k : Key) → lookup (is_at (key_cmp k)) self.new.keys
             ≡ if same_key key k then Some seen else lookup (is_at (key_cmp k)) self.old.keys) }
         ensures rising { IsStrictlySortedBy key_cmp (keys_of self.new.keys) }
@@ -55,7 +60,7 @@ impl Holder {
         ensures used { OnOk result (0 < uses_of self.new) }
         ensures err { OnErr result (self.new ≡ self.old) }
     {
-        let before = self.keys.insert(key, seen)?;
+        let before = self.keys.insert(alloc, key, seen)?;
         // There is memory for fewer than 2^63 keys.
         let _ = self.keys.len();
         self.seen = self.seen - u64::from(before.unwrap_or(false)) + u64::from(seen);
@@ -69,7 +74,7 @@ impl Holder {
         ensures rising { IsStrictlySortedBy key_cmp (keys_of self.new.keys) }
         ensures pairs { self.new.pairs ≡ self.old.pairs }
     {
-        let before = self.keys.remove(&key);
+        let before = self.keys.remove(key);
         self.seen -= u64::from(before.unwrap_or(false));
     }
 
@@ -102,7 +107,7 @@ impl Holder {
         ensures names { result ≡ length self.now.keys }
         ensures fits { result < 2 ^ 63 }
     {
-        self.keys.len() as u64
+        self.keys.len()
     }
 
     /// How many of the keys are seen.
@@ -119,10 +124,10 @@ impl Holder {
         self.pairs
     }
 
-    /// The keys, rising, each with whether it is seen.
-    pub(crate) fn keys(&self) -> &BTreeMap<(u16, u64), bool>
-        ensures { result.now.entries ≡ self.now.keys }
+    /// The keys, rising.
+    pub(crate) fn keys(&self, alloc: Global) -> Result<Vec<(u16, u64)>, AllocError>
+        ensures { IfOk result (λ keys. keys.items ≡ keys_of self.now.keys) }
     {
-        &self.keys
+        self.keys.list(alloc)
     }
 }

@@ -58,10 +58,10 @@ impl Holders {
             ≡ seen_at self.old m k) }
     {
         if let Some(holder) = self.numbers.get_mut(&n) {
-            return holder.add(key, seen);
+            return holder.add(self.alloc, key, seen);
         }
-        let mut holder = Holder::new(self.alloc);
-        holder.add(key, seen)?;
+        let mut holder = Holder::new();
+        holder.add(self.alloc, key, seen)?;
         self.numbers.insert(n, holder)?;
         Ok(())
     }
@@ -93,7 +93,7 @@ impl Holders {
             holder.hold();
             return Ok(());
         }
-        let mut holder = Holder::new(self.alloc);
+        let mut holder = Holder::new();
         holder.hold();
         self.numbers.insert(n, holder)?;
         Ok(())
@@ -160,13 +160,10 @@ impl Holders {
         ensures keys { IfOk result (λ keys. keys.items ≡ keys_of (keys_at self.now n)) }
         ensures rising { KeysRise self.now }
     {
-        let mut list = Vec::new(alloc);
-        if let Some(holder) = self.numbers.get(&n) {
-            for key in holder.keys().keys() {
-                list.push(*key)?;
-            }
+        match self.numbers.get(&n) {
+            None => Ok(Vec::new(alloc)),
+            Some(holder) => holder.keys(alloc),
         }
-        Ok(list)
     }
 
     /// Whether each number that is used lies from `from` on and below `end`.
