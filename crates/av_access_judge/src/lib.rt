@@ -5,9 +5,9 @@
 //! where it ends; or they are those of none (`accesses`). Of one page, that it is served, or isn't
 //! and the unit ends. Its parts: a page whose entry is a slot comes in, or is kept out; a page that
 //! is here gets what it needs, or no frame can be had for it; its slot is dropped where that is
-//! needed no more. What a pass spares is what the definitions say (`sparing`); where a page is
-//! locked, to find it costs a look at all entries, also where no pass comes. Which bytes a page
-//! holds is not asked here, nor what the answer says.
+//! needed no more. What a pass spares is what the definitions say (`sparing`). It is looked for only
+//! where no frame is free, so that a pass comes; where a page is locked then, that costs a look at
+//! all entries. Which bytes a page holds is not asked here, nor what the answer says.
 //!
 //! Only tested: nothing.
 #![tactic(auto)]
