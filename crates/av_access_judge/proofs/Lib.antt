@@ -1,4 +1,4 @@
-pub mod SparingLaws
+pub mod LockedLaws
 pub mod FreeLaws
 pub mod TakeLaws
 pub mod ComeLaws

@@ -6,8 +6,9 @@
 //! and the unit ends. Its parts: a page whose entry is a slot comes in, or is kept out; a page that
 //! is here gets what it needs, or no frame can be had for it; its slot is dropped where that is
 //! needed no more. What a pass spares is what the definitions say (`sparing`). It is looked for only
-//! where no frame is free, so that a pass comes; where a page is locked then, that costs a look at
-//! all entries. Which bytes a page holds is not asked here, nor what the answer says.
+//! where no frame is free, so that a pass comes. That costs a look at the ranges of the processes
+//! with a locked page, and at the entries of these pages. Which bytes a page holds is not asked
+//! here, nor what the answer says.
 //!
 //! Only tested: nothing.
 #![tactic(auto)]
@@ -15,6 +16,7 @@
 mod accessing;
 mod coming;
 mod dropping;
+mod locked;
 mod making;
 mod spared;
 mod taking;

@@ -8,30 +8,11 @@ ghost use Rattle.av_book.specs.Book.{ledger_of};
 ghost use Rattle.av_book.specs.Machine.{setting_of};
 ghost use Rattle.av_book.specs.Spared.{spared_of};
 ghost use Rattle.av_world.specs.Memories.{IsWorld};
-ghost use Rattle.av_access_judge.specs.Sparing.{locked_of};
 
-use av_book::{Book, Entry, Machine, Spared};
+use crate::locked::locked_frames;
+use av_book::{Book, Machine, Spared};
 use av_world::Memories;
 use std::alloc::{AllocError, Global};
-
-/// The frames of locked pages.
-fn locked_frames(alloc: Global, book: &Book, memories: &Memories) -> Result<Vec<u32>, AllocError>
-    ensures { IfOk result (λ made. (w : World) → IsWorld memories.now w
-        → made.items ≡ locked_of w book.now.pages.entries) }
-{
-    let mut made = Vec::new(alloc);
-    if !memories.has_lock() {
-        return Ok(made);
-    }
-    for (key, entry) in book.entries().iter() {
-        if let Entry::InFrame { frame, .. } = *entry {
-            if memories.locks(key.0, key.1) {
-                made.push(frame)?;
-            }
-        }
-    }
-    Ok(made)
-}
 
 /// What a pass spares for a page of an access, beside the frame that is to be copied.
 pub fn sparing(
