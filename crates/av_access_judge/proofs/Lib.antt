@@ -1,4 +1,5 @@
-pub mod SparingLaws
+pub mod LockedLaws
+pub mod FreeLaws
 pub mod TakeLaws
 pub mod ComeLaws
 pub mod HereLaws

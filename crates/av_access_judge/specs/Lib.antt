@@ -1,4 +1,4 @@
-pub mod Sparing
+pub mod Locked
 pub mod Take
 pub mod Come
 pub mod Drop

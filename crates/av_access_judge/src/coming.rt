@@ -7,13 +7,14 @@ ghost use Rattle.av_plain.specs.World.{World};
 ghost use Rattle.av_book.specs.Book.{ledger_of};
 ghost use Rattle.av_book.specs.Machine.{AreNamed, setting_of};
 ghost use Rattle.av_book.specs.Need.{need_of};
+ghost use Rattle.av_book.specs.Spared.{spared_of};
 ghost use Rattle.av_judge.specs.Stage.{Meets};
 ghost use Rattle.av_world.specs.Memories.{IsWorld};
 ghost use Rattle.av_access_judge.specs.Come.{HasNoSlot, IsKept, coming_of};
 
-use crate::spared::sparing;
+use crate::spared::sparing_where_full;
 use av_base::Slot;
-use av_book::{Book, Machine, Need};
+use av_book::{Book, Machine, Need, Spared};
 use av_judge::{Come, Unit, reads, swaps_in};
 use av_trace::{Note, OutOf};
 use av_world::Memories;
@@ -33,6 +34,39 @@ pub enum Stop {
 pub enum Coming {
     Here,
     Kept(Stop),
+}
+
+/// A page comes in from its slot on the device, behind a pass that spares this.
+fn comes_behind(
+    book: &mut Book,
+    unit: &mut Unit<'_>,
+    machine: &Machine,
+    spared: &Spared,
+    slot: Slot,
+    process: u16,
+    page: u64,
+) -> Result<Option<Coming>, AllocError>
+    requires some { 0 < machine.now.frames }
+    requires fits { AreNamed (setting_of machine.now) }
+    requires page { page < 2 ^ 52 }
+    ensures comes { IfOk result (λ coming. Meets
+        (λ u. ComesIn (setting_of machine.now) (λ l pinned. spared_of spared.now)
+        (ledger_of book.old) (process, page) (need_of (Need.SwapIn slot)))
+        (IsKept (setting_of machine.now) (λ l pinned. spared_of spared.now)
+        (ledger_of book.old) (need_of (Need.SwapIn slot))) (ledger_of book.old)
+        unit.old.rest.now (coming_of coming) (ledger_of book.new) unit.new.rest.now) }
+    ensures here { IfOk result (λ coming. (write : Bool)
+        → HasNoSlot write (ledger_of book.new) (process, page) coming) }
+{
+    match swaps_in(book, unit, machine, spared, slot, process, page)? {
+        None => Ok(None),
+        Some(Come::In) => Ok(Some(Coming::Here)),
+        Some(Come::Lost) => Ok(Some(Coming::Kept(Stop::Lost))),
+        Some(Come::Starved) => {
+            let out = book.out_of(machine, spared);
+            Ok(Some(Coming::Kept(Stop::Starved(out))))
+        }
+    }
 }
 
 /// A page comes in from its slot on the device.
@@ -57,16 +91,8 @@ fn comes_from(
     ensures here { IfOk result (λ found. (write : Bool)
         → HasNoSlot write (ledger_of book.new) (process, page) found) }
 {
-    let spared = sparing(unit.alloc, book, memories, None)?;
-    match swaps_in(book, unit, machine, &spared, slot, process, page)? {
-        None => Ok(None),
-        Some(Come::In) => Ok(Some(Coming::Here)),
-        Some(Come::Lost) => Ok(Some(Coming::Kept(Stop::Lost))),
-        Some(Come::Starved) => {
-            let out = book.out_of(machine, &spared);
-            Ok(Some(Coming::Kept(Stop::Starved(out))))
-        }
-    }
+    let spared = sparing_where_full(unit.alloc, book, machine, memories, None)?;
+    comes_behind(book, unit, machine, &spared, slot, process, page)
 }
 
 /// A page comes in, if its entry is a slot. Then it isn't one any more.

@@ -5,9 +5,10 @@
 //! where it ends; or they are those of none (`accesses`). Of one page, that it is served, or isn't
 //! and the unit ends. Its parts: a page whose entry is a slot comes in, or is kept out; a page that
 //! is here gets what it needs, or no frame can be had for it; its slot is dropped where that is
-//! needed no more. What a pass spares is what the definitions say (`sparing`); where a page is
-//! locked, to find it costs a look at all entries, also where no pass comes. Which bytes a page
-//! holds is not asked here, nor what the answer says.
+//! needed no more. What a pass spares is what the definitions say (`sparing`). It is looked for only
+//! where no frame is free, so that a pass comes. That costs a look at the ranges of the processes
+//! with a locked page, and at the entries of these pages. Which bytes a page holds is not asked
+//! here, nor what the answer says.
 //!
 //! Only tested: nothing.
 #![tactic(auto)]
@@ -15,6 +16,7 @@
 mod accessing;
 mod coming;
 mod dropping;
+mod locked;
 mod making;
 mod spared;
 mod taking;

@@ -7,13 +7,14 @@ ghost use Rattle.av_plain.specs.World.{World};
 ghost use Rattle.av_book.specs.Book.{ledger_of};
 ghost use Rattle.av_book.specs.Machine.{AreNamed, setting_of};
 ghost use Rattle.av_book.specs.Need.{need_of};
+ghost use Rattle.av_book.specs.Spared.{spared_of};
 ghost use Rattle.av_judge.specs.Stage.{Meets};
 ghost use Rattle.av_world.specs.Memories.{IsWorld};
 ghost use Rattle.av_access_judge.specs.Take.{HasNoFrame, MakesFrame, making_of};
 
-use crate::spared::sparing;
+use crate::spared::sparing_where_full;
 use crate::taking::{Take, takes_behind};
-use av_book::{Book, Machine, Need};
+use av_book::{Book, Machine, Need, Spared};
 use av_judge::{Taking, Unit, reads};
 use av_trace::{Note, OutOf};
 use av_world::Memories;
@@ -24,6 +25,29 @@ use std::alloc::AllocError;
 pub enum Making {
     Made,
     Starved(OutOf),
+}
+
+/// A page gets a frame, behind a pass that spares this.
+fn makes_frame_behind(
+    book: &mut Book,
+    unit: &mut Unit<'_>,
+    machine: &Machine,
+    spared: &Spared,
+    taking: Taking,
+) -> Result<Option<Making>, AllocError>
+    requires some { 0 < machine.now.frames }
+    requires fits { AreNamed (setting_of machine.now) }
+    ensures { IfOk result (λ making. Meets
+        (MakesFrame (setting_of machine.now) (spared_of spared.now) (ledger_of book.old) taking)
+        (HasNoFrame (setting_of machine.now) (spared_of spared.now) (ledger_of book.old))
+        (ledger_of book.old) unit.old.rest.now (making_of making) (ledger_of book.new)
+        unit.new.rest.now) }
+{
+    match takes_behind(book, unit, machine, spared, taking)? {
+        None => Ok(None),
+        Some(Take::Taken(_)) => Ok(Some(Making::Made)),
+        Some(Take::Starved) => Ok(Some(Making::Starved(book.out_of(machine, spared)))),
+    }
 }
 
 /// A page gets a frame, but not that which is pinned.
@@ -44,12 +68,8 @@ fn makes_frame(
         (ledger_of book.old)) (ledger_of book.old) unit.old.rest.now (making_of found)
         (ledger_of book.new) unit.new.rest.now) }
 {
-    let spared = sparing(unit.alloc, book, memories, pinned)?;
-    match takes_behind(book, unit, machine, &spared, taking)? {
-        None => Ok(None),
-        Some(Take::Taken(_)) => Ok(Some(Making::Made)),
-        Some(Take::Starved) => Ok(Some(Making::Starved(book.out_of(machine, &spared)))),
-    }
+    let spared = sparing_where_full(unit.alloc, book, machine, memories, pinned)?;
+    makes_frame_behind(book, unit, machine, &spared, taking)
 }
 
 /// A page gets what it needs, where its entry is no slot.

@@ -1,35 +1,18 @@
 //! What a pass spares in an access.
 
-ghost use Rattle.std.specs.Prelude.{◌≡◌, IfOk};
+ghost use Rattle.std.specs.Prelude.{◌≡◌, IfOk, false};
 ghost use Rattle.av_plain.specs.Fault.{sparing as sparing_of};
+ghost use Rattle.av_plain.specs.Ledger.{has_free};
 ghost use Rattle.av_plain.specs.World.{World};
 ghost use Rattle.av_book.specs.Book.{ledger_of};
+ghost use Rattle.av_book.specs.Machine.{setting_of};
 ghost use Rattle.av_book.specs.Spared.{spared_of};
 ghost use Rattle.av_world.specs.Memories.{IsWorld};
-ghost use Rattle.av_access_judge.specs.Sparing.{locked_of};
 
-use av_book::{Book, Entry, Spared};
+use crate::locked::locked_frames;
+use av_book::{Book, Machine, Spared};
 use av_world::Memories;
 use std::alloc::{AllocError, Global};
-
-/// The frames of locked pages.
-fn locked_frames(alloc: Global, book: &Book, memories: &Memories) -> Result<Vec<u32>, AllocError>
-    ensures { IfOk result (λ made. (w : World) → IsWorld memories.now w
-        → made.items ≡ locked_of w book.now.pages.entries) }
-{
-    let mut made = Vec::new(alloc);
-    if !memories.has_lock() {
-        return Ok(made);
-    }
-    for (key, entry) in book.entries().iter() {
-        if let Entry::InFrame { frame, .. } = *entry {
-            if memories.locks(key.0, key.1) {
-                made.push(frame)?;
-            }
-        }
-    }
-    Ok(made)
-}
 
 /// What a pass spares for a page of an access, beside the frame that is to be copied.
 pub fn sparing(
@@ -47,4 +30,27 @@ pub fn sparing(
         locked,
         closing: None,
     })
+}
+
+/// What a pass spares before a frame is taken. Where one is free no pass comes, and the answer says
+/// nothing: so no page is looked at.
+pub fn sparing_where_full(
+    alloc: Global,
+    book: &Book,
+    machine: &Machine,
+    memories: &Memories,
+    pinned: Option<u32>,
+) -> Result<Spared, AllocError>
+    ensures { IfOk result (λ spared. (w : World) → IsWorld memories.now w
+        → has_free (setting_of machine.now) (ledger_of book.now) ≡ false
+        → spared_of spared ≡ sparing_of w (ledger_of book.now) pinned) }
+{
+    if book.has_free(machine) {
+        return Ok(Spared {
+            pinned,
+            locked: Vec::new(alloc),
+            closing: None,
+        });
+    }
+    sparing(alloc, book, memories, pinned)
 }

@@ -10,20 +10,6 @@ use Rattle.av_swapoff_judge.specs.Close.{IsWhole}
 abbrev pub Never : Unit {0} → List Note → Type 0
 Never u notes = ⊥
 
--- other notes are lawful in the same way
-pub meets-as : {X S : Type 0} (Goes Goes' : X → List Note → Type 0) (Stops Stops' : S → List Note → Type 0) (l l' : Ledger) (bytes rest : List ℕ)
-    (found : Option (X ⊎ S)) → ((x : X) (ns : List Note) → Goes x ns → Goes' x ns) → ((x : X) (ns : List Note) → Goes' x ns → Goes x ns)
-    → ((s : S) (ns : List Note) → Stops s ns → Stops' s ns) → ((s : S) (ns : List Note) → Stops' s ns → Stops s ns)
-    → Meets Goes Stops l bytes found l' rest → Meets Goes' Stops' l bytes found l' rest
-meets-as Goes Goes' Stops Stops' l l' bytes rest None to from stops back h = record {
-  goes = λ x ns more g st. h.goes x ns more (from x ns g) st;
-  stops = λ s ns g st. h.stops s ns (back s ns g) st;
-}
-meets-as Goes Goes' Stops Stops' l l' bytes rest (Some (inl x)) to from stops back h =
-    record { notes = h.notes; lawful = to x h.notes h.lawful; stand = h.stand; after = h.after }
-meets-as Goes Goes' Stops Stops' l l' bytes rest (Some (inr s)) to from stops back h =
-    record { notes = h.notes; lawful = stops s h.notes h.lawful; stand = h.stand; after = h.after }
-
 -- the end that is met, if one is
 abbrev pub ended : {S : Type 0} → Option S → Option (Unit {0} ⊎ S)
 ended found = option_map inr found

@@ -1,11 +1,12 @@
 -- Which pages are locked, and which processes have one.
-use Rattle.std.proofs.Common.{◌≡◌, ◌⊎◌, inl, inr, ℕ, Bool, true, false, cond, List, [], ◌∷◌, Option, Some, None, refl, sym, ap, subst, ◌∙◌}
-use Rattle.std.specs.Prelude.{MatchBool, ◌||◌, option_and_then}
-use Rattle.std.specs.List.{list_any}
+use Rattle.std.proofs.Common.{◌≡◌, inl, inr, ℕ, zero, suc, ◌+◌, ◌<◌, ◌≤◌, Bool, true, false, cond, List, Option, Some, None, refl, sym, ap, subst, ◌∙◌, arith}
+use Rattle.std.specs.Prelude.{option_and_then}
+use Rattle.std.proofs.lemmas.Bool.{cases_lt}
 use Rattle.std.specs.BTreeMap.{BTreeMap, get, is_at}
 use Rattle.std.specs.BTreeSet.{BTreeSet, contains}
 use Rattle.std.specs.Ordering.{nat_cmp}
-use Rattle.av_plain.specs.World.{Page, Process, World, is_locked_page, pages, with_bytes}
+use Rattle.av_base.specs.Limits.{top_page}
+use Rattle.av_plain.specs.World.{Page, Process, World, is_locked_page, pages, pages_to_locked, with_bytes}
 use Rattle.av_ranges.specs.Marks.{is_locked}
 use Rattle.av_ranges.specs.Ranges.{marks_at}
 use Rattle.av_ranges.specs.declared.marks.Marks.{Marks}
@@ -14,7 +15,7 @@ use Rattle.av_world.specs.Space.{IsPage, IsSpace}
 use Rattle.av_world.specs.declared.memories.Memories.{Memories}
 use Rattle.av_world.specs.declared.space.Space.{Space}
 use Rattle.av_world.proofs.KeptLaws.{key-self, same-key}
-use Rattle.av_world.proofs.WorldLaws.{found, spaces-find}
+use Rattle.av_world.proofs.WorldLaws.{spaces-find}
 
 pub lock-is : (o : Option Marks) (at : ℕ → ℕ) (p : Option Page) → IsPage o at p → is_locked o ≡ is_locked_page p
 lock-is None at None h = refl
@@ -24,17 +25,6 @@ lock-is (Some k) at (Some p) h = λ i. (sym h.1 i).locked
 
 not-both : (b : Bool) → b ≡ true → b ≡ false → ⊥
 not-both b h g = cc
-
--- ---- of one process
-
-pub space-locks : (locks : Bool) (s : Space) (q : Process) → IsSpace s q
-    → (locks ≡ true → (page : ℕ) × (is_locked (marks_at s.ranges page) ≡ true))
-    → (locks ≡ false → (page : ℕ) → is_locked (marks_at s.ranges page) ≡ false)
-    → MatchBool locks ((page : ℕ) × (is_locked_page (q page) ≡ true)) ((page : ℕ) → is_locked_page (q page) ≡ false)
-space-locks true s q h some none =
-    let one = some refl in
-    (one.0, sym (lock-is (marks_at s.ranges one.0) _ (q one.0) (h.pages one.0)) ∙ one.1)
-space-locks false s q h some none = λ page. sym (lock-is (marks_at s.ranges page) _ (q page) (h.pages page)) ∙ none refl page
 
 -- ---- those that are noted
 
@@ -113,51 +103,76 @@ pub written-lock : (old new : Space) (q : Process) (a : ℕ) (bytes : List ℕ) 
 written-lock old new q a bytes page h g = lock-is (marks_at new.ranges page) _ (with_bytes q a bytes page) (g.pages page)
     ∙ bytes-lock (q page) a bytes page ∙ sym (lock-is (marks_at old.ranges page) _ (q page) (h.pages page))
 
--- ---- of any process
+-- ---- those that are noted are looked at alone
 
--- whether a process is one of some
-abbrev pub is_one : List ℕ → ℕ → Bool
-is_one ps p = list_any (λ q. is_at (nat_cmp p) q) ps
-
--- each that is noted is one of these, or has no locked page
-abbrev pub AreLeft : Memories → List ℕ → Type 0
-AreLeft memories rest = (p : ℕ) → contains nat_cmp memories.locking p ≡ true
-    → (is_one rest p ≡ true) ⊎ ((w : World) → IsWorld memories w → (page : ℕ) → is_locked_page (pages w p page) ≡ false)
-
-pub one-less : (memories : Memories) (rest later : List ℕ) (number : ℕ) → AreLeft memories rest → rest ≡ number ∷ later
-    → ((w : World) → IsWorld memories w → (page : ℕ) → is_locked_page (pages w number page) ≡ false) → AreLeft memories later
-one-less memories rest later number left is none = λ p noted. elim (left p noted) [
-  | inl one ↦ by p (is_at (nat_cmp p) number) refl (subst (λ rest. is_one rest p ≡ true) is one)
-  | inr free ↦ inr free
-]
+-- a process with a locked page is noted
+pub locks-noted : (memories : Memories) (w : World) → IsWorld memories w → (p page : ℕ) → is_locked_page (pages w p page) ≡ true
+    → contains nat_cmp memories.locking p ≡ true
+locks-noted memories w h p page locked =
+    by (get nat_cmp memories.spaces p) _ (spaces-find memories.spaces.entries w p h.spaces) locked (λ s is locked. h.noted p s page is locked)
   where
-    by : (p : ℕ) (b : Bool) → is_at (nat_cmp p) number ≡ b → (b || is_one later p) ≡ true
-        → (is_one later p ≡ true) ⊎ ((w : World) → IsWorld memories w → (page : ℕ) → is_locked_page (pages w p page) ≡ false)
-    by p true e h = inr (subst (λ p. (w : World) → IsWorld memories w → (page : ℕ) → is_locked_page (pages w p page) ≡ false)
-        (same-key p number e) none)
-    by p false e h = inl h
-
--- where none is left, no page is locked
-pub none-locked : (memories : Memories) (w : World) → AreLeft memories [] → IsWorld memories w → (p page : ℕ) → is_locked_page (pages w p page) ≡ false
-none-locked memories w left h p page = by (is_locked_page (pages w p page)) refl
-  where
-    differ : false ≡ true → ⊥
-    differ e = cc
-
-    locked-there : (o : Option Space) (q : Option Process) → IsProcess o q → is_locked_page (option_and_then (λ (q : Process). q page) q) ≡ true
+    by : (o : Option Space) (q : Option Process) → IsProcess o q → is_locked_page (option_and_then (λ (q : Process). q page) q) ≡ true
         → ((s : Space) → o ≡ Some s → is_locked (marks_at s.ranges page) ≡ true → contains nat_cmp memories.locking p ≡ true)
         → contains nat_cmp memories.locking p ≡ true
-    locked-there None None g locked noted = cc
-    locked-there None (Some q) g locked noted = absurd g
-    locked-there (Some s) None g locked noted = absurd g
-    locked-there (Some s) (Some q) g locked noted = noted s refl (lock-is (marks_at s.ranges page) _ (q page) (g.pages page) ∙ locked)
+    by None None g locked noted = cc
+    by None (Some q) g locked noted = absurd g
+    by (Some s) None g locked noted = absurd g
+    by (Some s) (Some q) g locked noted = noted s refl (lock-is (marks_at s.ranges page) _ (q page) (g.pages page) ∙ locked)
 
-    by : (b : Bool) → is_locked_page (pages w p page) ≡ b → is_locked_page (pages w p page) ≡ false
-    by false e = e
-    by true e =
-        let noted = locked-there (get nat_cmp memories.spaces p) _ (spaces-find memories.spaces.entries w p h.spaces) e
-        (λ s is locked. h.noted p s page is locked) in
-        elim (left p noted) [
-          | inl one ↦ absurd (differ one)
-          | inr free ↦ free w h page
-        ]
+-- ---- the first that is locked
+
+-- those that are counted aren't
+pub none-before : (q : Process) (from n page : ℕ) → from ≤ page → page < from + pages_to_locked q from n → is_locked_page (q page) ≡ false
+none-before q from zero page low high = absurd (omega (arith, low, high))
+none-before q from (suc n) page low high =
+    by (is_locked_page (q from)) refl (λ more less. none-before q (from + 1) n page more less) high
+  where
+    same : (a b : ℕ) → a ≤ b → b ≤ a → b ≡ a
+    same a b h g = omega (arith, h, g)
+
+    by : (b : Bool) → is_locked_page (q from) ≡ b
+        → (from + 1 ≤ page → page < from + 1 + pages_to_locked q (from + 1) n → is_locked_page (q page) ≡ false)
+        → page < from + cond b 0 (pages_to_locked q (from + 1) n + 1) → is_locked_page (q page) ≡ false
+    by true e later high = absurd (omega (arith, low, high))
+    by false e later high = elim (cases_lt from page) [
+      | inl more ↦ later (omega (arith, more)) (omega (arith, high))
+      | inr least ↦ ap (λ a. is_locked_page (q a)) (same from page low least) ∙ e
+    ]
+
+-- the one behind them is
+pub one-behind : (q : Process) (from n : ℕ) → pages_to_locked q from n < n → is_locked_page (q (from + pages_to_locked q from n)) ≡ true
+one-behind q from zero less = absurd (omega (arith, less))
+one-behind q from (suc n) less = by (is_locked_page (q from)) refl (one-behind q (from + 1) n) less
+  where
+    here : (a : ℕ) → a + 0 ≡ a
+    here a = omega arith
+
+    further : (a x : ℕ) → a + (x + 1) ≡ a + 1 + x
+    further a x = omega arith
+
+    by : (b : Bool) → is_locked_page (q from) ≡ b
+        → (pages_to_locked q (from + 1) n < n → is_locked_page (q (from + 1 + pages_to_locked q (from + 1) n)) ≡ true)
+        → cond b 0 (pages_to_locked q (from + 1) n + 1) < suc n
+        → is_locked_page (q (from + cond b 0 (pages_to_locked q (from + 1) n + 1))) ≡ true
+    by true e later less = ap (λ a. is_locked_page (q a)) (here from) ∙ e
+    by false e later less = ap (λ a. is_locked_page (q a)) (further from (pages_to_locked q (from + 1) n)) ∙ later (omega (arith, less))
+
+module _ (s : Space) (q : Process) (h : IsSpace s q) (from : ℕ) where
+  -- none at the top or above is
+  pub none-above : (page : ℕ) → top_page ≤ page → is_locked_page (q page) ≡ false
+  none-above page high = ap is_locked_page (h.top page high)
+
+  -- none is left
+  pub none-left : (n : ℕ) → from + n ≡ top_page → pages_to_locked q from n ≡ n → (page : ℕ) → from ≤ page → is_locked_page (q page) ≡ false
+  none-left n end all page low = elim (cases_lt page top_page) [
+    | inl under ↦ none-before q from n page low (omega (arith, end, all, under))
+    | inr high ↦ none-above page high
+  ]
+
+  -- all of which the same is said as of the first one are
+  pub run-locked : (n start end : ℕ) → start ≡ from + pages_to_locked q from n → pages_to_locked q from n < n
+      → ((page : ℕ) → start ≤ page → page < end → marks_at s.ranges page ≡ marks_at s.ranges start)
+      → (page : ℕ) → start ≤ page → page < end → is_locked_page (q page) ≡ true
+  run-locked n start end is less same page low high =
+      sym (lock-is (marks_at s.ranges page) _ (q page) (h.pages page)) ∙ ap is_locked (same page low high)
+      ∙ lock-is (marks_at s.ranges start) _ (q start) (h.pages start) ∙ ap (λ a. is_locked_page (q a)) is ∙ one-behind q from n less

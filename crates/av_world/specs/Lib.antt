@@ -6,3 +6,4 @@ pub mod Memories
 pub mod Bytes
 pub mod Child
 pub mod Remap
+pub mod Locks

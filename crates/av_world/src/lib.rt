@@ -5,13 +5,14 @@
 //! (`remap`), writes bytes (`write`), makes a child (`fork`) or ends a process (`remove`). What is
 //! asked of them is what the definitions say: the bytes from an address on, whether a page may be
 //! accessed, is locked or goes over to a child, how many pages come before a hole or a locked page,
-//! whether pages have one protection, and the greatest gap.
+//! which locked pages come next (`next_locked`), whether pages have one protection, and the
+//! greatest gap.
 //!
 //! What is said of pages is kept by ranges (`av_ranges`), and bytes by page. So a call costs some
 //! ways down a tree and what it goes over, whatever else the process has mapped; a move costs what
 //! it moves. A fork goes over the parent's ranges, copies the bytes of each page that was written,
-//! and drops those that don't go over. Processes with a locked page are noted, so `has_lock` looks
-//! at no other.
+//! and drops those that don't go over. Processes with a locked page are noted (`locking`), so that
+//! no other is looked at for one.
 //!
 //! Only tested: nothing.
 #![tactic(auto)]

@@ -1,40 +1,29 @@
-use Rattle.std.proofs.Common.{None, Option, Some, ap, subst, ◌∙◌}
 use Rattle.av_base.specs.Keys.{Key}
-use Rattle.av_plain.specs.Fault.{sparing}
-use Rattle.av_plain.specs.Pass.{Spared}
+use Rattle.av_plain.specs.Fault.{ComesIn, SwapIn, sparing}
+use Rattle.av_plain.specs.World.{World}
 use Rattle.av_book.specs.Book.{ledger_of}
 use Rattle.av_book.specs.Machine.{setting_of}
 use Rattle.av_book.specs.Spared.{spared_of}
-use Rattle.av_judge.specs.Come.{ComesFrom, IsKeptOut, came_of}
 use Rattle.av_judge.specs.Stage.{Meets}
-use Rattle.av_judge.specs.declared.come.Come.{Come}
-use Rattle.av_access_judge.proofs.ComeLaws.{from-none}
-use Rattle.av_access_judge.proofs.HereLaws.{from-no-slot}
+use Rattle.av_judge.proofs.Finds.{if-ok}
+use Rattle.av_world.specs.Memories.{IsWorld}
+use Rattle.av_access_judge.specs.Come.{IsKept, coming_of}
+use Rattle.av_access_judge.proofs.FreeLaws.{come-as}
 use Rattle.av_access_judge.proofs.coming.comes_from.Goals as goal
 
-pub returns-in-None-clause-comes : goal.returns-in-None-clause-comes
-returns-in-None-clause-comes c = λ w h.
+pub returns-clause-comes : goal.returns-clause-comes
+returns-clause-comes c =
     let m = setting_of c.args.machine.now in
     let l = ledger_of c.args.book.now in
-    let l1 = ledger_of c.swaps_in.new.book in
+    let l1 = ledger_of c.comes_behind.new.book in
     let k : Key = (c.args.process, c.args.page) in
     let sp = spared_of c.in_ok-spared.spared in
     let bytes = c.args.unit.now.rest.now in
-    let rest = c.swaps_in.new.unit.rest.now in
-    from-none m (sparing w) l k c.args.slot bytes rest l1 l1 rest
-    (subst (λ (s : Spared). Meets (ComesFrom m s l k c.args.slot) (IsKeptOut m s l) l bytes None l1 rest) (c.in_ok-spared.ensures w h)
-    (subst (λ (o : Option Come). Meets (ComesFrom m sp l k c.args.slot) (IsKeptOut m sp l) l bytes (came_of o) l1 rest)
-    c.in-None.is c.in_ok-swaps_in.ensures))
-
-pub returns-in-Some-In-clause-here : goal.returns-in-Some-In-clause-here
-returns-in-Some-In-clause-here c = λ write.
-    let m = setting_of c.args.machine.now in
-    let l = ledger_of c.args.book.now in
-    let l1 = ledger_of c.swaps_in.new.book in
-    let k : Key = (c.args.process, c.args.page) in
-    let sp = spared_of c.in_ok-spared.spared in
-    let bytes = c.args.unit.now.rest.now in
-    let rest = c.swaps_in.new.unit.rest.now in
-    from-no-slot m sp l l1 write k c.args.slot bytes rest
-    (subst (λ (o : Option Come). Meets (ComesFrom m sp l k c.args.slot) (IsKeptOut m sp l) l bytes (came_of o) l1 rest)
-    (c.in-Some-In.is ∙ ap Some c.in-Some-In.field-0-is) c.in_ok-swaps_in.ensures)
+    let rest = c.comes_behind.new.unit.rest.now in
+    if-ok c.comes_behind.result
+    (λ coming. Meets (λ (u : Unit {0}). ComesIn m (λ l pinned. sp) l k (SwapIn c.args.slot)) (IsKept m (λ l pinned. sp) l (SwapIn c.args.slot)) l
+    bytes (coming_of coming) l1 rest)
+    (λ coming. (w : World) → IsWorld c.args.memories.now w → Meets (λ (u : Unit {0}). ComesIn m (sparing w) l k (SwapIn c.args.slot))
+    (IsKept m (sparing w) l (SwapIn c.args.slot)) l bytes (coming_of coming) l1 rest)
+    (λ coming h w at. come-as m l l1 k c.args.slot (λ l pinned. sp) (sparing w) (c.in_ok-spared.ensures w at) bytes rest (coming_of coming) h)
+    c.comes_behind.ensures.comes
