@@ -11,7 +11,7 @@ use Rattle.av_base.specs.Keys.{key_cmp, same_key}
 use Rattle.av_base.specs.Limits.{low_page, top_page}
 use Rattle.av_base.proofs.Keys.{same_key-is, same_key-itself}
 use Rattle.av_vma.specs.Gap.{IsGap, IsRoom}
-use Rattle.av_ranges.specs.Holes.{AreHoles, AreHolesBut, AreShorter, AreWithin, EndsAt, EndsBelow, Hole, IsHighest, IsHole, LiesIn, is_noted}
+use Rattle.av_ranges.specs.Holes.{AreHoles, AreHolesBut, AllShorter, AreWithin, EndsAt, EndsBelow, Hole, IsHighest, IsHole, LiesIn, is_noted}
 use Rattle.av_ranges.proofs.MarksLaws.{lt-is, lt-not}
 
 pub no-both : {b : Bool} → b ≡ true → b ≡ false → ⊥
@@ -132,7 +132,7 @@ hole-over is_taken n page some room =
 
 -- what the index says is the gap
 pub gap-is : (is_taken : ℕ → Bool) (n : ℕ) (holes : List Hole) (page : Option ℕ) → 0 < n → AreHoles is_taken holes
-    → MatchOption page (AreShorter holes n) (λ page. IsHighest holes n page) → IsGap is_taken n page
+    → MatchOption page (AllShorter holes n) (λ page. IsHighest holes n page) → IsGap is_taken n page
 gap-is is_taken n holes None some are shorter = λ other room.
     let over = hole-over is_taken n other some room in
     let less = shorter over.hole (are.complete over.hole over.is) in
@@ -175,7 +175,7 @@ pub record HasEnd (holes : List Hole) (n end : ℕ) : Type 0 where
 pub highest-is : (holes : List Hole) (n end fewer : ℕ) (page : Option ℕ) → SomeIff page (n ≤ end) (end - n) → AreWithin holes → 0 < n
     → ((other : Hole) → is_noted holes other ≡ true → fewer ≤ other.0 → other.1 + other.0 ≤ end)
     → ((other : Hole) → is_noted holes other ≡ true → other.0 < fewer → other.0 < n) → (0 < end → HasEnd holes n end)
-    → MatchOption page (AreShorter holes n) (λ page. IsHighest holes n page)
+    → MatchOption page (AllShorter holes n) (λ page. IsHighest holes n page)
 highest-is holes n end fewer page some are least over short from = by page some
   where
     each : (other : Hole) → is_noted holes other ≡ true → n ≤ other.0 → (b : Bool) → nat_lt other.0 fewer ≡ b → other.1 + other.0 ≤ end
@@ -189,7 +189,7 @@ highest-is holes n end fewer page some are least over short from = by page some
         let high = each other noted long (nat_lt other.0 fewer) refl in
         absurd (none (omega (arith, long, high)))
 
-    by : (page : Option ℕ) → SomeIff page (n ≤ end) (end - n) → MatchOption page (AreShorter holes n) (λ page. IsHighest holes n page)
+    by : (page : Option ℕ) → SomeIff page (n ≤ end) (end - n) → MatchOption page (AllShorter holes n) (λ page. IsHighest holes n page)
     by None some = λ other noted. shorter other noted (nat_lt other.0 n) refl some
     by (Some page) some =
         let low = some.0 in

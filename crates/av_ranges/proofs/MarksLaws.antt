@@ -198,7 +198,8 @@ IsBoundAbove bounds page next = MatchOption next ((q : ℕ) → page ≤ q → m
     × (marks_at bounds next ≢ marks_at bounds page))
 
 -- the next bound is where something else is said
-pub next-above : (bounds : List (ℕ × Option Marks)) (holes : Option (List Hole)) (page : ℕ) (next : Option ℕ) → AreRanges bounds holes → IsNext bounds page next → IsBoundAbove bounds page next
+pub next-above : (bounds : List (ℕ × Option Marks)) (holes : Option (List Hole)) (page : ℕ) (next : Option ℕ) → AreRanges bounds holes
+    → IsNext bounds page next → IsBoundAbove bounds page next
 next-above bounds holes page None are none = λ q low.
     marks-run (bound_at bounds) page q low (λ p a b. none p a)
     ∙ sym (marks-run (bound_at bounds) page (page + 2 ^ 64) (omega arith) (λ p a b. none p a))

@@ -50,6 +50,20 @@ pub record AreHolesBut (is_taken : ℕ → Bool) (from end : ℕ) (holes : List 
   pub complete : (hole : Hole) → IsHole is_taken hole → (LiesIn from end hole → ⊥)
       → is_noted holes hole ≡ true
 
+-- the last of the longest holes of fewer than so many pages, and it has n
+pub record IsLongest (holes : List Hole) (n fewer : ℕ) (hole : Hole) : Type 0 where
+  pub noted : is_noted holes hole ≡ true
+  pub long : n ≤ hole.0
+  pub short : hole.0 < fewer
+  pub fits : hole.1 + hole.0 ≤ top_page
+  pub last : (other : Hole) → is_noted holes other ≡ true → other.0 < fewer → hole.0 ≤ other.0
+      → other.1 + other.0 ≤ hole.1 + hole.0
+
+-- each hole of fewer than so many pages has fewer than n
+abbrev pub AreShorter : List Hole → ℕ → ℕ → Type 0
+AreShorter holes n fewer =
+    (hole : Hole) → is_noted holes hole ≡ true → hole.0 < fewer → hole.0 < n
+
 -- the greatest page from which on n pages lie in a hole of the index
 pub record IsHighest (holes : List Hole) (n page : ℕ) : Type 0 where
   pub hole : Hole
@@ -60,5 +74,5 @@ pub record IsHighest (holes : List Hole) (n page : ℕ) : Type 0 where
       → other.1 + other.0 ≤ page + n
 
 -- no hole of the index has n pages
-abbrev pub AreShorter : List Hole → ℕ → Type 0
-AreShorter holes n = (hole : Hole) → is_noted holes hole ≡ true → hole.0 < n
+abbrev pub AllShorter : List Hole → ℕ → Type 0
+AllShorter holes n = (hole : Hole) → is_noted holes hole ≡ true → hole.0 < n

@@ -4,7 +4,8 @@ ghost use Rattle.std.specs.Prelude.{◌≡◌, ℕ, ◌+◌, ◌<◌, ◌≤◌,
 ghost use Rattle.std.specs.Prelude.{MatchOption, OnErr, OnOk};
 ghost use Rattle.av_base.specs.Keys.{same_key};
 ghost use Rattle.av_base.specs.Limits.{top_page};
-ghost use Rattle.av_ranges.specs.Holes.{AreShorter, Hole, IsHighest, is_noted};
+ghost use Rattle.av_ranges.specs.Holes.{AllShorter, AreShorter, Hole, IsHighest, IsLongest};
+ghost use Rattle.av_ranges.specs.Holes.{is_noted};
 
 use std::alloc::{AllocError, Global};
 use std::collections::BTreeSet;
@@ -59,11 +60,8 @@ impl Holes {
 
     /// The last of the longest holes of fewer than so many pages, if it has `n`.
     fn longest(&self, n: u64, fewer: u64) -> Option<(u64, u64)>
-        ensures { MatchOption result
-            ((other : Hole) → is_noted self.now other ≡ true → other.0 < fewer → other.0 < n)
-            (λ hole. (is_noted self.now hole ≡ true) × (n ≤ hole.0) × (hole.0 < fewer)
-            × (hole.1 + hole.0 ≤ top_page) × ((other : Hole) → is_noted self.now other ≡ true → other.0 < fewer
-            → hole.0 ≤ other.0 → other.1 + other.0 ≤ hole.1 + hole.0)) }
+        ensures { MatchOption result (AreShorter self.now n fewer)
+            (λ hole. IsLongest self.now n fewer hole) }
     {
         let (length, start) = *self.pairs.range(..(fewer, 0)).next_back()?;
         if length < n {
@@ -75,7 +73,7 @@ impl Holes {
     /// The greatest page from which on n pages lie in a hole.
     pub fn highest(&self, n: u64) -> Option<u64>
         requires { 0 < n }
-        ensures { MatchOption result (AreShorter self.now n) (λ page. IsHighest self.now n page) }
+        ensures { MatchOption result (AllShorter self.now n) (λ page. IsHighest self.now n page) }
     {
         // No hole has as many pages as a number can say.
         let _ = &self.pairs;

@@ -13,9 +13,9 @@
 //! Beside it stands an index of the holes, the free runs between what is mapped, by length and then
 //! by place. A gap goes once down it for each different length that would fit, and once more; a
 //! change or a put takes out the holes that it touches and puts in those that are there then. The
-//! index is proved to have just the holes. Where there is no memory for it, it is given up, and from
-//! then on a gap goes once down the tree of bounds for each run of pages that it passes from the
-//! top: it is as exact, and no call is refused for want of an index.
+//! index is proved to have just the holes. Where there is no memory for it, it is given up, and
+//! from then on a gap goes once down the tree of bounds for each run of pages that it passes from
+//! the top: it is as exact, and no call is refused for want of an index.
 //!
 //! That the trees are gone down so often is read off the code, and no clause says it.
 //!

@@ -13,7 +13,7 @@ loop-length-init c = record {
 }
 
 pub loop-length-smaller : goal.loop-length-smaller
-loop-length-smaller c = c.in-Some.ensures.2
+loop-length-smaller c = c.in-Some.ensures.short
 
 pub loop-length-preserved : goal.loop-length-preserved
 loop-length-preserved c = record {
@@ -25,7 +25,7 @@ loop-length-preserved c = record {
         → nat_lt other.0 c.loop-length.fewer ≡ b → other.1 + other.0 ≤ c.max-end.result
     over other noted low true is =
         let max = c.max-end.ensures in
-        let ends = c.in-Some.ensures.4 other noted (lt-is other.0 c.loop-length.fewer is) low in
+        let ends = c.in-Some.ensures.last other noted (lt-is other.0 c.loop-length.fewer is) low in
         omega (arith, max, ends)
     over other noted low false is =
         let max = c.max-end.ensures in
@@ -39,8 +39,8 @@ loop-length-preserved c = record {
         let less = lt-is c.loop-length.end (c.in-Some.start + c.in-Some.length) is in
         record {
           hole = (c.in-Some.length, c.in-Some.start);
-          noted = c.in-Some.ensures.0;
-          long = c.in-Some.ensures.1;
+          noted = c.in-Some.ensures.noted;
+          long = c.in-Some.ensures.long;
           last = omega (arith, max, less);
         }
     from some false is =

@@ -1,6 +1,5 @@
-use Rattle.std.proofs.Common.{◌≡◌, ◌+◌, ◌<◌, ◌≤◌, true, List, arith, subst, sym}
-use Rattle.av_base.specs.Limits.{top_page}
-use Rattle.av_ranges.specs.Holes.{Hole, is_noted}
+use Rattle.std.proofs.Common.{◌≡◌, true, arith, subst, sym}
+use Rattle.av_ranges.specs.Holes.{IsLongest, is_noted}
 use Rattle.av_ranges.proofs.HolesLaws.{before-shorter, last-ends, no-both, none-gives, shorter-before, shorter-than}
 use Rattle.av_ranges.proofs.holes.Holes.longest.Goals as goal
 
@@ -24,11 +23,11 @@ returns c =
     let k = c.in_ok-length.field-0.now in
     let long = c.if-length-n.false in
     let is = r.3 k _ c.in_ok-length.ensures.steps in
-    subst (λ (hs : List Hole). (is_noted hs k ≡ true) × (c.args.n ≤ k.0) × (k.0 < c.args.fewer) × (k.1 + k.0 ≤ top_page)
-    × ((other : Hole) → is_noted hs other ≡ true → other.0 < c.args.fewer → k.0 ≤ other.0 → other.1 + other.0 ≤ k.1 + k.0)) c.self.view_is (
-      is.1,
-      omega (arith, long),
-      shorter-before k c.args.fewer is.0.1,
-      (c.self.invariant k is.1).1,
-      λ other noted less low. last-ends k other (r.4 k _ c.in_ok-length.ensures.steps other (tt, before-shorter other c.args.fewer less) noted) low,
-    )
+    subst (λ hs. IsLongest hs c.args.n c.args.fewer k) c.self.view_is (record {
+      noted = is.1;
+      long = omega (arith, long);
+      short = shorter-before k c.args.fewer is.0.1;
+      fits = (c.self.invariant k is.1).1;
+      last = λ other noted less low.
+          last-ends k other (r.4 k _ c.in_ok-length.ensures.steps other (tt, before-shorter other c.args.fewer less) noted) low;
+    })
