@@ -1,38 +1,21 @@
 -- One tree in an arena of its own.
-use Rattle.std.proofs.Common.{◌≡◌, ℕ, ◌+◌, ◌*◌, ◌^◌, ◌<◌, ◌≤◌, inl, inr, IsSome, Option, Some, None, List, [], ◌∷◌, length, refl, sym, ap, ◌∙◌, subst, arith}
+use Rattle.std.proofs.Common.{◌≡◌, ℕ, ◌+◌, ◌^◌, ◌<◌, ◌≤◌, inl, inr, IsSome, Option, Some, None, List, [], ◌∷◌, length, refl, sym, ap, ◌∙◌, subst, arith}
 use Rattle.std.proofs.lemmas.Bool.{cases_lt}
-use Rattle.std.proofs.Math.Pow.{pow_mono}
-use Rattle.std.proofs.Math.Nat.{mul-le-mul}
 use Rattle.av_arena.specs.Monoid.{MonoidLaws}
 use Rattle.av_arena.specs.Below.{IsJoinFor, IsJoinedAt, IsSplit, IsSplitFor}
 use Rattle.av_arena.specs.Order.{IsRising, NoneBetween, NoneWithin, with_entry, with_joined, with_two, without_key, entry_at}
 use Rattle.av_arena.proofs.Order.{rising_front, rising_back, rising_with, rising_without}
-use Rattle.av_arena.proofs.Shallow.{shallow_entries}
+use Rattle.av_arena.proofs.Shallow.{low_tree}
 use Rattle.av_arena.specs.declared.link.Link.{Link}
 use Rattle.av_arena.specs.declared.link.Stored.{Stored}
-use Rattle.av_arena.specs.Tree.{Tree, Leaf, Fork, entries, height, is, none, count, IsLevel, Store, height_of, tree_at, IsHeld, IsOpened, IsPlaceFor, IsPlaced, IsReplaced, IsWithout}
+use Rattle.av_arena.specs.Tree.{Tree, entries, is, none, count, Store, height_of, tree_at, IsHeld, IsOpened, IsPlaceFor, IsPlaced, IsReplaced, IsWithout}
 use Rattle.av_base.specs.Words.{with_at}
 use Rattle.av_arena.specs.Avl.{IsAvl, IsPart}
 use Rattle.av_arena.proofs.TreeLemmas.{is_self, is_cases, with_at_same, with_at_other, kept, held_height, in_use, stored_used, none_tree}
 
-pub shallow : {T : Type 0} (t : Tree T) → IsLevel t → 2 ^ height t ≤ (length (entries t) + 1) * (length (entries t) + 1)
-shallow Leaf lv = omega arith
-shallow (Fork n l x r) lv = shallow_entries (entries l) x (entries r) (height l) (height r) (shallow l lv.1) (shallow r lv.2) lv.0.0 lv.0.1
-
-below_limit : (h n : ℕ) → 2 ^ h ≤ (n + 1) * (n + 1) → n < 2 ^ 64 → h < 200
-below_limit h n p q = elim (cases_lt h 200) [
-  | inl k ↦ k
-  | inr k ↦
-      let a : 129 ≤ h = omega arith in
-      let b : 2 ^ 129 ≤ 2 ^ h = pow_mono a in
-      let c : (n + 1) * (n + 1) ≤ 2 ^ 64 * 2 ^ 64 = mul-le-mul {n₁ = n + 1} {m₁ = n + 1} {n₂ = 2 ^ 64} {m₂ = 2 ^ 64} (omega arith) (omega arith) in
-      absurd (omega arith)
-]
-
 module _ {T S : Type 0} (key : T → ℕ) (unit : S) (op : S → S → S) (of : T → S) (laws : MonoidLaws unit op) where
   pub low : (s : Store T S) (k : Option (Link S)) → IsHeld key unit op of s k → length (entries (tree_at s k)) < 2 ^ 64 → height_of k < 200
-  low s k h n = rw (← held_height key unit op of laws s k h) (below_limit (height (tree_at s k)) (length (entries (tree_at s k)))
-      (shallow (tree_at s k) h.level) n)
+  low s k h n = rw (← held_height key unit op of laws s k h) (low_tree (tree_at s k) h.level n)
 
   pub empty : (s : Store T S) → IsPart key unit op of s None
   empty s =

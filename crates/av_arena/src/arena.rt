@@ -2,6 +2,7 @@
 
 ghost use Rattle.std.specs.Prelude.{◌≡◌, ℕ, Some, None, IfOk, OnErr, IsSome};
 ghost use Rattle.av_arena.specs.Arena.{entry_put, side_put, store_of};
+ghost use Rattle.av_arena.specs.Cell.{node_in};
 ghost use Rattle.av_base.specs.Words.{with_at};
 
 use crate::cell::Cell;
@@ -48,6 +49,15 @@ impl<T: Copy + Drop, S: Copy + Drop> Arena<T, S> {
         ensures { store_of self.now number ≡ Some result }
     {
         self.slab[number as usize].node()
+    }
+
+    /// The node with a number that is in use, as it lies here.
+    #[inline(always)]
+    pub(crate) fn cell(&self, number: u32) -> &Cell<T, S>
+        requires { IsSome (store_of self.now number) }
+        ensures { store_of self.now number ≡ Some (node_in result.now) }
+    {
+        &self.slab[number as usize]
     }
 
     /// Puts a node in place of the one with this number, which is in use.

@@ -6,43 +6,43 @@
 //! A step to either side is one function, in line and called with a constant, so that no side is
 //! kept over the call below.
 
-ghost use Rattle.std.specs.Prelude.{◌≡◌, true, false, IsSome, None, Some};
+ghost use Rattle.std.specs.Prelude.{◌≡◌, true, false, IsSome, MatchOption, None, Some};
 ghost use Rattle.av_arena.specs.Arena.{KeepsEntries, PutsEntry, store_of};
 ghost use Rattle.av_arena.specs.Below.{HasKeyBelow, IsAt, IsBeside, IsBetween, IsHung};
 ghost use Rattle.av_arena.specs.Below.{IsJoinBelowFor, IsJoinedBelow, IsLevelAt, IsPlaceBelow};
 ghost use Rattle.av_arena.specs.Below.{IsPlacedBelow, IsRemovedBelow, IsReplacedBelow, IsSettled};
 ghost use Rattle.av_arena.specs.Below.{IsSideFor, IsSideSettled, IsSideTaken, IsSplitBelow};
 ghost use Rattle.av_arena.specs.Below.{IsSplitBelowFor, IsTaken, IsTold, IsUnsettled, HasSide};
-ghost use Rattle.av_arena.specs.Below.{child_number, number_of};
+ghost use Rattle.av_arena.specs.Below.{child_number};
 
 use crate::arena::Arena;
 use crate::entry::Entry;
 use crate::link::{Link, Side, Stored};
-use crate::tree::{balance, close, height, is_same_link, pop_first, sum};
+use crate::tree::{balance, close, is_same_link, pop_first, sum_in};
 
-/// Whether the sides of a node differ by one level at most.
+/// The link that tells a node, whose sides differ by two levels at most: none where they are not
+/// level.
 #[inline(always)]
-fn is_level<T: Entry>(arena: &Arena<T, T::Sum>, number: u32) -> bool
+fn level_link<T: Entry>(arena: &Arena<T, T::Sum>, number: u32) -> Option<Link<T::Sum>>
     requires { IsUnsettled T.key T.unit T.op T.of 2 (store_of arena.now) number }
-    ensures { IsLevelAt T.key T.unit T.op T.of (store_of arena.now) number result }
+    ensures { MatchOption result (IsLevelAt T.key T.unit T.op T.of (store_of arena.now) number false)
+        (λ link. IsLevelAt T.key T.unit T.op T.of (store_of arena.now) number true
+        × IsTold T.key T.unit T.op T.of (store_of arena.now) number link) }
 {
-    let node = arena.get(number);
-    let (left, right) = (height(node.left), height(node.right));
-    left <= right + 1 && right <= left + 1
-}
-
-/// The link that tells a node.
-#[inline(always)]
-fn link_at<T: Entry>(arena: &Arena<T, T::Sum>, number: u32) -> Link<T::Sum>
-    requires { IsUnsettled T.key T.unit T.op T.of 2 (store_of arena.now) number }
-    ensures { IsTold T.key T.unit T.op T.of (store_of arena.now) number result }
-{
-    let node = arena.get(number);
-    Link {
-        number,
-        height: height(node.left).max(height(node.right)) + 1,
-        sum: T::join_sums(sum::<T>(node.left), &node.entry, sum::<T>(node.right)),
+    let cell = arena.cell(number);
+    let (left, right) = (cell.left.height(), cell.right.height());
+    if left > right + 1 || right > left + 1 {
+        return None;
     }
+    Some(Link {
+        number,
+        height: left.max(right) + 1,
+        sum: T::join_sums(
+            sum_in::<T>(&cell.left),
+            &cell.entry,
+            sum_in::<T>(&cell.right),
+        ),
+    })
 }
 
 /// What becomes of a node whose sides differ by two levels at most. Where they are level it stays
@@ -54,10 +54,10 @@ pub fn settle<T: Entry>(arena: &mut Arena<T, T::Sum>, number: u32) -> Link<T::Su
         number result }
     ensures kept { KeepsEntries (store_of arena.old) (store_of arena.new) }
 {
-    if is_level(arena, number) {
-        return link_at(arena, number);
+    match level_link(arena, number) {
+        Some(link) => link,
+        None => rotate(arena, number),
     }
-    rotate(arena, number)
 }
 
 /// What becomes of such a node by a rotation: another node is the root.
@@ -97,11 +97,7 @@ fn has_side<T: Entry>(arena: &Arena<T, T::Sum>, number: u32, link: Link<T::Sum>,
     requires { IsSome (store_of arena.now number) }
     ensures { HasSide (store_of arena.now) number side link result }
 {
-    let node = arena.get(number);
-    match side {
-        Side::Left => is_same_link::<T>(node.left, Some(link)),
-        Side::Right => is_same_link::<T>(node.right, Some(link)),
-    }
+    is_same_link::<T>(arena.cell(number).twig(side), Some(link))
 }
 
 /// Settles a side of a node, whose root is `child`, and puts its link there, where the node has
@@ -114,10 +110,9 @@ fn settle_side<T: Entry>(arena: &mut Arena<T, T::Sum>, number: u32, child: u32, 
         (store_of arena.new) number child result }
     ensures kept { KeepsEntries (store_of arena.old) (store_of arena.new) }
 {
-    if !is_level(arena, child) {
+    let Some(link) = level_link(arena, child) else {
         return turn_side(arena, number, child, side);
-    }
-    let link = link_at(arena, child);
+    };
     if has_side(arena, number, link, side) {
         return false;
     }
@@ -139,28 +134,13 @@ fn hang<T: Entry>(arena: &mut Arena<T, T::Sum>, number: u32, new: u32, entry: &T
     arena.set_side(number, side, Some(link));
 }
 
-/// The number that a link tells.
-#[inline(always)]
-fn number_of<S>(link: &Option<Link<S>>) -> Option<u32>
-    ensures { result ≡ number_of link.now }
-{
-    match link {
-        None => None,
-        Some(link) => Some(link.number),
-    }
-}
-
 /// The number of the node at the root of a side.
 #[inline(always)]
 fn child_of<T: Entry>(arena: &Arena<T, T::Sum>, number: u32, side: Side) -> Option<u32>
     requires { IsSome (store_of arena.now number) }
     ensures { result ≡ child_number side (store_of arena.now number) }
 {
-    let node = arena.get(number);
-    match side {
-        Side::Left => number_of(&node.left),
-        Side::Right => number_of(&node.right),
-    }
+    arena.cell(number).twig(side).number()
 }
 
 /// The side of a node where the key of `like` belongs: the left one where it is below the node's.
@@ -169,7 +149,7 @@ fn side_for<T: Entry>(arena: &Arena<T, T::Sum>, number: u32, like: &T) -> Side
     requires { IsSome (store_of arena.now number) }
     ensures { IsSideFor T.key T.unit T.op T.of (store_of arena.now) number like.now result }
 {
-    if like.is_before(&arena.get(number).entry) {
+    if like.is_before(&arena.cell(number).entry) {
         return Side::Left;
     }
     Side::Right
@@ -183,11 +163,11 @@ fn side_beside<T: Entry>(arena: &Arena<T, T::Sum>, number: u32, first: &T, last:
     ensures { IsBeside T.key T.unit T.op T.of (store_of arena.now) number first.now last.now
         result }
 {
-    let node = arena.get(number);
-    if last.is_before(&node.entry) {
+    let own = &arena.cell(number).entry;
+    if last.is_before(own) {
         return Some(Side::Left);
     }
-    if node.entry.is_before(first) {
+    if own.is_before(first) {
         return Some(Side::Right);
     }
     None
@@ -282,8 +262,8 @@ pub fn is_at<T: Entry>(arena: &Arena<T, T::Sum>, number: u32, like: &T) -> bool
     requires { IsSome (store_of arena.now number) }
     ensures { IsAt T.key T.unit T.op T.of (store_of arena.now) number like.now result }
 {
-    let node = arena.get(number);
-    !like.is_before(&node.entry) && !node.entry.is_before(like)
+    let own = &arena.cell(number).entry;
+    !like.is_before(own) && !own.is_before(like)
 }
 
 /// What is left of a tree without its root, which has the key of `like`.
@@ -295,13 +275,9 @@ pub fn take<T: Entry>(arena: &mut Arena<T, T::Sum>, number: u32, like: &T) -> Op
         like.now result }
     ensures kept { KeepsEntries (store_of arena.old) (store_of arena.new) }
 {
-    let node = arena.get(number);
-    let Stored {
-        left: before,
-        entry: _,
-        right: after,
-    } = node;
-    let Some(right) = after else {
+    let cell = arena.cell(number);
+    let before = cell.left.link();
+    let Some(right) = cell.right.link() else {
         return before;
     };
     let (first, entry, rest) = pop_first(arena, right);
@@ -442,7 +418,7 @@ fn joined_at<T: Entry>(
     ensures { IsJoinedBelow T.key T.unit T.op T.of (store_of arena.old) (store_of arena.new) number
         lower.now upper.now joined.now result true }
 {
-    if lower.is_before(&arena.get(number).entry) {
+    if lower.is_before(&arena.cell(number).entry) {
         let (out, _) = removed_below(arena, number, lower);
         arena.set_entry(number, *joined);
         return out;

@@ -1,7 +1,9 @@
 //! How a node lies in its arena: in fewer bytes than its two links take.
 
 ghost use Rattle.std.specs.Prelude.{◌≡◌};
-ghost use Rattle.av_arena.specs.Arena.{with_side};
+ghost use Rattle.av_arena.specs.Arena.{on_side, with_side};
+ghost use Rattle.av_arena.specs.Below.{number_of};
+ghost use Rattle.av_arena.specs.Tree.{height_of};
 ghost use Rattle.av_arena.specs.Cell.{link_in, node_in};
 
 use crate::link::{Link, Side, Stored};
@@ -17,9 +19,9 @@ pub enum Twig<S> {
 /// A node, as it lies in its arena.
 #[derive(Clone, Copy, Drop)]
 pub struct Cell<T, S> {
-    left: Twig<S>,
+    pub(crate) left: Twig<S>,
     pub(crate) entry: T,
-    right: Twig<S>,
+    pub(crate) right: Twig<S>,
 }
 
 impl<S: Copy + Drop> Twig<S> {
@@ -46,8 +48,8 @@ impl<S: Copy + Drop> Twig<S> {
 
     /// The link that tells the tree, if there is one.
     #[inline(always)]
-    fn link(self) -> Option<Link<S>>
-        ensures { result ≡ link_in self }
+    pub(crate) fn link(&self) -> Option<Link<S>>
+        ensures { result ≡ link_in self.now }
     {
         match self {
             Twig::Bare => None,
@@ -56,10 +58,32 @@ impl<S: Copy + Drop> Twig<S> {
                 number,
                 sum,
             } => Some(Link {
-                number,
-                height,
-                sum,
+                number: *number,
+                height: *height,
+                sum: *sum,
             }),
+        }
+    }
+
+    /// The number of the tree's root, if there is one.
+    #[inline(always)]
+    pub(crate) fn number(&self) -> Option<u32>
+        ensures { result ≡ number_of (link_in self.now) }
+    {
+        match self {
+            Twig::Bare => None,
+            Twig::Tree { number, .. } => Some(*number),
+        }
+    }
+
+    /// The height of the tree.
+    #[inline(always)]
+    pub(crate) fn height(&self) -> u8
+        ensures { result ≡ height_of (link_in self.now) }
+    {
+        match self {
+            Twig::Bare => 0,
+            Twig::Tree { height, .. } => *height,
         }
     }
 }
@@ -85,6 +109,17 @@ impl<T: Copy + Drop, S: Copy + Drop> Cell<T, S> {
             left: self.left.link(),
             entry: self.entry,
             right: self.right.link(),
+        }
+    }
+
+    /// What lies on a side.
+    #[inline(always)]
+    pub(crate) fn twig(&self, side: Side) -> &Twig<S>
+        ensures { link_in result.now ≡ on_side side (node_in self.now) }
+    {
+        match side {
+            Side::Left => &self.left,
+            Side::Right => &self.right,
         }
     }
 

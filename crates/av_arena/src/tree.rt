@@ -6,6 +6,7 @@ ghost use Rattle.av_arena.specs.Tree.{DifferByAtMost, IsHeightAfter, HasKey, IsH
 ghost use Rattle.av_arena.specs.Tree.{IsOpened, IsPlaceFor, IsPlaced, IsPopped, IsReplaced, IsRoot};
 ghost use Rattle.av_arena.specs.Tree.{IsRootAfter, IsSet, IsSpot, IsWithout, sum_of, height_of};
 ghost use Rattle.av_arena.specs.Tree.{tree_at, entries};
+ghost use Rattle.av_arena.specs.Cell.{link_in, node_in};
 ghost use Rattle.av_arena.specs.Arena.{KeepsEntries, PutsEntry, entry_of, store_of};
 ghost use Rattle.av_arena.specs.Below.{IsAt, IsJoinFor, IsJoinedAt, IsSplit, IsSplitFor};
 
@@ -13,6 +14,7 @@ use crate::arena::Arena;
 use crate::below::{
     is_at, joined_below, placed_below, removed_below, replaced_below, settle, split_below, take,
 };
+use crate::cell::{Cell, Twig};
 use crate::entry::Entry;
 use crate::link::{Link, Side, Stored};
 
@@ -36,13 +38,33 @@ pub fn sum<T: Entry>(tree: Option<Link<T::Sum>>) -> T::Sum
     }
 }
 
+/// The summary of the tree on a side.
+#[inline(always)]
+pub fn sum_in<T: Entry>(twig: &Twig<T::Sum>) -> T::Sum
+    ensures { result ≡ sum_of T.unit (link_in twig.now) }
+{
+    match twig {
+        Twig::Bare => T::empty(),
+        Twig::Tree { sum, .. } => *sum,
+    }
+}
+
 /// The node at the root of a tree.
 #[inline(always)]
 pub fn open<T: Entry>(arena: &Arena<T, T::Sum>, tree: Link<T::Sum>) -> Stored<T, T::Sum>
     requires { IsHeld T.key T.unit T.op T.of (store_of arena.now) (Some tree) }
     ensures { IsOpened T.key T.unit T.op T.of (store_of arena.now) tree result }
 {
-    arena.get(tree.number)
+    open_cell(arena, tree).node()
+}
+
+/// The node at the root of a tree, as it lies in its arena.
+#[inline(always)]
+fn open_cell<T: Entry>(arena: &Arena<T, T::Sum>, tree: Link<T::Sum>) -> &Cell<T, T::Sum>
+    requires { IsHeld T.key T.unit T.op T.of (store_of arena.now) (Some tree) }
+    ensures { IsOpened T.key T.unit T.op T.of (store_of arena.now) tree (node_in result.now) }
+{
+    arena.cell(tree.number)
 }
 
 /// Puts a node above its sides.
@@ -194,19 +216,22 @@ pub fn balance<T: Entry>(
     close(arena, number, left, entry, right)
 }
 
-/// Whether two links are the same.
-#[inline]
-pub fn is_same_link<T: Entry>(left: Option<Link<T::Sum>>, right: Option<Link<T::Sum>>) -> bool
-    ensures same { result ≡ true → left ≡ right }
-    ensures always { left ≡ right → result ≡ true }
+/// Whether the tree on a side of a node is the one that a link tells.
+#[inline(always)]
+pub fn is_same_link<T: Entry>(twig: &Twig<T::Sum>, link: Option<Link<T::Sum>>) -> bool
+    ensures same { result ≡ true → link_in twig.now ≡ link }
+    ensures always { link_in twig.now ≡ link → result ≡ true }
 {
-    match (left, right) {
-        (None, None) => true,
-        (Some(left), Some(right)) => {
-            left.number == right.number
-                && left.height == right.height
-                && T::is_same(left.sum, right.sum)
-        }
+    match (twig, link) {
+        (Twig::Bare, None) => true,
+        (
+            Twig::Tree {
+                height,
+                number,
+                sum,
+            },
+            Some(link),
+        ) => *number == link.number && *height == link.height && T::is_same(*sum, link.sum),
         _ => false,
     }
 }
@@ -234,19 +259,15 @@ fn with_left<T: Entry>(
     ensures height { IsHeightAfter (height_of left) (height_of right) result.height }
     ensures kept { KeepsEntries (store_of arena.old) (store_of arena.new) }
 {
-    let node = arena.get(tree.number);
-    let Stored {
-        left: before,
-        entry: middle,
-        right: after,
-    } = node;
-    if is_same_link::<T>(before, left) {
+    let cell = arena.cell(tree.number);
+    if is_same_link::<T>(&cell.left, left) {
         return tree;
     }
-    if height(before) != height(left) {
+    if cell.left.height() != height(left) {
+        let (middle, after) = (cell.entry, cell.right.link());
         return balance(arena, tree.number, left, middle, after);
     }
-    let total = T::join_sums(sum::<T>(left), &middle, sum::<T>(after));
+    let total = T::join_sums(sum::<T>(left), &cell.entry, sum_in::<T>(&cell.right));
     arena.set_side(tree.number, Side::Left, left);
     Link {
         number: tree.number,
@@ -294,13 +315,9 @@ pub fn pop_first<T: Entry>(
     ensures node { entry_of (store_of arena.old result.0) ≡ Some result.1 }
     ensures kept { KeepsEntries (store_of arena.old) (store_of arena.new) }
 {
-    let node = open(arena, tree);
-    let Stored {
-        left: before,
-        entry: middle,
-        right: after,
-    } = node;
-    let Some(left) = before else {
+    let cell = open_cell(arena, tree);
+    let (middle, after) = (cell.entry, cell.right.link());
+    let Some(left) = cell.left.link() else {
         return (tree.number, middle, after);
     };
     let (number, entry, rest) = pop_first(arena, left);

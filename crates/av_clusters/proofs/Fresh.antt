@@ -11,6 +11,7 @@ use Rattle.av_clusters.specs.declared.clusters.Page.{Page}
 use Rattle.av_clusters.specs.declared.clusters.Page.TheVariants.{Unusable, Free}
 use Rattle.av_clusters.specs.Clusters.{IsWhole, AreFull, itself, is_free, is_taken, page_at, lowest, has_free, start_of, end_of, at_first, pages_of, clusters_of}
 use Rattle.av_clusters.proofs.Pages.{found, none_free, none_of}
+use Rattle.av_clusters.proofs.Counts.{counted_fresh}
 use Rattle.av_clusters.proofs.Whole.{flag_below}
 
 -- ---- the pages
@@ -221,7 +222,8 @@ full_fresh pages = record {
 
 pub whole_fresh : (n : ℕ) (bad : List ℕ) (len room : ℕ) → n < 2 ^ 32 → len ≡ length (clusters_of (pages_of n bad))
     → length (pages_of n bad) / 256 + 1 ≤ room
-    → IsWhole (pages_of n bad) (count_by is_free (pages_of n bad)) (clusters_of (pages_of n bad)) len room
+    → IsWhole (pages_of n bad) (count_by is_free (pages_of n bad)) (replicate (length (pages_of n bad) / 256 + 1) 0) (clusters_of (pages_of n bad))
+    len room
     (map (λ c. not (has_free (pages_of n bad) c)) (range_with_len 0 (length (pages_of n bad) / 256 + 1)))
     (map (λ c. not (has_free (pages_of n bad) c)) (range_with_len 0 (length (pages_of n bad) / 256 + 1)))
     (replicate (length (pages_of n bad) / 16384 + 1) false) None 0
@@ -230,6 +232,7 @@ whole_fresh n bad len room few same wide =
     record {
       few = subst (λ m. m < 2 ^ 32) (sym (length-pages_of n bad)) few;
       left = refl;
+      counted = counted_fresh (pages_of n bad) (never_taken n bad);
       busy = count;
       len = same;
       room = subst (λ m. m ≤ room) (sym count) wide;

@@ -1,5 +1,5 @@
 -- The pages of an area, and the lowest free one among some of them.
-use Rattle.std.proofs.Common.{◌≡◌, ℕ, suc, ◌+◌, ◌-◌, ◌*◌, ◌/◌, ◌<◌, ◌≤◌, min, true, false, cond, ◌⊎◌, List, [], ◌∷◌, length, get_or, set, take, drop, Option, Some, None, is_some, option_map, position, count_by, refl, sym, ap, ◌∙◌, arith, inl, inr, ltb, length-take, length-drop, take_all, get_or-take, get_or-drop, get_or-set_same}
+use Rattle.std.proofs.Common.{◌≡◌, ℕ, suc, ◌+◌, ◌-◌, ◌*◌, ◌/◌, ◌<◌, ◌≤◌, min, Bool, true, false, cond, ◌⊎◌, List, [], ◌∷◌, length, get_or, set, take, drop, Option, Some, None, is_some, option_map, position, count_by, refl, sym, ap, ◌∙◌, arith, inl, inr, ltb, length-take, length-drop, take_all, get_or-take, get_or-drop, get_or-set_same}
 use Rattle.std.proofs.lemmas.Bool.{cases_lt, cases_order, cases_Bool, false≢true}
 use Rattle.std.proofs.lemmas.Bool.Decides.{nat_tests}
 use Rattle.std.proofs.lemmas.List.{get_or_past, take_rest}
@@ -209,16 +209,16 @@ free_is Unusable h = absurd (false≢true h)
 free_is Free h = refl
 free_is Taken h = absurd (false≢true h)
 
-none_counted : (pages : List Page) → ((p : ℕ) → is_free (page_at pages p) ≡ false) → count_by is_free pages ≡ 0
-none_counted [] h = refl
-none_counted (page ∷ pages) h = sum_by-cons (λ x. cond (is_free x) 1 0) page pages ∙ zero_both _ _ (ap (λ b. cond b 1 0) (h 0))
-    (none_counted pages (λ p. h (suc p)))
+pub none_counted : (test : Page → Bool) (pages : List Page) → ((p : ℕ) → test (page_at pages p) ≡ false) → count_by test pages ≡ 0
+none_counted test [] h = refl
+none_counted test (page ∷ pages) h = sum_by-cons (λ x. cond (test x) 1 0) page pages ∙ zero_both _ _ (ap (λ b. cond b 1 0) (h 0))
+    (none_counted test pages (λ p. h (suc p)))
   where
     zero_both : (a b : ℕ) → a ≡ 0 → b ≡ 0 → a + b ≡ 0
     zero_both a b x y = omega (arith, x, y)
 
 pub none_left : (pages : List Page) → lowest pages 0 (length pages) ≡ None → count_by is_free pages ≡ 0
-none_left pages h = none_counted pages (λ p. by p (cases_lt p (length pages)))
+none_left pages h = none_counted is_free pages (λ p. by p (cases_lt p (length pages)))
   where
     by : (p : ℕ) → (p < length pages) ⊎ (length pages ≤ p) → is_free (page_at pages p) ≡ false
     by p (inl b) = none_free pages 0 (length pages) p h (omega arith) b

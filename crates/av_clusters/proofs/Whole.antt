@@ -10,6 +10,7 @@ use Rattle.av_clusters.specs.declared.clusters.Page.TheVariants.{Unusable, Free,
 use Rattle.av_clusters.specs.Clusters.{IsWhole, Fills, itself, is_free, is_taken, page_at, lowest, has_taken, start_of, end_of, unless, AreFull, Takes, Returns, Slots, after_fill, give_slot, in_current, in_next, with_free_cluster}
 use Rattle.av_clusters.proofs.Pages.{found, none_free, none_taken, free_below, taken_below, taken_not_free, was_free}
 use Rattle.av_clusters.proofs.Marks.{full_taken, full_given}
+use Rattle.av_clusters.proofs.Counts.{counted_taken, counted_given, few_counted}
 
 -- ---- the number of free pages
 
@@ -201,20 +202,22 @@ fit_given pages flags flags' p below fit same d low = by (same d low)
 
 -- ---- each call keeps the parts together
 
-module _ (pages : List Page) (left : ℕ) (frees : List ℕ) (n room : ℕ) (flags marks groups : List Bool) (filled : Option ℕ) (mark : ℕ) where
-  whole_taken : (p : ℕ) (frees' : List ℕ) (n' room' : ℕ) (flags' marks' groups' : List Bool) (filled' : Option ℕ) (mark' : ℕ) →
-      IsWhole pages left frees n room flags marks groups filled mark → is_free (page_at pages p) ≡ true
-      → Grows flags flags' → get_or flags' (p / 256) true ≡ true → length flags' ≡ length flags → n' ≡ length frees' → room' ≡ room
+module _ (pages : List Page) (left : ℕ) (counts frees : List ℕ) (n room : ℕ) (flags marks groups : List Bool) (filled : Option ℕ) (mark : ℕ) where
+  whole_taken : (p count : ℕ) (frees' : List ℕ) (n' room' : ℕ) (flags' marks' groups' : List Bool) (filled' : Option ℕ) (mark' : ℕ) →
+      IsWhole pages left counts frees n room flags marks groups filled mark → is_free (page_at pages p) ≡ true
+      → count ≡ get_or counts (p / 256) count → Grows flags flags' → get_or flags' (p / 256) true ≡ true
+      → length flags' ≡ length flags → n' ≡ length frees' → room' ≡ room
       → length frees' + count_by itself flags' ≡ length flags' → ((d : ℕ) → count_by (λ e. d == e) frees' ≡ cond (get_or flags' d true) 0 1)
       → Fills flags' (length pages) mark' filled' → AreFull 256 pages marks' → AreFull 16384 pages groups' →
-      IsWhole (set pages p Taken) (left - 1) frees' n' room' flags' marks' groups' filled' mark'
-  whole_taken p frees' n' room' flags' marks' groups' filled' mark' w free grow here long len same total once fills full full_groups =
-      let count = length-set pages p Taken in
+      IsWhole (set pages p Taken) (left - 1) (set counts (p / 256) (count + 1)) frees' n' room' flags' marks' groups' filled' mark'
+  whole_taken p count frees' n' room' flags' marks' groups' filled' mark' w free read grow here long len same total once fills full full_groups =
+      let same_len = length-set pages p Taken in
       let below = free_below pages p free in
       record {
-        few = subst (λ m. m < 2 ^ 32) (sym count) w.few;
+        few = subst (λ m. m < 2 ^ 32) (sym same_len) w.few;
         left = let fewer = one_fewer pages p free in let l = w.left in minus _ _ _ l fewer;
-        busy = long ∙ w.busy ∙ ap (λ m. m / 256 + 1) (sym count);
+        counted = counted_taken pages counts p count w.counted read free;
+        busy = long ∙ w.busy ∙ ap (λ m. m / 256 + 1) (sym same_len);
         len = len;
         room = subst (λ r. length flags' ≤ r) (sym same) (subst (λ m. m ≤ room) (sym long) w.room);
         total = total;
@@ -223,46 +226,54 @@ module _ (pages : List Page) (left : ℕ) (frees : List ℕ) (n room : ℕ) (fla
         fit = fit_taken pages flags flags' p w.fit grow here;
         full = full_taken 256 pages marks' p below full;
         full_groups = full_taken 16384 pages groups' p below full_groups;
-        fills = subst (λ m. Fills flags' m mark' filled') (sym count) fills;
+        fills = subst (λ m. Fills flags' m mark' filled') (sym same_len) fills;
       }
     where
       minus : (l m k : ℕ) → l ≡ k → m + 1 ≡ k → l - 1 ≡ m
       minus l m k a b = omega (arith, a, b)
 
-  whole_given : (p : ℕ) (frees' : List ℕ) (n' room' : ℕ) (flags' : List Bool) (filled' : Option ℕ)
-      → IsWhole pages left frees n room flags marks groups filled mark →
-      is_taken (page_at pages p) ≡ true
+  whole_given : (p count : ℕ) (frees' : List ℕ) (n' room' : ℕ) (flags' : List Bool) (filled' : Option ℕ)
+      → IsWhole pages left counts frees n room flags marks groups filled mark →
+      is_taken (page_at pages p) ≡ true → count ≡ get_or counts (p / 256) count
       → ((q : ℕ) → is_taken (page_at (set pages p Free) q) ≡ true → get_or flags (q / 256) true ≡ true → get_or flags' (q / 256) true ≡ true)
       → ((d : ℕ) → get_or flags' d true ≡ false → (get_or flags d true ≡ false) ⊎ (p / 256 ≡ d)) → length flags' ≡ length flags →
       n' ≡ length frees' → room' ≡ room
       → length frees' + count_by itself flags' ≡ length flags' → ((d : ℕ) → count_by (λ e. d == e) frees' ≡ cond (get_or flags' d true) 0 1)
       → Fills flags' (length pages) mark filled'
-      → IsWhole (set pages p Free) (left + 1) frees' n' room' flags' (set marks (p / 256) false) (set groups (p / 16384) false) filled' mark
-  whole_given p frees' n' room' flags' filled' w taken kept fewer long len same total once fills =
-      let count = length-set pages p Free in
+      → IsWhole (set pages p Free) (left + 1) (set counts (p / 256) (count - 1)) frees' n' room' flags' (set marks (p / 256) false)
+      (set groups (p / 16384) false) filled' mark
+  whole_given p count frees' n' room' flags' filled' w taken read kept opened long len same total once fills =
+      let same_len = length-set pages p Free in
       let below = taken_below pages p taken in
       record {
-        few = subst (λ m. m < 2 ^ 32) (sym count) w.few;
+        few = subst (λ m. m < 2 ^ 32) (sym same_len) w.few;
         left = ap (λ m. m + 1) w.left ∙ sym (one_more pages p taken);
-        busy = long ∙ w.busy ∙ ap (λ m. m / 256 + 1) (sym count);
+        counted = counted_given pages counts p count w.counted read taken;
+        busy = long ∙ w.busy ∙ ap (λ m. m / 256 + 1) (sym same_len);
         len = len;
         room = subst (λ r. length flags' ≤ r) (sym same) (subst (λ m. m ≤ room) (sym long) w.room);
         total = total;
         once = once;
         held = held_given pages flags flags' p below w.held kept;
-        fit = fit_given pages flags flags' p below w.fit fewer;
+        fit = fit_given pages flags flags' p below w.fit opened;
         full = full_given 256 pages marks p (omega arith) below w.full;
         full_groups = full_given 16384 pages groups p (omega arith) below w.full_groups;
-        fills = subst (λ m. Fills flags' m mark filled') (sym count) fills;
+        fills = subst (λ m. Fills flags' m mark filled') (sym same_len) fills;
       }
 
-  pub some_left : (p : ℕ) → IsWhole pages left frees n room flags marks groups filled mark → is_free (page_at pages p) ≡ true → 1 ≤ left
+  pub few_in_current : (c count : ℕ) → IsWhole pages left counts frees n room flags marks groups filled mark → filled ≡ Some c
+      → count ≡ get_or counts c count → count + 1 < 2 ^ 16
+  few_in_current c count w is read =
+      let at = subst (Fills flags (length pages) mark) is w.fills in
+      few_counted pages counts w.counted c count (omega (arith, at.1, at.3)) read
+
+  pub some_left : (p : ℕ) → IsWhole pages left counts frees n room flags marks groups filled mark → is_free (page_at pages p) ≡ true → 1 ≤ left
   some_left p w free = let fewer = one_fewer pages p free in let l = w.left in sum _ _ _ l fewer
     where
       sum : (l m k : ℕ) → l ≡ k → m + 1 ≡ k → 1 ≤ l
       sum l m k a b = omega (arith, a, b)
 
-  pub room_for_one : (p : ℕ) → IsWhole pages left frees n room flags marks groups filled mark → is_taken (page_at pages p) ≡ true → left + 1 < 2 ^ 32
+  pub room_for_one : (p : ℕ) → IsWhole pages left counts frees n room flags marks groups filled mark → is_taken (page_at pages p) ≡ true → left + 1 < 2 ^ 32
   room_for_one p w taken =
       let more = one_more pages p taken in
       let most = count_by-le-length is_free (set pages p Free) in
@@ -272,10 +283,10 @@ module _ (pages : List Page) (left : ℕ) (frees : List ℕ) (n room : ℕ) (fla
       sum m k c d a b e f g = omega (arith, a, b, e, f, g)
 
   -- where a page is taken
-  pub whole_in_current : (c p : ℕ) → IsWhole pages left frees n room flags marks groups filled mark
-      → filled ≡ Some c → lowest pages mark (end_of c) ≡ Some p
-      → IsWhole (set pages p Taken) (left - 1) frees n room flags marks groups filled (p + 1)
-  whole_in_current c p w is low =
+  pub whole_in_current : (c p count : ℕ) → IsWhole pages left counts frees n room flags marks groups filled mark
+      → filled ≡ Some c → lowest pages mark (end_of c) ≡ Some p → count ≡ get_or counts c count
+      → IsWhole (set pages p Taken) (left - 1) (set counts c (count + 1)) frees n room flags marks groups filled (p + 1)
+  whole_in_current c p count w is low read =
       let f = found pages mark (end_of c) p low in
       let below = free_below pages p f.2 in
       let at = subst (Fills flags (length pages) mark) is w.fills in
@@ -283,9 +294,10 @@ module _ (pages : List Page) (left : ℕ) (frees : List ℕ) (n room : ℕ) (fla
       let start : start_of c ≤ p + 1 = above _ at.1 f.0 in
       let end : p + 1 ≤ end_of c = next _ _ f.1 in
       let last : p + 1 ≤ length pages = next _ _ below in
-      whole_taken p frees n room flags marks groups filled (p + 1) w f.2 (λ d h. h) (ap (λ m. get_or flags m true) inside ∙ at.0) refl w.len
-      refl w.total w.once
-      (subst (Fills flags (length pages) (p + 1)) (sym is) (at.0, start, end, last)) w.full w.full_groups
+      subst (λ d. IsWhole (set pages p Taken) (left - 1) (set counts d (count + 1)) frees n room flags marks groups filled (p + 1)) inside
+      (whole_taken p count frees n room flags marks groups filled (p + 1) w f.2 (read ∙ ap (λ d. get_or counts d count) (sym inside)) (λ d h. h)
+      (ap (λ m. get_or flags m true) inside ∙ at.0) refl w.len refl w.total w.once
+      (subst (Fills flags (length pages) (p + 1)) (sym is) (at.0, start, end, last)) w.full w.full_groups)
     where
       cluster_is : (m : ℕ) → 256 * c ≤ m → m ≤ p → p < 256 * c + 256 → p / 256 ≡ c
       cluster_is m a b e = omega (arith, a, b, e)
@@ -296,10 +308,12 @@ module _ (pages : List Page) (left : ℕ) (frees : List ℕ) (n room : ℕ) (fla
       next : (q m : ℕ) → q < m → q + 1 ≤ m
       next q m a = omega (arith, a)
 
-  pub whole_anywhere : (p : ℕ) (marks' groups' : List Bool) → IsWhole pages left frees n room flags marks groups filled mark → frees ≡ []
+  pub whole_anywhere : (p count : ℕ) (marks' groups' : List Bool) → IsWhole pages left counts frees n room flags marks groups filled mark → frees ≡ []
       → is_free (page_at pages p) ≡ true →
-      AreFull 256 pages marks' → AreFull 16384 pages groups' → IsWhole (set pages p Taken) (left - 1) frees n room flags marks' groups' filled mark
-  whole_anywhere p marks' groups' w none free full full_groups = whole_taken p frees n room flags marks' groups' filled mark w free (λ d h. h)
+      count ≡ get_or counts (p / 256) count → AreFull 256 pages marks' → AreFull 16384 pages groups'
+      → IsWhole (set pages p Taken) (left - 1) (set counts (p / 256) (count + 1)) frees n room flags marks' groups' filled mark
+  whole_anywhere p count marks' groups' w none free read full full_groups =
+      whole_taken p count frees n room flags marks' groups' filled mark w free read (λ d h. h)
       (by (cases_Bool (get_or flags (p / 256) true))) refl w.len refl w.total w.once w.fills full full_groups
     where
       by : (get_or flags (p / 256) true ≡ true) ⊎ (get_or flags (p / 256) true ≡ false) → get_or flags (p / 256) true ≡ true
@@ -308,18 +322,18 @@ module _ (pages : List Page) (left : ℕ) (frees : List ℕ) (n room : ℕ) (fla
           let e : ◌≡◌ {A = ℕ} 0 1 = sym (ap (count_by (λ d. p / 256 == d)) none) ∙ w.once (p / 256) ∙ ap (λ t. cond t 0 1) b in
           absurd (omega (arith, e))
 
-  pub is_open : (c : ℕ) (rest : List ℕ) → IsWhole pages left frees n room flags marks groups filled mark
+  pub is_open : (c : ℕ) (rest : List ℕ) → IsWhole pages left counts frees n room flags marks groups filled mark
       → frees ≡ c ∷ rest → get_or flags c true ≡ false
   is_open c rest w is = (front c rest (get_or flags c true) (sym (ap (count_by (λ d. c == d)) is) ∙ w.once c)).0
 
-  pub in_range : (c : ℕ) (rest : List ℕ) → IsWhole pages left frees n room flags marks groups filled mark
+  pub in_range : (c : ℕ) (rest : List ℕ) → IsWhole pages left counts frees n room flags marks groups filled mark
       → frees ≡ c ∷ rest → start_of c ≤ length pages
   in_range c rest w is = let f = w.fit c (is_open c rest w is) in small f.0 f.1 (free_below pages f.0 f.2)
     where
       small : (q : ℕ) → q / 256 ≡ c → q < length pages → 256 * c ≤ length pages
       small q a b = omega (arith, a, b)
 
-  pub has_one : (c : ℕ) (rest : List ℕ) → IsWhole pages left frees n room flags marks groups filled mark → frees ≡ c ∷ rest →
+  pub has_one : (c : ℕ) (rest : List ℕ) → IsWhole pages left counts frees n room flags marks groups filled mark → frees ≡ c ∷ rest →
       lowest pages (start_of c) (end_of c) ≡ None → ⊥
   has_one c rest w is none = let f = w.fit c (is_open c rest w is) in
       false≢true (sym (none_free pages (start_of c) (end_of c) f.0 none (low f.0 f.1) (high f.0 f.1)) ∙ f.2)
@@ -330,21 +344,23 @@ module _ (pages : List Page) (left : ℕ) (frees : List ℕ) (n room : ℕ) (fla
       high : (q : ℕ) → q / 256 ≡ c → q < 256 * c + 256
       high q a = omega (arith, a)
 
-  pub whole_in_next : (c p : ℕ) (rest : List ℕ) (n' room' : ℕ) → IsWhole pages left frees n room flags marks groups filled mark → frees ≡ c ∷ rest →
-      lowest pages (start_of c) (end_of c) ≡ Some p → n' ≡ length rest → room' ≡ room
-      → IsWhole (set pages p Taken) (left - 1) rest n' room' (set flags c true) marks groups (Some c) (p + 1)
-  whole_in_next c p rest n' room' w is low len same =
+  pub whole_in_next : (c p count : ℕ) (rest : List ℕ) (n' room' : ℕ) → IsWhole pages left counts frees n room flags marks groups filled mark
+      → frees ≡ c ∷ rest → lowest pages (start_of c) (end_of c) ≡ Some p → count ≡ get_or counts c count → n' ≡ length rest → room' ≡ room
+      → IsWhole (set pages p Taken) (left - 1) (set counts c (count + 1)) rest n' room' (set flags c true) marks groups (Some c) (p + 1)
+  whole_in_next c p count rest n' room' w is low read len same =
       let f = found pages (start_of c) (end_of c) p low in
       let below = free_below pages p f.2 in
       let inside : p / 256 ≡ c = cluster_is f.0 f.1 in
       let start : start_of c ≤ p + 1 = above f.0 in
       let end : p + 1 ≤ end_of c = next _ _ f.1 in
       let last : p + 1 ≤ length pages = next _ _ below in
-      whole_taken p rest n' room' (set flags c true) marks groups (Some c) (p + 1) w f.2 (grow_set flags c)
+      subst (λ d. IsWhole (set pages p Taken) (left - 1) (set counts d (count + 1)) rest n' room' (set flags c true) marks groups (Some c) (p + 1)) inside
+      (whole_taken p count rest n' room' (set flags c true) marks groups (Some c) (p + 1) w f.2
+      (read ∙ ap (λ d. get_or counts d count) (sym inside)) (grow_set flags c)
       (ap (λ m. get_or (set flags c true) m true) inside ∙ set_true flags c) (length-set flags c true) len same
       (total_taken c rest flags (is_open c rest w is) (sym (ap (λ fs. length fs + count_by itself flags) is) ∙ w.total))
       (once_taken c rest flags (λ d. sym (ap (count_by (λ e. d == e)) is) ∙ w.once d))
-      (set_true flags c, start, end, last) w.full w.full_groups
+      (set_true flags c, start, end, last) w.full w.full_groups)
     where
       cluster_is : 256 * c ≤ p → p < 256 * c + 256 → p / 256 ≡ c
       cluster_is a b = omega (arith, a, b)
@@ -356,34 +372,38 @@ module _ (pages : List Page) (left : ℕ) (frees : List ℕ) (n room : ℕ) (fla
       next q m a = omega (arith, a)
 
   -- where one is given back
-  pub whole_back : (p : ℕ) → IsWhole pages left frees n room flags marks groups filled mark → is_taken (page_at pages p) ≡ true →
-      IsWhole (set pages p Free) (left + 1) frees n room flags (set marks (p / 256) false) (set groups (p / 16384) false) filled mark
-  whole_back p w taken = whole_given p frees n room flags filled w taken (λ q t h. h) (λ d h. inl h) refl w.len refl w.total w.once w.fills
+  pub whole_back : (p count : ℕ) → IsWhole pages left counts frees n room flags marks groups filled mark → is_taken (page_at pages p) ≡ true →
+      count ≡ get_or counts (p / 256) count →
+      IsWhole (set pages p Free) (left + 1) (set counts (p / 256) (count - 1)) frees n room flags (set marks (p / 256) false)
+      (set groups (p / 16384) false) filled mark
+  whole_back p count w taken read =
+      whole_given p count frees n room flags filled w taken read (λ q t h. h) (λ d h. inl h) refl w.len refl w.total w.once w.fills
 
-  pub cluster_below : (p : ℕ) → IsWhole pages left frees n room flags marks groups filled mark
+  pub cluster_below : (p : ℕ) → IsWhole pages left counts frees n room flags marks groups filled mark
       → is_taken (page_at pages p) ≡ true → p / 256 < length flags
   cluster_below p w taken = sum _ w.busy (taken_below pages p taken)
     where
       sum : (l : ℕ) → l ≡ length pages / 256 + 1 → p < length pages → p / 256 < l
       sum l a b = omega (arith, a, b)
 
-  pub has_room : (p : ℕ) → IsWhole pages left frees n room flags marks groups filled mark → is_taken (page_at pages p) ≡ true → n < room
+  pub has_room : (p : ℕ) → IsWhole pages left counts frees n room flags marks groups filled mark → is_taken (page_at pages p) ≡ true → n < room
   has_room p w taken = sum _ _ _ (sum_by-set (λ b. cond b 1 0) flags (p / 256) false true (cluster_below p w taken))
       (ap (λ b. cond b 1 0) (w.held p taken)) w.total w.len w.room
     where
       sum : (m k c : ℕ) → m + c ≡ k + 0 → c ≡ 1 → length frees + k ≡ length flags → n ≡ length frees → length flags ≤ room → n < room
       sum m k c a b d e f = omega (arith, a, b, d, e, f)
 
-  pub whole_emptied : (p n' room' : ℕ) (filled' : Option ℕ) → IsWhole pages left frees n room flags marks groups filled mark
+  pub whole_emptied : (p count n' room' : ℕ) (filled' : Option ℕ) → IsWhole pages left counts frees n room flags marks groups filled mark
       → is_taken (page_at pages p) ≡ true →
-      has_taken (set pages p Free) (p / 256) ≡ false
+      count ≡ get_or counts (p / 256) count → has_taken (set pages p Free) (p / 256) ≡ false
       → n' ≡ n + 1 → room' ≡ room → Fills (set flags (p / 256) false) (length pages) mark filled' →
-      IsWhole (set pages p Free) (left + 1) (frees ++ (p / 256) ∷ []) n' room' (set flags (p / 256) false) (set marks (p / 256) false)
+      IsWhole (set pages p Free) (left + 1) (set counts (p / 256) (count - 1)) (frees ++ (p / 256) ∷ []) n' room'
+      (set flags (p / 256) false) (set marks (p / 256) false)
       (set groups (p / 16384) false) filled' mark
-  whole_emptied p n' room' filled' w taken none len same fills =
+  whole_emptied p count n' room' filled' w taken read none len same fills =
       let below = cluster_below p w taken in
       let busy = w.held p taken in
-      whole_given p (frees ++ (p / 256) ∷ []) n' room' (set flags (p / 256) false) filled' w taken kept fewer (length-set flags (p / 256) false)
+      whole_given p count (frees ++ (p / 256) ∷ []) n' room' (set flags (p / 256) false) filled' w taken read kept opened (length-set flags (p / 256) false)
       (len ∙ ap (λ m. m + 1) w.len ∙ sym (length-append frees ((p / 256) ∷ []))) same
       (total_given (p / 256) frees flags below busy w.total) (once_given (p / 256) frees flags below busy w.once) fills
     where
@@ -392,8 +412,8 @@ module _ (pages : List Page) (left : ℕ) (frees : List ℕ) (n room : ℕ) (fla
       kept q t h = get_or-set_other flags (p / 256) (q / 256) false true
           (λ e. false≢true (sym (none_taken (set pages p Free) (p / 256) q none e) ∙ t)) ∙ h
 
-      fewer : (d : ℕ) → get_or (set flags (p / 256) false) d true ≡ false → (get_or flags d true ≡ false) ⊎ (p / 256 ≡ d)
-      fewer d low = by (cases_eq d (p / 256))
+      opened : (d : ℕ) → get_or (set flags (p / 256) false) d true ≡ false → (get_or flags d true ≡ false) ⊎ (p / 256 ≡ d)
+      opened d low = by (cases_eq d (p / 256))
         where
           by : (d ≡ p / 256) ⊎ (d ≡ p / 256 → ⊥) → (get_or flags d true ≡ false) ⊎ (p / 256 ≡ d)
           by (inl e) = inr (sym e)

@@ -179,12 +179,20 @@ pub record AreFull (size : ℕ) (pages : List Page) (marks : List Bool) : Type 0
   pub none_free : (p : ℕ) → slice_index_or marks (p / size) false ≡ true
       → is_free (page_at pages p) ≡ false
 
--- the parts of `Clusters` fit together: a flag for each cluster that isn't free, room for all in
--- the list, and the number of free slots
-pub record IsWhole (pages : List Page) (spare : ℕ) (frees : List ℕ) (frees_len frees_room : ℕ)
-    (flags marks group_marks : List Bool) (filled : Option ℕ) (mark : ℕ) : Type 0 where
+-- a count for each cluster: how many of its pages are taken
+pub record AreCounted (pages : List Page) (counts : List ℕ) : Type 0 where
+  pub count : length counts ≡ cluster_count (length pages)
+  pub taken : (c : ℕ) → slice_index_or counts c 0
+      ≡ count_by is_taken (pages_between (start_of c) (end_of c) pages)
+
+-- the parts of `Clusters` fit together: the numbers of free slots and of each cluster's taken ones,
+-- a flag for each cluster that isn't free, and room for all in the list
+pub record IsWhole (pages : List Page) (spare : ℕ) (counts frees : List ℕ)
+    (frees_len frees_room : ℕ) (flags marks group_marks : List Bool) (filled : Option ℕ) (mark : ℕ)
+    : Type 0 where
   pub few : length pages < 2 ^ 32
   pub left : spare ≡ count_by is_free pages
+  pub counted : AreCounted pages counts
   pub busy : length flags ≡ cluster_count (length pages)
   pub len : frees_len ≡ length frees
   pub room : length flags ≤ frees_room

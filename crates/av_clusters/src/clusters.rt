@@ -9,7 +9,7 @@ ghost use Rattle.std.specs.VecDeque.{deque_len, deque_capacity};
 ghost use Rattle.av_clusters.specs.Clusters.{AreFull, unless, fresh, take_slot, give_slot, Gave};
 ghost use Rattle.av_clusters.specs.Clusters.{Takes, Returns, in_current, in_next, anywhere};
 ghost use Rattle.av_clusters.specs.Clusters.{is_free, is_taken, page_at, pages_between, lowest};
-ghost use Rattle.av_clusters.specs.Clusters.{has_free, has_taken, start_of, end_of, pages_of};
+ghost use Rattle.av_clusters.specs.Clusters.{has_free, start_of, end_of, pages_of};
 ghost use Rattle.av_clusters.specs.Clusters.{cluster_size, clusters_of, cluster_count};
 ghost use Rattle.av_clusters.specs.Clusters.{group_size, group_count, lowest_in};
 ghost use Rattle.av_clusters.specs.declared.clusters.Page.TheVariants.{Unusable, Free, Taken};
@@ -61,6 +61,8 @@ pub struct Clusters {
     pages: Vec<Page>,
     /// How many pages are free.
     left: u32,
+    /// How many pages of each cluster are taken, so that giving back need not look at them.
+    taken: Vec<u16>,
     /// The free clusters. There is room for every cluster, so that giving back takes no memory.
     free: VecDeque<u32>,
     /// Whether each cluster is out of `free`, so that no one has to search it.
@@ -87,8 +89,9 @@ impl Model for Clusters {
       cursor = a.cursor;
     } };
 
-    ghost invariant = { λ a. IsWhole a.pages.items a.left a.free.items (deque_len a.free)
-        (deque_capacity a.free) a.busy.items a.full.items a.full_groups.items a.current a.cursor };
+    ghost invariant = { λ a. IsWhole a.pages.items a.left a.taken.items a.free.items
+        (deque_len a.free) (deque_capacity a.free) a.busy.items a.full.items a.full_groups.items
+        a.current a.cursor };
 }
 
 impl Clusters {
@@ -103,9 +106,11 @@ impl Clusters {
         let busy = full_clusters(alloc, &pages)?;
         let full = full_clusters(alloc, &pages)?;
         let full_groups = none_full(alloc, group_count(&pages))?;
+        let taken = none_taken(alloc, cluster_count(&pages))?;
         Ok(Clusters {
             pages,
             left,
+            taken,
             free,
             busy,
             full,
@@ -144,7 +149,8 @@ impl Clusters {
         self.left += 1;
         self.full[cluster as usize] = false;
         self.full_groups[(cluster / GROUP) as usize] = false;
-        if !any_taken(&self.pages, cluster) {
+        self.taken[cluster as usize] -= 1;
+        if self.taken[cluster as usize] == 0 {
             self.busy[cluster as usize] = false;
             self.free.push_back_reserved(cluster);
             self.current = unless(cluster, self.current);
@@ -177,6 +183,7 @@ impl Clusters {
         let page = lowest(&self.pages, self.cursor as usize, end_of(cluster))?;
         self.pages[page as usize] = Page::Taken;
         self.left -= 1;
+        self.taken[cluster as usize] += 1;
         self.cursor = page + 1;
         Some(page)
     }
@@ -194,6 +201,7 @@ impl Clusters {
         self.busy[cluster as usize] = true;
         self.pages[page as usize] = Page::Taken;
         self.left -= 1;
+        self.taken[cluster as usize] += 1;
         self.current = Some(cluster);
         self.cursor = page + 1;
         Some(page)
@@ -210,7 +218,9 @@ impl Clusters {
         let page = lowest_of_area(&self.pages, &mut self.full, &mut self.full_groups)?;
         self.pages[page as usize] = Page::Taken;
         self.left -= 1;
-        self.mark(page / CLUSTER as u32);
+        let cluster = page / CLUSTER as u32;
+        self.taken[cluster as usize] += 1;
+        self.mark(cluster);
         Some(page)
     }
 
@@ -377,16 +387,6 @@ fn unless(cluster: u32, current: Option<u32>) -> Option<u32>
     }
 }
 
-/// Whether a slot of the cluster is taken.
-fn any_taken(pages: &[Page], cluster: u32) -> bool
-    requires { start_of cluster ≤ length pages.now }
-    ensures { result ≡ has_taken pages.now cluster }
-{
-    between(pages, start_of(cluster), end_of(cluster))
-        .iter()
-        .any(|page| page.is_taken())
-}
-
 fn count_free(pages: &[Page]) -> u32
     requires { length pages.now < 2 ^ 32 }
     ensures { result ≡ count_by is_free pages.now }
@@ -483,6 +483,14 @@ fn full_clusters(alloc: Global, pages: &[Page]) -> Result<Vec<bool>, AllocError>
         full.push(!has_free(pages, cluster))?;
     }
     Ok(full)
+}
+
+fn none_taken(alloc: Global, count: u32) -> Result<Vec<u16>, AllocError>
+    ensures { IfOk result (λ v. v.items ≡ replicate count 0) }
+{
+    let mut taken = Vec::new(alloc);
+    taken.resize(count as usize, 0)?;
+    Ok(taken)
 }
 
 fn none_full(alloc: Global, count: u32) -> Result<Vec<bool>, AllocError>

@@ -1,12 +1,10 @@
 -- Trees that share no node: what a change of one leaves of the others.
-use Rattle.std.proofs.Common.{◌≡◌, ℕ, ◌+◌, ◌*◌, ◌^◌, ◌<◌, ◌≤◌, ◌⊎◌, inl, inr, true, false, cond, eqb, ltb, IsSome, Option, Some, None, List, [], ◌∷◌, length, refl, sym, ap, ◌∙◌, subst, arith, max}
+use Rattle.std.proofs.Common.{◌≡◌, ℕ, ◌+◌, ◌^◌, ◌<◌, ◌≤◌, ◌⊎◌, inl, inr, true, false, cond, eqb, ltb, IsSome, Option, Some, None, List, [], ◌∷◌, length, refl, sym, ap, ◌∙◌, subst, arith, max}
 use Rattle.std.proofs.lemmas.Bool.{eqb-true, eqb-false, eq-eqb, ne_eqb, cases_lt, cases_order}
-use Rattle.std.proofs.Math.Pow.{pow_mono}
-use Rattle.std.proofs.Math.Nat.{mul-le-mul}
 use Rattle.av_arena.specs.Order.{IsRising, with_entry, without_key, entry_at}
 use Rattle.std.specs.List.{AllByRecursion}
 use Rattle.av_arena.proofs.Order.{rising_with, rising_without}
-use Rattle.av_arena.proofs.Shallow.{shallow_entries}
+use Rattle.av_arena.proofs.Shallow.{low_tree}
 use Rattle.av_interval.specs.declared.span.Span.{Span}
 use Rattle.av_arena.specs.declared.link.Link.{Link}
 use Rattle.av_arena.specs.declared.link.Stored.{Stored}
@@ -14,7 +12,7 @@ use Rattle.av_interval.specs.declared.roots.Root.{Root}
 use Rattle.av_interval.specs.Nodes.{Tree}
 use Rattle.av_interval.specs.Span.{key, key_of}
 use Rattle.av_interval.specs.Spans.{Store}
-use Rattle.av_arena.specs.Tree.{Leaf, Fork, entries, height, is, none, count, IsLevel, height_of, tree_at, IsHeld, IsPlaceFor, IsPlaced, HasKey, IsReplaced, IsWithout}
+use Rattle.av_arena.specs.Tree.{entries, is, none, count, height_of, tree_at, IsHeld, IsPlaceFor, IsPlaced, HasKey, IsReplaced, IsWithout}
 use Rattle.av_base.specs.Words.{with_at}
 use Rattle.av_interval.specs.Roots.{top_of, len_of}
 use Rattle.av_interval.specs.Spans.{IsForest, IsOfTree, IsNew}
@@ -23,26 +21,12 @@ use Rattle.av_arena.proofs.TreeLemmas.{is_self, with_at_same, with_at_other, kep
 use Rattle.av_interval.specs.Span.{last_of, max_laws}
 
 -- height
-pub shallow : (t : Tree) → IsLevel t → 2 ^ height t ≤ (length (entries t) + 1) * (length (entries t) + 1)
-shallow Leaf lv = omega arith
-shallow (Fork n l x r) lv = shallow_entries (entries l) x (entries r) (height l) (height r) (shallow l lv.1) (shallow r lv.2) lv.0.0 lv.0.1
-
-below_limit : (h n : ℕ) → 2 ^ h ≤ (n + 1) * (n + 1) → n < 2 ^ 64 → h < 200
-below_limit h n p q = elim (cases_lt h 200) [
-  | inl k ↦ k
-  | inr k ↦
-      let a : 129 ≤ h = omega arith in
-      let b : 2 ^ 129 ≤ 2 ^ h = pow_mono a in
-      let c : (n + 1) * (n + 1) ≤ 2 ^ 64 * 2 ^ 64 = mul-le-mul {n₁ = n + 1} {m₁ = n + 1} {n₂ = 2 ^ 64} {m₂ = 2 ^ 64} (omega arith) (omega arith) in
-      absurd (omega arith)
-]
-
 pub low : (s : Store) (r : ℕ → Option Root) → IsForest s r → (a : ℕ) → len_of (r a) < 2 ^ 64 → height_of (top_of (r a)) < 200
 low s r f a h =
     let t = tree_at s (top_of (r a)) in
     let e = held_height key 0 max last_of max_laws s (top_of (r a)) (f.held a) in
     let l = f.len a in
-    rw (← e) (below_limit (height t) (length (entries t)) (shallow t (f.held a).level) (omega arith))
+    rw (← e) (low_tree t (f.held a).level (omega arith))
 
 -- keys
 before_of : (x y : Span) → x.area < 2 ^ 64 → y.area < 2 ^ 64 → key x < key y → IsBefore x y

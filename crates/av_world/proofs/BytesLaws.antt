@@ -8,8 +8,6 @@ use Rattle.std.proofs.lemmas.List.{get_or_append_left, get_or-append_right, get_
 use Rattle.std.proofs.lemmas.Grind.{same_number_lists}
 use Rattle.std.proofs.lemmas.List.FromFn.{get_or-map-range_with_len, length-map-range_with_len}
 use Rattle.std.specs.BTreeMap.{BTreeMap, get, is_at}
-use Rattle.std.specs.declared.alloc.Global.{Global}
-use Rattle.std.specs.declared.vec.Vec.{Vec}
 use Rattle.std.specs.Ordering.{nat_cmp}
 use Rattle.av_base.specs.Page.{address_of, page_size}
 use Rattle.av_base.specs.Words.{within}
@@ -18,7 +16,7 @@ use Rattle.av_plain.specs.World.{Page, Process, Shows, World, byte_at, pages, se
 use Rattle.av_plain.proofs.World.TwoWrites.{with_bytes_twice}
 use Rattle.av_world.specs.Bytes.{overlaid}
 use Rattle.av_ranges.specs.Ranges.{marks_at}
-use Rattle.av_world.specs.Space.{IsPage, IsSpace, byte_in, bytes_in}
+use Rattle.av_world.specs.Space.{IsPage, IsSpace, PageBytes, byte_in, bytes_in}
 use Rattle.av_ranges.specs.declared.marks.Marks.{Marks}
 use Rattle.av_world.specs.declared.space.Space.{Space}
 use Rattle.av_world.proofs.KeptLaws.{key-self, other-key}
@@ -92,21 +90,21 @@ pages-laid old new q page at piece h fits ranges here others = record {
         ∙ sym (ap (λ b. cond b (slice_index piece (4096 * x + i - (4096 * page + at))) (byte_in (get nat_cmp old.bytes x) i))
         (outside x (length piece) i e fits low))
 
-pub some-laid : (old new : BTreeMap ℕ (Vec ℕ Global)) (page at : ℕ) (piece : List ℕ) (o : Option (Vec ℕ Global)) (kept : Vec ℕ Global)
+pub some-laid : (old new : BTreeMap ℕ PageBytes) (page at : ℕ) (piece : List ℕ) (o : Option PageBytes) (kept : PageBytes)
     → get nat_cmp old page ≡ o → ((q : ℕ) → get nat_cmp new q ≡ cond (is_at (nat_cmp page) q) (Some kept) (get nat_cmp old q))
-    → ((i : ℕ) → slice_index kept.items i ≡ overlaid at piece (slice_index (bytes_in o)) i)
+    → ((i : ℕ) → slice_index kept.value.items i ≡ overlaid at piece (slice_index (bytes_in o)) i)
     → (i : ℕ) → byte_in (get nat_cmp new page) i ≡ overlaid at piece (byte_in (get nat_cmp old page)) i
 some-laid old new page at piece o kept is put laid i =
     ap (λ o. byte_in o i) (put page ∙ ap (λ b. cond b (Some kept) (get nat_cmp old page)) (key-self page))
     ∙ laid i ∙ ap (λ o. overlaid at piece (byte_in o) i) (sym is)
 
 -- bytes are put into what is the same as before
-pub put-in : (old same new : BTreeMap ℕ (Vec ℕ Global)) (page : ℕ) (kept : Vec ℕ Global) → same ≡ old
+pub put-in : (old same new : BTreeMap ℕ PageBytes) (page : ℕ) (kept : PageBytes) → same ≡ old
     → ((q : ℕ) → get nat_cmp new q ≡ cond (is_at (nat_cmp page) q) (Some kept) (get nat_cmp same q))
     → (q : ℕ) → get nat_cmp new q ≡ cond (is_at (nat_cmp page) q) (Some kept) (get nat_cmp old q)
 put-in old same new page kept is put q = put q ∙ ap (λ m. cond (is_at (nat_cmp page) q) (Some kept) (get nat_cmp m q)) is
 
-pub others-laid : (old new : BTreeMap ℕ (Vec ℕ Global)) (page : ℕ) (kept : Vec ℕ Global)
+pub others-laid : (old new : BTreeMap ℕ PageBytes) (page : ℕ) (kept : PageBytes)
     → ((q : ℕ) → get nat_cmp new q ≡ cond (is_at (nat_cmp page) q) (Some kept) (get nat_cmp old q))
     → (other : ℕ) → (other == page) ≡ false → get nat_cmp new other ≡ get nat_cmp old other
 others-laid old new page kept put other differ = put other

@@ -6,8 +6,6 @@ use Rattle.std.specs.Cmp.{ranked}
 use Rattle.std.specs.Ordering.{is_eq, nat_cmp}
 use Rattle.std.specs.declared.cmp.Ordering.{Ordering}
 use Rattle.std.specs.declared.cmp.Ordering.TheVariants.{Less, Equal, Greater}
-use Rattle.std.specs.declared.alloc.Global.{Global}
-use Rattle.std.specs.declared.vec.Vec.{Vec}
 use Rattle.std.specs.BTreeMap.{get, is_at}
 use Rattle.std.specs.List.{AllZip}
 use Rattle.std.specs.Map.{lookup}
@@ -18,7 +16,7 @@ use Rattle.av_plain.specs.Fork.{goes_over}
 use Rattle.av_plain.specs.World.{Page, Process, child_of, page_of_child, wiped, without_lock}
 use Rattle.av_world.specs.Child.{bytes_go, marks_of_child}
 use Rattle.av_ranges.specs.Ranges.{marks_at}
-use Rattle.av_world.specs.Space.{IsPage, IsSpace, byte_in}
+use Rattle.av_world.specs.Space.{IsPage, IsSpace, PageBytes, byte_in}
 use Rattle.av_ranges.specs.declared.marks.Marks.{Marks}
 use Rattle.av_world.specs.declared.space.Space.{Space}
 
@@ -75,11 +73,11 @@ module _ (made new said : ℕ → Option Marks) (at to : ℕ) (less : at < to) (
 -- ---- bytes
 
 -- what passes a test of its page
-kept-at : (t : ℕ → Bool) (es : List (ℕ × Vec ℕ Global)) (k : ℕ)
+kept-at : (t : ℕ → Bool) (es : List (ℕ × PageBytes)) (k : ℕ)
     → lookup (is_at (nat_cmp k)) (filter (λ e. t e.0) es) ≡ cond (t k) (lookup (is_at (nat_cmp k)) es) None
 kept-at t [] k = none (t k)
   where
-    nothing : Option (Vec ℕ Global)
+    nothing : Option PageBytes
     nothing = None
 
     none : (b : Bool) → nothing ≡ cond b nothing nothing
@@ -87,7 +85,7 @@ kept-at t [] k = none (t k)
     none false = refl
 kept-at t (e ∷ es) k = by (nat_cmp k e.0) refl (kept-at t es k)
   where
-    rest : List (ℕ × Vec ℕ Global)
+    rest : List (ℕ × PageBytes)
     rest = filter (λ e. t e.0) es
 
     here : (b : Bool) → lookup (is_at (nat_cmp k)) rest ≡ cond b (lookup (is_at (nat_cmp k)) es) None
@@ -113,9 +111,9 @@ kept-at t (e ∷ es) k = by (nat_cmp k e.0) refl (kept-at t es k)
         ∙ here (t k) ih (ap is_eq at)
 
 -- a copy of pages with bytes, place by place, has the same bytes
-copied : (R : ℕ × Vec ℕ Global → ℕ × Vec ℕ Global → Type 0)
-    → ((p q : ℕ × Vec ℕ Global) → R p q → (q.0 ≡ p.0) × (q.1.items ≡ p.1.items))
-    → (es fs : List (ℕ × Vec ℕ Global)) (k : ℕ) → AllZip R es fs
+copied : (R : ℕ × PageBytes → ℕ × PageBytes → Type 0)
+    → ((p q : ℕ × PageBytes) → R p q → (q.0 ≡ p.0) × (q.1.value.items ≡ p.1.value.items))
+    → (es fs : List (ℕ × PageBytes)) (k : ℕ) → AllZip R es fs
     → byte_in (lookup (is_at (nat_cmp k)) fs) ≡ byte_in (lookup (is_at (nat_cmp k)) es)
 copied R same [] [] k h = refl
 copied R same [] (f ∷ fs) k h = absurd h
@@ -130,9 +128,9 @@ copied R same (e ∷ es) (f ∷ fs) k h =
     by false rest = rest
 
 -- those that pass a test of a copy
-pub copied-where : (R : ℕ × Vec ℕ Global → ℕ × Vec ℕ Global → Type 0)
-    → ((p q : ℕ × Vec ℕ Global) → R p q → (q.0 ≡ p.0) × (q.1.items ≡ p.1.items))
-    → (t : ℕ → Bool) (es fs gs : List (ℕ × Vec ℕ Global)) (k : ℕ) → AllZip R es fs → gs ≡ filter (λ e. t e.0) fs
+pub copied-where : (R : ℕ × PageBytes → ℕ × PageBytes → Type 0)
+    → ((p q : ℕ × PageBytes) → R p q → (q.0 ≡ p.0) × (q.1.value.items ≡ p.1.value.items))
+    → (t : ℕ → Bool) (es fs gs : List (ℕ × PageBytes)) (k : ℕ) → AllZip R es fs → gs ≡ filter (λ e. t e.0) fs
     → byte_in (lookup (is_at (nat_cmp k)) gs) ≡ byte_in (cond (t k) (lookup (is_at (nat_cmp k)) es) None)
 copied-where R same t es fs gs k h is = ap (λ gs. byte_in (lookup (is_at (nat_cmp k)) gs)) is ∙ ap byte_in (kept-at t fs k) ∙ by (t k)
   where
@@ -142,7 +140,7 @@ copied-where R same t es fs gs k h is = ap (λ gs. byte_in (lookup (is_at (nat_c
 
 -- ---- pages
 
-one-child : (o : Option Marks) (bytes : Option (Vec ℕ Global)) (p : Option Page) → IsPage o (byte_in bytes) p
+one-child : (o : Option Marks) (bytes : Option PageBytes) (p : Option Page) → IsPage o (byte_in bytes) p
     → IsPage (option_and_then marks_of_child o) (byte_in (cond (bytes_go o) bytes None)) (option_and_then page_of_child p)
 one-child None bytes None h = tt
 one-child None bytes (Some p) h = absurd h

@@ -3,6 +3,7 @@ use Rattle.std.specs.Prelude.{◌≡◌, ℕ, ◌<◌, ◌≤◌, List, [], Opti
 use Rattle.std.specs.Ordering.{nat_cmp}
 use Rattle.std.specs.BTreeMap.{get}
 use Rattle.std.specs.declared.alloc.Global.{Global}
+use Rattle.std.specs.declared.rc.Rc.{Rc}
 use Rattle.std.specs.declared.vec.Vec.{Vec}
 use Rattle.av_base.specs.Limits.{top_page}
 use Rattle.av_base.specs.Page.{page_size}
@@ -17,13 +18,17 @@ use Rattle.av_world.specs.declared.space.Space.{Space}
 abbrev pub marks_of : Marks → Prot × Flags
 marks_of k = (k.prot, k.flags)
 
+-- the bytes of a page, which several processes may have
+abbrev pub PageBytes : Type 0
+PageBytes = Rc (Vec ℕ Global) Global
+
 -- the bytes that are kept of a page, if any are
-abbrev pub bytes_in : Option (Vec ℕ Global) → List ℕ
+abbrev pub bytes_in : Option PageBytes → List ℕ
 bytes_in None = []
-bytes_in (Some bytes) = bytes.items
+bytes_in (Some bytes) = bytes.value.items
 
 -- the byte at a place of such a page
-abbrev pub byte_in : Option (Vec ℕ Global) → ℕ → ℕ
+abbrev pub byte_in : Option PageBytes → ℕ → ℕ
 byte_in bytes i = slice_index (bytes_in bytes) i
 
 -- a page of which this is said and that has these bytes; or none is mapped

@@ -16,6 +16,7 @@ use crate::memories::Memories;
 use crate::space::Space;
 use av_base::PAGE_SIZE;
 use std::alloc::AllocError;
+use std::rc::Rc;
 
 const SIZE: usize = PAGE_SIZE as usize;
 
@@ -39,6 +40,16 @@ fn lay(kept: &mut Vec<u8>, at: usize, piece: &[u8]) -> Result<(), AllocError>
     reach(kept, end)?;
     kept[at..end].copy_from_slice(piece);
     Ok(())
+}
+
+/// The same of bytes that others may share: these get a copy of their own first.
+fn lay_apart(kept: &mut Rc<Vec<u8>>, at: usize, piece: &[u8]) -> Result<(), AllocError>
+    requires { at + length piece.now ≤ page_size }
+    ensures { OnOk result ((i : ℕ) → slice_index kept.new.value.items i
+        ≡ overlaid at piece.now (slice_index kept.old.value.items) i) }
+{
+    let own = Rc::make_mut(kept)?;
+    lay(own, at, piece)
 }
 
 /// Adds so many bytes from a place on. Those past the end are 0.
@@ -69,10 +80,11 @@ impl Space {
             → IsSpace self.new (with_bytes q (address_of page + at) piece.now)) }
     {
         if let Some(kept) = self.bytes.get_mut(&page) {
-            return lay(kept, at, piece);
+            return lay_apart(kept, at, piece);
         }
         let mut kept = Vec::new(self.alloc);
         lay(&mut kept, at, piece)?;
+        let kept = Rc::new(self.alloc, kept)?;
         self.bytes.insert(page, kept)?;
         Ok(())
     }
@@ -85,7 +97,7 @@ impl Space {
     {
         match self.bytes.get(&page) {
             None => show(&[], at, len, shown),
-            Some(kept) => show(kept.as_slice(), at, len, shown),
+            Some(kept) => show(kept.as_ref().as_slice(), at, len, shown),
         }
     }
 

@@ -10,9 +10,11 @@ ghost use Rattle.av_world.specs.Kept.{IsNext};
 
 use std::alloc::{AllocError, Global};
 use std::collections::BTreeMap;
+use std::rc::Rc;
 
-/// The bytes that are kept of each page that has some.
-pub type Kept = BTreeMap<u64, Vec<u8>>;
+/// The bytes that are kept of each page that has some. A child shares them with its parent until
+/// one of the two writes.
+pub type Kept = BTreeMap<u64, Rc<Vec<u8>>>;
 
 /// The first page from one on and below `end` that has bytes.
 pub fn next_of(kept: &Kept, from: u64, end: u64) -> Option<u64>

@@ -7,6 +7,7 @@ ghost use Rattle.av_plain.specs.World.{no_pages};
 ghost use Rattle.av_ranges.specs.Ranges.{marks_at};
 ghost use Rattle.av_world.specs.Space.{IsSpace, bytes_in};
 
+use crate::kept::Kept;
 use av_ranges::{Marks, Ranges};
 use std::alloc::Global;
 use std::collections::BTreeMap;
@@ -17,7 +18,7 @@ use std::collections::BTreeMap;
 pub struct Space {
     pub(crate) alloc: Global,
     pub(crate) ranges: Ranges,
-    pub(crate) bytes: BTreeMap<u64, Vec<u8>>,
+    pub(crate) bytes: Kept,
 }
 
 impl Space {
@@ -52,7 +53,7 @@ impl Space {
     {
         match self.bytes.get(&page) {
             None => &[],
-            Some(kept) => kept.as_slice(),
+            Some(kept) => kept.as_ref().as_slice(),
         }
     }
 }

@@ -1,7 +1,8 @@
 use Rattle.av_arena.proofs.Entries.{keeps_keeps, put_own}
-use Rattle.std.proofs.Common.{rules, ◌≡◌, None, ap, subst, arith, refl, ◌∙◌}
+use Rattle.std.proofs.Common.{rules, ◌≡◌, None, ap, subst, arith, refl, sym, ◌∙◌}
 use Rattle.av_arena.specs.Arena.{store_of}
-use Rattle.av_arena.specs.Tree.{IsHeld, height_of}
+use Rattle.av_arena.specs.Cell.{node_in}
+use Rattle.av_arena.specs.Tree.{IsHeightAfter, IsHeld, IsJoined, height_of}
 use Rattle.av_arena.proofs.TreeLemmas.{removed_middle_ready}
 use Rattle.av_arena.proofs.BelowLemmas.{opened_at, taken_last, taken_middle}
 use Rattle.av_arena.proofs.below.take.Goals as goal
@@ -9,25 +10,25 @@ use Rattle.av_arena.proofs.below.take.Goals as goal
 pub returns-in_default-clause-taken : goal.returns-in_default-clause-taken
 returns-in_default-clause-taken g c =
     let m = g.T.Entry in
-    let none : c.get-node.result.right ≡ None = search rules in
-    taken_last m.key m.unit m.op m.of g.met.T.Entry.laws (store_of c.args.arena.now) c.args.number c.get-node.result c.args.like.now
-    c.get-node.ensures c.requires.same none
+    let none : (node_in c.cell-cell.result.now).right ≡ None = sym c.link.ensures ∙ search rules in
+    rw c.link-before.ensures (taken_last m.key m.unit m.op m.of g.met.T.Entry.laws (store_of c.args.arena.now) c.args.number (node_in c.cell-cell.result.now) c.args.like.now
+    c.cell-cell.ensures c.requires.same none)
 
 pub pop_first-first-requires-clause-held : goal.pop_first-first-requires-clause-held
 pop_first-first-requires-clause-held g c =
     let m = g.T.Entry in
     let s = store_of c.args.arena.now in
     let r = c.requires.there in
-    let o = opened_at m.key m.unit m.op m.of g.met.T.Entry.laws s c.args.number r.link c.get-node.result r.number r.asked.held c.get-node.ensures in
-    subst (IsHeld m.key m.unit m.op m.of s) c.in-Some.is o.right
+    let o = opened_at m.key m.unit m.op m.of g.met.T.Entry.laws s c.args.number r.link (node_in c.cell-cell.result.now) r.number r.asked.held c.cell-cell.ensures in
+    subst (IsHeld m.key m.unit m.op m.of s) (sym c.link.ensures ∙ c.in-Some.is) o.right
 
 pub pop_first-first-requires-clause-low : goal.pop_first-first-requires-clause-low
 pop_first-first-requires-clause-low g c =
     let m = g.T.Entry in
     let s = store_of c.args.arena.now in
     let r = c.requires.there in
-    let o = opened_at m.key m.unit m.op m.of g.met.T.Entry.laws s c.args.number r.link c.get-node.result r.number r.asked.held c.get-node.ensures in
-    let e = ap height_of c.in-Some.is in
+    let o = opened_at m.key m.unit m.op m.of g.met.T.Entry.laws s c.args.number r.link (node_in c.cell-cell.result.now) r.number r.asked.held c.cell-cell.ensures in
+    let e = ap height_of (sym c.link.ensures ∙ c.in-Some.is) in
     let h = o.height in
     let l = r.low in
     omega arith
@@ -37,19 +38,20 @@ balance-whole-requires-clause-spot g c =
     let m = g.T.Entry in
     let s = store_of c.args.arena.now in
     let r = c.requires.there in
-    let o = opened_at m.key m.unit m.op m.of g.met.T.Entry.laws s c.args.number r.link c.get-node.result r.number r.asked.held c.get-node.ensures in
-    removed_middle_ready m.key m.unit m.op m.of g.met.T.Entry.laws s (store_of c.pop_first-first.new.arena) r.link c.in-Some.right c.get-node.result
-    c.pop_first-first.result.0 c.pop_first-first.result.1 c.pop_first-first.result.2 o c.in-Some.is c.pop_first-first.ensures.popped
+    let o = opened_at m.key m.unit m.op m.of g.met.T.Entry.laws s c.args.number r.link (node_in c.cell-cell.result.now) r.number r.asked.held c.cell-cell.ensures in
+    rw c.link-before.ensures (removed_middle_ready m.key m.unit m.op m.of g.met.T.Entry.laws s (store_of c.pop_first-first.new.arena) r.link c.in-Some.right (node_in c.cell-cell.result.now)
+    c.pop_first-first.result.0 c.pop_first-first.result.1 c.pop_first-first.result.2 o (sym c.link.ensures ∙ c.in-Some.is) c.pop_first-first.ensures.popped)
 
 pub balance-whole-requires-clause-level : goal.balance-whole-requires-clause-level
 balance-whole-requires-clause-level g c =
     let m = g.T.Entry in
     let s = store_of c.args.arena.now in
     let r = c.requires.there in
-    let o = opened_at m.key m.unit m.op m.of g.met.T.Entry.laws s c.args.number r.link c.get-node.result r.number r.asked.held c.get-node.ensures in
-    let e = ap height_of c.in-Some.is in
+    let o = opened_at m.key m.unit m.op m.of g.met.T.Entry.laws s c.args.number r.link (node_in c.cell-cell.result.now) r.number r.asked.held c.cell-cell.ensures in
+    let e = ap height_of (sym c.link.ensures ∙ c.in-Some.is) in
     let l = o.level.0 in
     let h = o.level.1 in
+    let f = ap height_of c.link-before.ensures in
     let a = c.pop_first-first.ensures.not_higher in
     let b = c.pop_first-first.ensures.at_most_one_lower in
     (omega arith, omega arith)
@@ -59,10 +61,11 @@ balance-whole-requires-clause-low g c =
     let m = g.T.Entry in
     let s = store_of c.args.arena.now in
     let r = c.requires.there in
-    let o = opened_at m.key m.unit m.op m.of g.met.T.Entry.laws s c.args.number r.link c.get-node.result r.number r.asked.held c.get-node.ensures in
-    let e = ap height_of c.in-Some.is in
+    let o = opened_at m.key m.unit m.op m.of g.met.T.Entry.laws s c.args.number r.link (node_in c.cell-cell.result.now) r.number r.asked.held c.cell-cell.ensures in
+    let e = ap height_of (sym c.link.ensures ∙ c.in-Some.is) in
     let h = o.height in
     let l = r.low in
+    let f = ap height_of c.link-before.ensures in
     let a = c.pop_first-first.ensures.not_higher in
     omega arith
 
@@ -70,11 +73,15 @@ pub returns-clause-taken : goal.returns-clause-taken
 returns-clause-taken g c =
     let m = g.T.Entry in
     let p = c.pop_first-first in
+    let joined = subst (λ l. IsJoined m.key m.unit m.op m.of (store_of p.new.arena) (store_of c.balance-whole.new.arena)
+    p.result.0 l p.result.1 p.result.2 c.balance-whole.result) c.link-before.ensures c.balance-whole.ensures.joined in
+    let height = subst (λ l. IsHeightAfter (height_of l) (height_of p.result.2) c.balance-whole.result.height)
+    c.link-before.ensures c.balance-whole.ensures.height in
     taken_middle m.key m.unit m.op m.of g.met.T.Entry.laws (store_of c.args.arena.now) (store_of p.new.arena)
     (store_of c.balance-whole.new.arena) c.args.number
-    c.get-node.result c.args.like.now c.in-Some.right p.result.0 p.result.1 p.result.2 c.balance-whole.result c.get-node.ensures
-    c.requires.same c.in-Some.is
-    p.ensures.popped p.ensures.not_higher p.ensures.at_most_one_lower c.balance-whole.ensures.joined c.balance-whole.ensures.height
+    (node_in c.cell-cell.result.now) c.args.like.now c.in-Some.right p.result.0 p.result.1 p.result.2 c.balance-whole.result c.cell-cell.ensures
+    c.requires.same (sym c.link.ensures ∙ c.in-Some.is)
+    p.ensures.popped p.ensures.not_higher p.ensures.at_most_one_lower joined height
 
 pub returns-in_default-clause-kept : goal.returns-in_default-clause-kept
 returns-in_default-clause-kept g c = λ j. refl

@@ -2,6 +2,7 @@ use Rattle.av_arena.specs.declared.link.Side.TheVariants.{Left}
 use Rattle.av_arena.proofs.Entries.{put_own, side_keeps}
 use Rattle.std.proofs.Common.{rules, ◌≡◌, sym, ap, ◌∙◌, subst, refl}
 use Rattle.av_arena.specs.Arena.{store_of, entry_of}
+use Rattle.av_arena.specs.Cell.{node_in}
 use Rattle.av_arena.specs.Tree.{height_of, sum_of, IsRoot}
 use Rattle.av_arena.specs.declared.link.Stored.{Stored}
 use Rattle.av_arena.proofs.TreeLemmas.{joined_same, left_set, node_is}
@@ -11,9 +12,9 @@ pub returns-then-is_same_link-clause-joined : goal.returns-then-is_same_link-cla
 returns-then-is_same_link-clause-joined g c =
     let m = g.T.Entry in
     let s = store_of c.args.arena.now in
-    let e = node_is m.key m.unit m.op m.of g.met.T.Entry.laws s c.args.tree c.args.own c.args.entry c.args.right c.get-node.result
-    c.requires.root c.get-node.ensures in
-    let same : c.get-node.result.left ≡ c.args.left = c.is_same_link.ensures.same (search rules) in
+    let e = node_is m.key m.unit m.op m.of g.met.T.Entry.laws s c.args.tree c.args.own c.args.entry c.args.right (node_in c.cell-cell.result.now)
+    c.requires.root c.cell-cell.ensures in
+    let same : (node_in c.cell-cell.result.now).left ≡ c.args.left = c.is_same_link.ensures.same (search rules) in
     let is : c.args.own ≡ c.args.left = sym (ap (λ (w : Stored g.row.T.Denot g.row.T-Sum.Denot). w.left) e) ∙ same in
     let root : IsRoot m.key m.unit m.op m.of s c.args.tree c.args.left c.args.entry c.args.right =
     subst (λ k. IsRoot m.key m.unit m.op m.of s c.args.tree k c.args.entry c.args.right) is c.requires.root in
@@ -23,9 +24,9 @@ pub returns-clause-joined : goal.returns-clause-joined
 returns-clause-joined g c =
     let m = g.T.Entry in
     let s = store_of c.args.arena.now in
-    let v = c.get-node.result in
+    let v = (node_in c.cell-cell.result.now) in
     let e = node_is m.key m.unit m.op m.of g.met.T.Entry.laws s c.args.tree c.args.own c.args.entry c.args.right v c.requires.root
-    c.get-node.ensures in
+    c.cell-cell.ensures in
     let high : height_of v.left ≡ height_of c.args.left = search rules in
     let own : height_of c.args.own ≡ height_of c.args.left = sym (ap (λ (w : Stored g.row.T.Denot g.row.T-Sum.Denot). height_of w.left) e) ∙ high in
     let sum : c.join_sums-total.result ≡ m.op (sum_of m.unit c.args.left) (m.op (m.of v.entry) (sum_of m.unit v.right)) = search rules in
@@ -38,7 +39,7 @@ pub returns-then-is_same_link-clause-kept : goal.returns-then-is_same_link-claus
 returns-then-is_same_link-clause-kept g c = λ j. refl
 
 pub returns-then-height-clause-kept : goal.returns-then-height-clause-kept
-returns-then-height-clause-kept g c = put_own _ _ c.args.tree.number _ c.balance.ensures.put (ap entry_of c.get-node.ensures)
+returns-then-height-clause-kept g c = put_own _ _ c.args.tree.number _ c.balance.ensures.put (ap entry_of c.cell-cell.ensures)
 
 pub returns-clause-kept : goal.returns-clause-kept
 returns-clause-kept g c = side_keeps Left _ _ c.args.tree.number _ c.set_side.ensures

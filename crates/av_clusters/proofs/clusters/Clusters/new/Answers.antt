@@ -20,6 +20,9 @@ full_clusters-requires-2 c = few_pages c.args.pages c.args.bad.now _ (c.deref-4.
 pub group_count-requires : goal.group_count-requires
 group_count-requires c = few_pages c.args.pages c.args.bad.now _ (c.deref-5.ensures.value ∙ c.in_ok-pages.ensures) (omega arith)
 
+pub cluster_count-requires : goal.cluster_count-requires
+cluster_count-requires c = few_pages c.args.pages c.args.bad.now _ (c.deref-6.ensures.value ∙ c.in_ok-pages.ensures) (omega arith)
+
 pub invariant_of-result : goal.invariant_of-result
 invariant_of-result c =
     let pages = c.deref-2.ensures.value ∙ c.in_ok-pages.ensures in
@@ -35,6 +38,9 @@ invariant_of-result c =
       c.in_ok-full_groups.ensures,
       c.group_count.ensures,
       c.deref-5.ensures.value,
+      c.in_ok-taken.ensures,
+      c.cluster_count.ensures,
+      c.deref-6.ensures.value,
       c.in_ok-pages.ensures,
     )
     (whole_fresh c.args.pages c.args.bad.now _ _ (omega arith) (c.in_ok-free.ensures.1 ∙ ap length (c.in_ok-free.ensures.0 ∙ ap clusters_of pages))

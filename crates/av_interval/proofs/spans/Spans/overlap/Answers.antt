@@ -1,6 +1,6 @@
 use Rattle.std.proofs.Common.{subst}
 use Rattle.av_interval.specs.Spans.{Forest, IsForest, store_of, root_in, tree_of}
-use Rattle.av_interval.proofs.SpansLemmas.{shallow}
+use Rattle.av_arena.proofs.Shallow.{shallow}
 use Rattle.av_interval.proofs.spans.Spans.overlap.Goals as goal
 
 pub returns-clause-shallow : goal.returns-clause-shallow

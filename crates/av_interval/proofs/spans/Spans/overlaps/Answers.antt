@@ -1,6 +1,7 @@
 use Rattle.std.proofs.Common.{subst}
 use Rattle.av_interval.specs.Spans.{Forest, IsForest, store_of, root_in, tree_of, triples}
-use Rattle.av_interval.proofs.SpansLemmas.{ordered, shallow}
+use Rattle.av_arena.proofs.Shallow.{shallow}
+use Rattle.av_interval.proofs.SpansLemmas.{ordered}
 use Rattle.av_interval.proofs.spans.Spans.overlaps.Goals as goal
 
 pub returns-clause-shallow : goal.returns-clause-shallow
