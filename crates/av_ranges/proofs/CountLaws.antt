@@ -16,9 +16,9 @@ use Rattle.std.proofs.lemmas.Bool.Decides.{nat_tests}
 use Rattle.std.proofs.lemmas.Map.Lookups.{exact_unsigned}
 use Rattle.std.proofs.lemmas.Map.Views.{tells_apart}
 use Rattle.av_ranges.specs.Marks.{is_locked}
-use Rattle.av_ranges.specs.Ranges.{bound_at, locked_bounds, marks_at, said}
+use Rattle.av_ranges.specs.Ranges.{bound_at, locked_bounds, marks_at, marks_by}
 use Rattle.av_ranges.specs.declared.marks.Marks.{Marks}
-use Rattle.av_ranges.proofs.SaidLaws.{Bound, said-at, said-step}
+use Rattle.av_ranges.proofs.MarksLaws.{Bound, marks-at, marks-step}
 
 -- 1 where it is locked
 abbrev pub one : Option Marks → ℕ
@@ -85,20 +85,20 @@ bounds-unlocked (e ∷ es) none q v is =
     by true false at sum later is = ap is_locked (sym (inner is)) ∙ at
     by false false at sum later is = later (omega (arith, sum)) is
 
-said-unlocked : (f : Bound) → ((q : ℕ) (v : Option Marks) → f q ≡ Some v → is_locked v ≡ false) → (p : ℕ) → is_locked (said f p) ≡ false
-said-unlocked f none zero = ap is_locked (said-step f zero) ∙ by (f zero) refl
+marks-unlocked : (f : Bound) → ((q : ℕ) (v : Option Marks) → f q ≡ Some v → is_locked v ≡ false) → (p : ℕ) → is_locked (marks_by f p) ≡ false
+marks-unlocked f none zero = ap is_locked (marks-step f zero) ∙ by (f zero) refl
   where
     by : (o : Option (Option Marks)) → f zero ≡ o → is_locked (unwrap_or o None) ≡ false
     by None is = refl
     by (Some v) is = none zero v is
-said-unlocked f none (suc p) = ap is_locked (said-step f (suc p)) ∙ by (f (suc p)) refl (said-unlocked f none p)
+marks-unlocked f none (suc p) = ap is_locked (marks-step f (suc p)) ∙ by (f (suc p)) refl (marks-unlocked f none p)
   where
-    by : (o : Option (Option Marks)) → f (suc p) ≡ o → is_locked (said f p) ≡ false → is_locked (unwrap_or o (said f p)) ≡ false
+    by : (o : Option (Option Marks)) → f (suc p) ≡ o → is_locked (marks_by f p) ≡ false → is_locked (unwrap_or o (marks_by f p)) ≡ false
     by None is below = below
     by (Some v) is below = none (suc p) v is
 
 pub none-locked : (es : List (ℕ × Option Marks)) → locked_bounds es ≡ 0 → (page : ℕ) → is_locked (marks_at es page) ≡ false
-none-locked es none page = said-unlocked (bound_at es) (bounds-unlocked es none) page
+none-locked es none page = marks-unlocked (bound_at es) (bounds-unlocked es none) page
 
 -- where one is, a page is
 below-all : (x : ℕ) (es : List (ℕ × Option Marks)) → AllByRecursion (λ y. nat_cmp x y ≡ Less) (keys_of es) → bound_at es x ≡ None
@@ -139,4 +139,4 @@ pub some-locked : (es : List (ℕ × Option Marks)) → IsStrictlySortedBy nat_c
     → (page : ℕ) × (is_locked (marks_at es page) ≡ true)
 some-locked es rise some =
     let r = some-bound es rise some in
-    (r.0, ap is_locked (said-at (bound_at es) r.0 r.1 r.2) ∙ r.3)
+    (r.0, ap is_locked (marks-at (bound_at es) r.0 r.1 r.2) ∙ r.3)

@@ -1,2 +1,3 @@
 pub mod CountLaws
-pub mod SaidLaws
+pub mod HolesLaws
+pub mod MarksLaws

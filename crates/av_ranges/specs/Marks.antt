@@ -19,6 +19,6 @@ abbrev pub is_locked : Option Marks → Bool
 is_locked o = option_map_or (λ (k : Marks). k.flags.locked) o false
 
 -- what is said of a page after it is changed, or this is said of it
-abbrev pub marks_after : Rewrite → Option Marks → Option Marks
-marks_after (By change) o = option_and_then (change_of change) o
-marks_after (To k) o = Some k
+abbrev pub marks_of_rewrite : Rewrite → Option Marks → Option Marks
+marks_of_rewrite (By change) o = option_and_then (change_of change) o
+marks_of_rewrite (To k) o = Some k

@@ -3,7 +3,7 @@
 ghost use Rattle.std.specs.Prelude.{◌≡◌, ◌≢◌, ℕ, ◌+◌, ◌<◌, ◌≤◌, ◌^◌, nat_le, None};
 ghost use Rattle.std.specs.Prelude.{false, if◌then◌else◌, true, IsSome, MatchOption, OnErr, OnOk};
 ghost use Rattle.av_base.specs.Words.{within};
-ghost use Rattle.av_ranges.specs.Marks.{is_locked, marks_after};
+ghost use Rattle.av_ranges.specs.Marks.{is_locked, marks_of_rewrite};
 ghost use Rattle.av_ranges.specs.Ranges.{IsTightAt, bound_at, marks_at, marks_below};
 
 use crate::marks::{Marks, Rewrite, locks, same};
@@ -46,9 +46,10 @@ impl Bounds {
         }
     }
 
-    /// What is said of a page, and a page at or below it from which on the same is said.
+    /// What is said of a page, and the bound at or below it from which on the same is said, or 0.
     pub fn run(&self, page: u64) -> (u64, Option<Marks>)
         ensures start { result.0 ≤ page }
+        ensures bound { 0 < result.0 → IsSome (bound_at self.now result.0) }
         ensures marks { result.1 ≡ marks_at self.now page }
         ensures same { (q : ℕ) → result.0 ≤ q → q ≤ page → marks_at self.now q ≡ result.1 }
     {
@@ -133,7 +134,7 @@ impl Bounds {
     /// A bound is none any more where the same is said of the page below.
     fn join(&mut self, at: u64)
         requires { IsSome (bound_at self.old at) }
-        ensures said { (q : ℕ) → marks_at self.new q ≡ marks_at self.old q }
+        ensures marks { (q : ℕ) → marks_at self.new q ≡ marks_at self.old q }
         ensures tight { IsTightAt self.new at }
         ensures others { (q : ℕ) → q ≢ at → bound_at self.new q ≡ bound_at self.old q }
     {
@@ -143,7 +144,7 @@ impl Bounds {
     }
 
     /// The next bound above a page, but no more than `end`.
-    fn next_up_to(&self, page: u64, end: u64) -> u64
+    pub fn next_up_to(&self, page: u64, end: u64) -> u64
         requires { page < end }
         ensures above { page < result }
         ensures most { result ≤ end }
@@ -162,7 +163,7 @@ impl Bounds {
         requires from { IsSome (bound_at self.old from) }
         requires end { IsSome (bound_at self.old end) }
         ensures below { (q : ℕ) → q < end → marks_at self.new q
-            ≡ (if nat_le from q then marks_after rewrite (marks_at self.old q)
+            ≡ (if nat_le from q then marks_of_rewrite rewrite (marks_at self.old q)
             else marks_at self.old q) }
         ensures above { (q : ℕ) → end ≤ q → bound_at self.new q ≡ bound_at self.old q }
         ensures before { (q : ℕ) → q < from → bound_at self.new q ≡ bound_at self.old q }
@@ -184,7 +185,7 @@ impl Bounds {
     pub fn rewrite(&mut self, from: u64, n: u64, rewrite: Rewrite) -> Result<(), AllocError>
         requires { from + n < 2 ^ 64 }
         ensures ok { OnOk result ((q : ℕ) → marks_at self.new q
-            ≡ (if within from n q then marks_after rewrite (marks_at self.old q)
+            ≡ (if within from n q then marks_of_rewrite rewrite (marks_at self.old q)
             else marks_at self.old q)) }
         ensures err { OnErr result ((q : ℕ) → marks_at self.new q ≡ marks_at self.old q) }
         ensures tight { ((q : ℕ) → IsTightAt self.old q) → (q : ℕ) → IsTightAt self.new q }

@@ -1,7 +1,7 @@
 //! What is said of a page, and its changes.
 
 ghost use Rattle.std.specs.Prelude.{◌≡◌, ◌≢◌, false, if◌then◌else◌, true};
-ghost use Rattle.av_ranges.specs.Marks.{change_of, is_locked, marks_after};
+ghost use Rattle.av_ranges.specs.Marks.{change_of, is_locked, marks_of_rewrite};
 
 use av_base::{Flag, Flags, Prot};
 
@@ -54,7 +54,7 @@ pub enum Rewrite {
 impl Rewrite {
     /// What is said afterwards.
     pub fn of(self, marks: Option<Marks>) -> Option<Marks>
-        ensures { result ≡ marks_after self marks }
+        ensures { result ≡ marks_of_rewrite self marks }
     {
         match self {
             Rewrite::By(change) => change.of(marks?),

@@ -6,12 +6,13 @@ ghost use Rattle.std.specs.Prelude.{option_and_then};
 ghost use Rattle.av_base.specs.Limits.{top_page};
 ghost use Rattle.av_base.specs.Words.{within};
 ghost use Rattle.av_vma.specs.Gap.{IsGap};
-ghost use Rattle.av_ranges.specs.Marks.{change_of, is_locked};
+ghost use Rattle.av_ranges.specs.Marks.{change_of, is_locked, marks_of_rewrite};
 ghost use Rattle.av_ranges.specs.Ranges.{marks_at};
 
 use crate::bounds::Bounds;
+use crate::holes::Holes;
+use crate::index::one_hole;
 use crate::marks::{Change, Marks, Rewrite};
-use av_base::{LOW_PAGE, TOP_PAGE};
 use std::alloc::{AllocError, Global};
 use std::marker::Model;
 
@@ -19,6 +20,8 @@ use std::marker::Model;
 #[derive(Drop)]
 pub struct Ranges {
     bounds: Bounds,
+    // The index of the holes. None once memory was wanting for it.
+    holes: Option<Holes>,
 }
 
 impl Model for Ranges {
@@ -30,7 +33,7 @@ impl Model for Ranges {
 
     ghost view = { λ a. a.bounds };
 
-    ghost invariant = { λ a. AreRanges a.bounds };
+    ghost invariant = { λ a. AreRanges a.bounds a.holes };
 }
 
 impl Ranges {
@@ -40,6 +43,7 @@ impl Ranges {
     {
         Ranges {
             bounds: Bounds::new(alloc),
+            holes: one_hole(alloc),
         }
     }
 
@@ -77,6 +81,21 @@ impl Ranges {
         }
     }
 
+    /// What is said of n pages from one on becomes something else. Without memory all stays.
+    fn rewrite(&mut self, from: u64, n: u64, rewrite: Rewrite) -> Result<(), AllocError>
+        requires { from + n < 2 ^ 64 }
+        ensures ok { OnOk result ((page : ℕ) → marks_at self.new page
+            ≡ (if within from n page then marks_of_rewrite rewrite (marks_at self.old page)
+            else marks_at self.old page)) }
+        ensures err { OnErr result ((page : ℕ) → marks_at self.new page ≡ marks_at self.old page) }
+    {
+        let (low, high) = self.bounds.around(from, from + n);
+        let holes = self.bounds.without_holes(self.holes.take(), low, high);
+        let result = self.bounds.rewrite(from, n, rewrite);
+        self.holes = self.bounds.with_holes(holes, low, high);
+        result
+    }
+
     /// What is said of n pages from one on changes. Without memory all stays.
     pub fn change(&mut self, from: u64, n: u64, change: Change) -> Result<(), AllocError>
         requires { from + n < 2 ^ 64 }
@@ -86,7 +105,7 @@ impl Ranges {
             else marks_at self.old page)) }
         ensures err { OnErr result ((page : ℕ) → marks_at self.new page ≡ marks_at self.old page) }
     {
-        self.bounds.rewrite(from, n, Rewrite::By(change))
+        self.rewrite(from, n, Rewrite::By(change))
     }
 
     /// n pages from one on are mapped, and this is said of them. Without memory all stays.
@@ -96,7 +115,7 @@ impl Ranges {
             ≡ (if within from n page then Some marks else marks_at self.old page)) }
         ensures err { OnErr result ((page : ℕ) → marks_at self.new page ≡ marks_at self.old page) }
     {
-        self.bounds.rewrite(from, n, Rewrite::To(marks))
+        self.rewrite(from, n, Rewrite::To(marks))
     }
 
     /// Whether a page is locked.
@@ -114,18 +133,9 @@ impl Ranges {
         ensures fits { IfSome result (λ page. page + n ≤ top_page) }
         ensures gap { IsGap (λ page. is_some (marks_at self.now page)) n result }
     {
-        let mut end = TOP_PAGE;
-        let mut hole = TOP_PAGE;
-        while end - hole < n {
-            if hole <= LOW_PAGE {
-                return None;
-            }
-            let (start, marks) = self.bounds.run(hole - 1);
-            hole = start.max(LOW_PAGE);
-            if marks.is_some() {
-                end = hole;
-            }
+        match &self.holes {
+            Some(holes) => holes.highest(n),
+            None => self.bounds.gap(n),
         }
-        Some(end - n)
     }
 }

@@ -1,14 +1,14 @@
 use Rattle.std.proofs.Common.{◌+◌, ap, sym, ◌∙◌}
 use Rattle.av_ranges.specs.Ranges.{bound_at, locked_bounds}
 use Rattle.av_ranges.proofs.CountLaws.{locked-inserted, none-is}
-use Rattle.av_ranges.proofs.SaidLaws.{not-at, said-at, said-but-one}
+use Rattle.av_ranges.proofs.MarksLaws.{not-at, marks-at, marks-but-one}
 use Rattle.av_ranges.proofs.bounds.Bounds.cut.Goals as goal
 
 pub returns-clause-same : goal.returns-clause-same
 returns-clause-same c = λ q.
     let u = c.in_ok-insert.ensures.updates in
-    said-but-one (bound_at c.args.self.now) (bound_at c.insert.new.self.entries) c.args.at
-    (said-at (bound_at c.insert.new.self.entries) c.args.at c.run-marks.result.1 u.1 ∙ c.run-marks.ensures.marks)
+    marks-but-one (bound_at c.args.self.now) (bound_at c.insert.new.self.entries) c.args.at
+    (marks-at (bound_at c.insert.new.self.entries) c.args.at c.run-marks.result.1 u.1 ∙ c.run-marks.ensures.marks)
     (λ p other. u.2 p (not-at c.args.at p other) ∙ ap (λ b. bound_at b p) c.self.view_is) q
 
 pub invariant_of-self-2 : goal.invariant_of-self-2

@@ -1,7 +1,7 @@
 use Rattle.std.proofs.Common.{arith, sym, ap, ◌∙◌}
-use Rattle.av_ranges.specs.Marks.{marks_after}
+use Rattle.av_ranges.specs.Marks.{marks_of_rewrite}
 use Rattle.av_ranges.specs.Ranges.{bound_at}
-use Rattle.av_ranges.proofs.SaidLaws.{below-run, next-bound, rewrite-step, tight-step}
+use Rattle.av_ranges.proofs.MarksLaws.{below-run, next-bound, rewrite-step, tight-step}
 use Rattle.av_ranges.proofs.bounds.Bounds.rewrite_between.Goals as goal
 
 pub loop-at-preserved : goal.loop-at-preserved
@@ -23,9 +23,9 @@ loop-at-preserved c =
           (rest next (omega (arith, above))) c.next_up_to-next.ensures.bound c.requires.end;
       below = sym (below-run new at next above (λ q a b. others q (λ e. omega (arith, e, a)) ∙ none q a b)
           ∙ c.say.ensures.at);
-      done = rewrite-step old now new c.args.from at next (marks_after c.args.rewrite) low c.loop-at.invariant.bound rest
+      done = rewrite-step old now new c.args.from at next (marks_of_rewrite c.args.rewrite) low c.loop-at.invariant.bound rest
           c.loop-at.invariant.done none others
-          (c.say.ensures.at ∙ c.of-marks.ensures ∙ ap (marks_after c.args.rewrite) c.run-old.ensures.marks);
+          (c.say.ensures.at ∙ c.of-marks.ensures ∙ ap (marks_of_rewrite c.args.rewrite) c.run-old.ensures.marks);
       before = λ q a. others q (λ e. omega (arith, e, a, low)) ∙ c.loop-at.invariant.before q a;
       tight = tight-step c.loop-at.self c.say.new.self c.args.from at next c.loop-at.invariant.tight c.say.ensures.tight others none;
       rest = λ q a. others q (λ e. omega (arith, e, a, above)) ∙ rest q (omega (arith, a, above));

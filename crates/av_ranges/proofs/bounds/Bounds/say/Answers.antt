@@ -5,13 +5,13 @@ use Rattle.std.specs.Option.{option_copied_mut, unwrap_or}
 use Rattle.std.specs.Ordering.{nat_cmp}
 use Rattle.av_ranges.specs.Ranges.{bound_at, locked_bounds}
 use Rattle.av_ranges.proofs.CountLaws.{count-less, count-set, locked-removed, locked-set, one}
-use Rattle.av_ranges.proofs.SaidLaws.{below-same, not-at, said-at, said-gone}
+use Rattle.av_ranges.proofs.MarksLaws.{below-same, not-at, marks-at, marks-gone}
 use Rattle.av_ranges.proofs.bounds.Bounds.say.Goals as goal
 
 pub returns-then-same-clause-at : goal.returns-then-same-clause-at
 returns-then-same-clause-at c =
     let u = c.remove.ensures.updates in
-    said-gone (bound_at c.args.self.now) (bound_at c.remove.new.self.entries) c.args.at u.1
+    marks-gone (bound_at c.args.self.now) (bound_at c.remove.new.self.entries) c.args.at u.1
     (λ p other. u.2 p (not-at c.args.at p other) ∙ ap (λ b. bound_at b p) c.self.view_is)
     ∙ sym c.requires.below ∙ c.same.ensures.same c.if-same.true
 
@@ -19,7 +19,7 @@ pub returns-in-Some-clause-at : goal.returns-in-Some-clause-at
 returns-in-Some-clause-at c =
     let some = ap is_some (sym c.get_mut.ensures.value ∙ ap (option_copied_mut) c.in-Some.is) in
     let w = c.get_mut.follows.holds c.args.marks in
-    said-at (bound_at (c.get_mut.follows.lender c.args.marks).entries) c.args.at c.args.marks (w.3 some).1
+    marks-at (bound_at (c.get_mut.follows.lender c.args.marks).entries) c.args.at c.args.marks (w.3 some).1
 
 pub returns-in-Some-clause-tight : goal.returns-in-Some-clause-tight
 returns-in-Some-clause-tight c = λ is.
