@@ -23,10 +23,12 @@ member_at members rank = lookup (is_at (nat_cmp rank)) members
 
 -- whether the member at a rank has the name
 abbrev pub has_at : {T : Type 0} → (T → Key) → List (ℕ × T) → Key → ℕ → Bool
-has_at name members key rank = option_map_or (λ x. same_key key (name x)) (member_at members rank) false
+has_at name members key rank =
+    option_map_or (λ x. same_key key (name x)) (member_at members rank) false
 
 -- the ranks rise, and the places are those of the members
 pub record IsLine {T : Type 0} (name : T → Key) (members : List (ℕ × T)) (places : BTreeSet Place)
     : Type 0 where
   pub rising : IsStrictlySortedBy nat_cmp (keys_of members)
-  pub placed : (key : Key) (rank : ℕ) → contains place_cmp places (key, rank) ≡ has_at name members key rank
+  pub placed : (key : Key) (rank : ℕ)
+      → contains place_cmp places (key, rank) ≡ has_at name members key rank
