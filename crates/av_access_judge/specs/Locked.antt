@@ -4,9 +4,9 @@ use Rattle.std.specs.List.{list_any}
 use Rattle.av_base.specs.Keys.{Key}
 use Rattle.av_plain.specs.Ledger.{names_frame}
 use Rattle.av_plain.specs.World.{World, is_locked_page, pages}
-use Rattle.av_book.specs.Book.{entry_of}
-use Rattle.av_book.specs.declared.book.Entry.{Entry}
-use Rattle.av_book.specs.declared.book.Entry.TheVariants.{Zero, InFrame, InSlot}
+use Rattle.av_pages.specs.Entries.{entry_of}
+use Rattle.av_pages.specs.declared.entries.Entry.{Entry}
+use Rattle.av_pages.specs.declared.entries.Entry.TheVariants.{Zero, InFrame, InSlot}
 
 -- whether the page is locked
 abbrev pub is_locked_at : World → Key → Bool

@@ -2,7 +2,7 @@ use Rattle.std.proofs.Common.{filter, ap, ◌∙◌}
 use Rattle.std.specs.BTreeMap.Range.{range_contains}
 use Rattle.std.specs.declared.ops.Bound.TheVariants.{Excluded, Included}
 use Rattle.av_base.specs.Keys.{Key, key_cmp}
-use Rattle.av_book.specs.declared.book.Entry.{Entry}
+use Rattle.av_pages.specs.declared.entries.Entry.{Entry}
 use Rattle.av_access_judge.proofs.LockedLaws.{all-runs, none-below, run-added}
 use Rattle.av_access_judge.proofs.locked.add_locked.Goals as goal
 
