@@ -6,10 +6,11 @@ use Rattle.av_base.specs.Words.{is_in}
 use Rattle.av_plain.specs.Fault.{is_locked}
 use Rattle.av_plain.specs.Ledger.{Entry as PlainEntry, names_frame}
 use Rattle.av_plain.specs.World.{World, is_locked_page, pages}
-use Rattle.av_book.specs.Book.{entries_of, entry_of, ledger_of}
+use Rattle.av_pages.specs.Entries.{entries_of, entry_of}
+use Rattle.av_book.specs.Book.{ledger_of}
 use Rattle.av_book.specs.declared.book.Book.{Book}
-use Rattle.av_book.specs.declared.book.Entry.{Entry}
-use Rattle.av_book.specs.declared.book.Entry.TheVariants.{Zero, InFrame, InSlot}
+use Rattle.av_pages.specs.declared.entries.Entry.{Entry}
+use Rattle.av_pages.specs.declared.entries.Entry.TheVariants.{Zero, InFrame, InSlot}
 use Rattle.av_access_judge.specs.Sparing.{locked_of, with_locked}
 
 frame-in : (f g : ℕ) (frames : List ℕ) (later same locked : Bool) → (f == g) ≡ same → is_in f frames ≡ later

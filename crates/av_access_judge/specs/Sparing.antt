@@ -2,8 +2,8 @@
 use Rattle.std.specs.Prelude.{ℕ, Bool, List, [], ◌∷◌, if◌then◌else◌}
 use Rattle.av_base.specs.Keys.{Key}
 use Rattle.av_plain.specs.World.{World, is_locked_page, pages}
-use Rattle.av_book.specs.declared.book.Entry.{Entry}
-use Rattle.av_book.specs.declared.book.Entry.TheVariants.{Zero, InFrame, InSlot}
+use Rattle.av_pages.specs.declared.entries.Entry.{Entry}
+use Rattle.av_pages.specs.declared.entries.Entry.TheVariants.{Zero, InFrame, InSlot}
 
 -- the frame of an entry, if its page is locked, in front of others
 abbrev pub with_locked : Bool → Entry → List ℕ → List ℕ

@@ -1,12 +1,5 @@
-pub mod AreaHolders
 pub mod AreaLaws
-pub mod BookLaws
-pub mod ChangeLaws
-pub mod IndexLaws
-pub mod KeyLaws
 pub mod MapLaws
-pub mod PairLaws
-pub mod PrefixLaws
 pub mod RangeLaws
 pub mod RemovalLaws
 pub mod UseLaws

@@ -8,8 +8,8 @@ use Rattle.std.proofs.lemmas.Bool.Decides.{nat_tests}
 use Rattle.std.proofs.lemmas.Map.{NonePasses, none_passes_from_lookup}
 use Rattle.av_base.specs.Keys.{Key, key_cmp}
 use Rattle.av_plain.specs.Ledger.{Entry as PlainEntry}
-use Rattle.av_book.specs.Entries.{entries_of, entry_of}
-use Rattle.av_book.specs.declared.book.Entry.{Entry}
+use Rattle.av_pages.specs.Entries.{entries_of, entry_of}
+use Rattle.av_pages.specs.declared.entries.Entry.{Entry}
 use Rattle.av_book.proofs.MapLaws.{where-says}
 
 module _ {K X : Type 0} (test : K → Bool) where

@@ -8,7 +8,7 @@ use Rattle.av_base.specs.Words.{how_many}
 use Rattle.av_base.specs.declared.slot.Slot.{Slot}
 use Rattle.av_plain.specs.Ledger.{Cached, Ledger, cached_by, is_free, map_count, same_slot, slot_count, slot_entries}
 use Rattle.av_book.specs.Filters.{IsFirst}
-use Rattle.av_book.proofs.RangeLaws.{any-count}
+use Rattle.av_pages.proofs.CountLaws.{any-count}
 
 none-cached : {B : Type 0} (g : Cached → B) (p : Cached → Bool) (cs : List Cached) → (how_many p cs == 0) ≡ is_none (option_map g (cached_by p cs))
 none-cached g p [] = refl

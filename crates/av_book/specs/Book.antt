@@ -7,8 +7,7 @@ use Rattle.av_plain.specs.Ledger.{Ledger, SwapArea}
 use Rattle.av_plain.specs.Swapon.{priority_of}
 use Rattle.av_book.specs.declared.book.Area.{Area}
 use Rattle.av_book.specs.declared.book.Book.{Book}
-pub use Rattle.av_book.specs.Entries.{cached_of, cached_with_frame_at, entries_of, entry_of}
-pub use Rattle.av_book.specs.Entries.{stale_at, with_frame_at, with_slot, without_seen_of}
+use Rattle.av_pages.specs.Entries.{cached_of, entries_of}
 
 abbrev pub area_of : Area → SwapArea
 area_of a = record { slots = a.slots; bad = a.bad; priority = priority_of a.priority }

@@ -1,11 +1,7 @@
 pub mod Book
-pub mod Entries
 pub mod Filters
 pub mod Follow
-pub mod Index
 pub mod Machine
 pub mod Need
-pub mod Pages
 pub mod Shortage
-pub mod SlotHolders
 pub mod Spared

@@ -4,26 +4,10 @@ ghost use Rattle.std.specs.Prelude.{◌≡◌};
 ghost use Rattle.av_plain.specs.Ledger.{first_ledger};
 ghost use Rattle.av_book.specs.Book.{ledger_of};
 
-use crate::pages::Pages;
 use av_base::Slot;
+use av_pages::Pages;
 use std::alloc::Global;
 use std::collections::BTreeMap;
-
-/// What a page's entry is.
-#[derive(Clone, Copy, Drop)]
-pub enum Entry {
-    Zero,
-    InFrame { frame: u32, seen: bool },
-    InSlot(Slot),
-}
-
-/// A slot, the frame that caches it, and whether the page changed since its last write began.
-#[derive(Clone, Copy, Drop)]
-pub struct Cached {
-    pub slot: Slot,
-    pub frame: u32,
-    pub stale: bool,
-}
 
 /// A swap area that is on: its usable slots and bad pages, and the priority that was asked for.
 #[derive(Clone, Copy, Drop)]

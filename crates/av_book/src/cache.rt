@@ -5,11 +5,12 @@ ghost use Rattle.av_plain.specs.Event.{into_cache, off_cache, off_flight, settle
 ghost use Rattle.av_plain.specs.Event.{with_stale as with_stale_of};
 ghost use Rattle.av_plain.specs.Ledger.{frame_at, in_flight, is_cached, is_free, is_orphan};
 ghost use Rattle.av_plain.specs.Ledger.{is_stale, slot_of};
-ghost use Rattle.av_book.specs.Book.{cached_of, ledger_of, stale_at};
+ghost use Rattle.av_pages.specs.Entries.{cached_of, stale_at};
+ghost use Rattle.av_book.specs.Book.{ledger_of};
 
-use crate::book::{Book, Cached};
-use crate::changes::PairChange;
+use crate::book::Book;
 use av_base::Slot;
+use av_pages::{Cached, PairChange};
 use std::alloc::{AllocError, Global};
 
 impl Book {

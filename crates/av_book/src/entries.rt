@@ -6,11 +6,12 @@ ghost use Rattle.av_plain.specs.Event.{change_entries, set_entry, without_seen};
 ghost use Rattle.av_plain.specs.Ledger.{InSlot as NamesSlot, entry, map_count, slot_entries};
 ghost use Rattle.av_plain.specs.Ledger.{keys_of_slot, walk};
 ghost use Rattle.av_plain.specs.Reclaim.{is_referenced};
-ghost use Rattle.av_book.specs.Book.{entry_of, ledger_of, without_entry};
+ghost use Rattle.av_pages.specs.Entries.{entry_of};
+ghost use Rattle.av_book.specs.Book.{ledger_of, without_entry};
 
-use crate::book::{Book, Entry};
-use crate::changes::Change;
+use crate::book::Book;
 use av_base::Slot;
+use av_pages::{Change, Entry};
 use std::alloc::{AllocError, Global};
 use std::collections::BTreeMap;
 

@@ -5,11 +5,13 @@ ghost use Rattle.av_plain.specs.Event.{after_note, change_frame, set_entry, sett
 ghost use Rattle.av_plain.specs.Event.{to_inactive_head};
 ghost use Rattle.av_plain.specs.Ledger.{InFrame as NamesFrame};
 ghost use Rattle.av_trace.specs.declared.note.Note.TheVariants as notes;
-ghost use Rattle.av_book.specs.Book.{entry_of, ledger_of};
+ghost use Rattle.av_pages.specs.Entries.{entry_of};
+ghost use Rattle.av_book.specs.Book.{ledger_of};
 ghost use Rattle.av_book.specs.Follow.{tells_page};
 
-use crate::book::{Book, Entry};
+use crate::book::Book;
 use av_base::Slot;
+use av_pages::Entry;
 use av_trace::{Cause, Note};
 use std::alloc::AllocError;
 

@@ -3,10 +3,11 @@
 ghost use Rattle.std.specs.Prelude.{◌≡◌, IfOk, OnOk, map};
 ghost use Rattle.av_base.specs.Words.{renamed};
 ghost use Rattle.av_plain.specs.Event.{with_places};
-ghost use Rattle.av_book.specs.Book.{cached_of, cached_with_frame_at, ledger_of, with_frame_at};
+ghost use Rattle.av_pages.specs.Entries.{cached_of, cached_with_frame_at, with_frame_at};
+ghost use Rattle.av_book.specs.Book.{ledger_of};
 
 use crate::book::Book;
-use crate::changes::{Change, PairChange, place_of};
+use av_pages::{Change, PairChange, place_of};
 use std::alloc::{AllocError, Global};
 
 /// Frames, at the other place.

@@ -6,8 +6,9 @@ ghost use Rattle.av_plain.specs.Ledger.{entry};
 ghost use Rattle.av_book.specs.Book.{ledger_of};
 ghost use Rattle.av_book.specs.Need.{need_of};
 
-use crate::book::{Book, Entry};
+use crate::book::Book;
 use av_base::Slot;
+use av_pages::Entry;
 
 /// What a page needs.
 #[derive(Clone, Copy, Drop)]

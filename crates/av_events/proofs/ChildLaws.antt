@@ -9,8 +9,8 @@ use Rattle.av_plain.specs.Fork.{goes_over, inheritance}
 use Rattle.av_plain.specs.Ledger.{Entry, Ledger}
 use Rattle.av_plain.specs.World.{Process}
 use Rattle.av_events.proofs.FilterLaws.{keys-where}
-use Rattle.av_book.specs.Book.{entries_of, entry_of}
-use Rattle.av_book.specs.declared.book.Entry.{Entry as BookEntry}
+use Rattle.av_pages.specs.Entries.{entries_of, entry_of}
+use Rattle.av_pages.specs.declared.entries.Entry.{Entry as BookEntry}
 use Rattle.av_events.specs.Child.{child_entries, pages_that}
 
 no : false ≡ true → ⊥

@@ -7,9 +7,9 @@ use Rattle.av_base.specs.Keys.{Key}
 use Rattle.av_base.specs.Words.{within}
 use Rattle.av_plain.specs.Event.{entries_where}
 use Rattle.av_plain.specs.Ledger.{Entry as PlainEntry, Ledger}
-use Rattle.av_book.specs.Book.{entries_of, entry_of}
-use Rattle.av_book.specs.declared.book.Entry.{Entry}
-use Rattle.av_book.proofs.BookLaws.{keys-are}
+use Rattle.av_pages.specs.Entries.{entries_of, entry_of}
+use Rattle.av_pages.specs.declared.entries.Entry.{Entry}
+use Rattle.av_pages.proofs.EntryLaws.{keys-are}
 use Rattle.av_events.specs.Remap.{is_among, without_keys}
 use Rattle.av_events.proofs.FilterLaws.{filter-both}
 

@@ -4,7 +4,8 @@ ghost use Rattle.std.specs.Prelude.{◌≡◌, ℕ, Bool, IfOk, OnOk, option_map
 ghost use Rattle.av_plain.specs.Event.{after_fork, without_seen};
 ghost use Rattle.av_plain.specs.Fork.{inheritance};
 ghost use Rattle.av_plain.specs.World.{Process};
-ghost use Rattle.av_book.specs.Book.{entries_of as entries_say, entry_of, ledger_of};
+ghost use Rattle.av_pages.specs.Entries.{entries_of as entries_say, entry_of};
+ghost use Rattle.av_book.specs.Book.{ledger_of};
 ghost use Rattle.av_events.specs.Child.{IsBehind, child_entries, pages_that};
 
 use crate::keys::{Keyed, entries_of};

@@ -4,7 +4,8 @@ ghost use Rattle.std.specs.Prelude.{◌≡◌, ◌+◌, ◌<◌, ◌^◌, ◌==�
 ghost use Rattle.av_base.specs.Words.{within};
 ghost use Rattle.av_plain.specs.Event.{entries_where};
 ghost use Rattle.av_plain.specs.Zap.{keys_in as keys_in_of, keys_of_process};
-ghost use Rattle.av_book.specs.Book.{entries_of as entries_say, ledger_of};
+ghost use Rattle.av_pages.specs.Entries.{entries_of as entries_say};
+ghost use Rattle.av_book.specs.Book.{ledger_of};
 
 use av_book::{Book, Entry};
 use std::alloc::{AllocError, Global};

@@ -2,7 +2,8 @@
 
 ghost use Rattle.std.specs.Prelude.{◌≡◌, OnOk};
 ghost use Rattle.av_plain.specs.Event.{put_all as put_all_of};
-ghost use Rattle.av_book.specs.Book.{entries_of, ledger_of};
+ghost use Rattle.av_pages.specs.Entries.{entries_of};
+ghost use Rattle.av_book.specs.Book.{ledger_of};
 
 use crate::keys::Keyed;
 use av_book::Book;

@@ -5,7 +5,8 @@ ghost use Rattle.av_plain.specs.Event.{after_all, after_zap, notes_of};
 ghost use Rattle.av_plain.specs.Ledger.{entry as entry_in};
 ghost use Rattle.av_plain.specs.Zap.{keys_in as keys_in_of, keys_of_process, orphan_drop};
 ghost use Rattle.av_plain.specs.Zap.{slot_behind_key, zap_of, zaps_of};
-ghost use Rattle.av_book.specs.Book.{entry_of, ledger_of};
+ghost use Rattle.av_pages.specs.Entries.{entry_of};
+ghost use Rattle.av_book.specs.Book.{ledger_of};
 
 use crate::keys::{keys_in, keys_of};
 use av_base::Slot;

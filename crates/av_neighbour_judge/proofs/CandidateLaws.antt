@@ -16,8 +16,8 @@ use Rattle.av_plain.specs.Ledger.{Entry as PlainEntry, names_frame}
 use Rattle.av_plain.specs.Merge.{FrameBytes, hold_same, may_merge, other_like}
 use Rattle.av_plain.specs.Mremap.{marks_at}
 use Rattle.av_plain.specs.World.{Page, Process, World, is_locked_page, pages, process}
-use Rattle.av_book.specs.Book.{entries_of, entry_of}
-use Rattle.av_book.specs.declared.book.Entry.{Entry}
+use Rattle.av_pages.specs.Entries.{entries_of, entry_of}
+use Rattle.av_pages.specs.declared.entries.Entry.{Entry}
 use Rattle.av_world.specs.Memories.{IsProcess, IsWorld}
 use Rattle.av_world.specs.declared.memories.Memories.{Memories}
 use Rattle.av_world.specs.declared.space.Space.{Space}

@@ -9,7 +9,8 @@ ghost use Rattle.av_plain.specs.Ledger.{InFrame, InSlot, Setting};
 ghost use Rattle.av_plain.specs.Refusal.{refusal, tests};
 ghost use Rattle.av_plain.specs.Report.{entry_answer};
 ghost use Rattle.av_plain.specs.World.{World};
-ghost use Rattle.av_book.specs.Book.{entry_of, ledger_of};
+ghost use Rattle.av_pages.specs.Entries.{entry_of};
+ghost use Rattle.av_book.specs.Book.{ledger_of};
 ghost use Rattle.av_judge.specs.Verdict.{IsVerdict};
 
 use av_base::Slot;

@@ -3,7 +3,8 @@ use Rattle.std.specs.BTreeMap.{is_at}
 use Rattle.std.specs.Ordering.{nat_cmp}
 use Rattle.std.proofs.lemmas.Bool.Decides.{nat_tests}
 use Rattle.av_plain.specs.Ledger.{SwapArea}
-use Rattle.av_book.specs.Book.{area_of, areas_of, cached_of, entries_of}
+use Rattle.av_pages.specs.Entries.{cached_of, entries_of}
+use Rattle.av_book.specs.Book.{area_of, areas_of}
 use Rattle.av_book.proofs.MapLaws.{where-says}
 use Rattle.av_book.proofs.RemovalLaws.{filter-same, removed-one}
 use Rattle.av_events.proofs.areas.turn_off.Goals as goal

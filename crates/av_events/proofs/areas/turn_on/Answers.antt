@@ -1,7 +1,8 @@
 use Rattle.std.proofs.Common.{ap, map, ◌∙◌}
 use Rattle.std.proofs.lemmas.Result.{MatchResult-from_err}
 use Rattle.std.specs.Ordering.{nat_cmp}
-use Rattle.av_book.specs.Book.{area_of, areas_of, cached_of, entries_of}
+use Rattle.av_pages.specs.Entries.{cached_of, entries_of}
+use Rattle.av_book.specs.Book.{area_of, areas_of}
 use Rattle.av_book.proofs.MapLaws.{put-says}
 use Rattle.av_events.proofs.areas.turn_on.Goals as goal
 

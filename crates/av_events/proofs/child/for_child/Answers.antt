@@ -1,8 +1,8 @@
 use Rattle.std.proofs.Common.{◌++◌, ◌-◌, List, length, take, drop, get_or, ap, sym, ◌∙◌}
 use Rattle.av_base.specs.Keys.{Key}
-use Rattle.av_book.specs.Book.{entries_of, entry_of}
-use Rattle.av_book.specs.declared.book.Entry.{Entry}
-use Rattle.av_book.specs.declared.book.Entry.TheVariants.{Zero}
+use Rattle.av_pages.specs.Entries.{entries_of, entry_of}
+use Rattle.av_pages.specs.declared.entries.Entry.{Entry}
+use Rattle.av_pages.specs.declared.entries.Entry.TheVariants.{Zero}
 use Rattle.av_events.specs.Child.{child_entries, pages_that}
 use Rattle.av_events.proofs.ChildLaws.{copy-added, goes-over, stays-behind}
 use Rattle.av_events.proofs.FilterLaws.{slice-cons}

@@ -1,5 +1,5 @@
 use Rattle.std.proofs.Common.{◌≡◌, ◌++◌, ℕ, Bool, length}
-use Rattle.av_book.specs.Book.{entries_of}
+use Rattle.av_pages.specs.Entries.{entries_of}
 use Rattle.av_events.specs.Child.{child_entries, pages_that}
 use Rattle.av_events.proofs.child.for_child.Given as goal
 

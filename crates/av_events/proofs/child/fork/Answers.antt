@@ -2,7 +2,8 @@ use Rattle.std.proofs.Common.{ap, sym, ◌∙◌}
 use Rattle.std.proofs.lemmas.Result.{on_ok_weaker}
 use Rattle.av_plain.specs.Event.{put_all}
 use Rattle.av_plain.specs.Fork.{goes_over}
-use Rattle.av_book.specs.Book.{entries_of, ledger_of}
+use Rattle.av_pages.specs.Entries.{entries_of}
+use Rattle.av_book.specs.Book.{ledger_of}
 use Rattle.av_events.specs.Child.{child_entries, pages_that}
 use Rattle.av_events.proofs.ChildLaws.{child-gets}
 use Rattle.av_events.proofs.child.fork.Goals as goal

@@ -4,8 +4,8 @@ use Rattle.std.specs.FinMap.Entries.{where_key}
 use Rattle.std.proofs.lemmas.Result.{IfOk-weaker}
 use Rattle.av_base.specs.Keys.{Key, key_cmp}
 use Rattle.av_base.specs.Words.{within}
-use Rattle.av_book.specs.Book.{entries_of, entry_of}
-use Rattle.av_book.specs.declared.book.Entry.{Entry}
+use Rattle.av_pages.specs.Entries.{entries_of, entry_of}
+use Rattle.av_pages.specs.declared.entries.Entry.{Entry}
 use Rattle.av_book.proofs.MapLaws.{where-says}
 use Rattle.av_events.proofs.KeyLaws.{of-pages}
 use Rattle.av_events.proofs.keys.entries_in.Goals as goal

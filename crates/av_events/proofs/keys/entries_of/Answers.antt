@@ -4,8 +4,8 @@ use Rattle.std.specs.BTreeMap.Range.{range_contains}
 use Rattle.std.specs.declared.ops.Bound.TheVariants.{Excluded, Included}
 use Rattle.std.proofs.lemmas.Result.{IfOk-weaker}
 use Rattle.av_base.specs.Keys.{Key, key_cmp}
-use Rattle.av_book.specs.Book.{entries_of, entry_of}
-use Rattle.av_book.specs.declared.book.Entry.{Entry}
+use Rattle.av_pages.specs.Entries.{entries_of, entry_of}
+use Rattle.av_pages.specs.declared.entries.Entry.{Entry}
 use Rattle.av_book.proofs.MapLaws.{where-says}
 use Rattle.av_events.proofs.KeyLaws.{of-last, of-process}
 use Rattle.av_events.proofs.keys.entries_of.Goals as goal

@@ -5,8 +5,8 @@ use Rattle.av_base.specs.Keys.{Key}
 use Rattle.av_base.specs.Words.{within}
 use Rattle.av_plain.specs.Ledger.{Entry as PlainEntry}
 use Rattle.av_book.specs.Book.{ledger_of}
-use Rattle.av_book.specs.declared.book.Entry.{Entry}
-use Rattle.av_book.proofs.BookLaws.{keys-are}
+use Rattle.av_pages.specs.declared.entries.Entry.{Entry}
+use Rattle.av_pages.proofs.EntryLaws.{keys-are}
 use Rattle.av_events.proofs.FilterLaws.{keys-where}
 use Rattle.av_events.proofs.KeyLaws.{pages-of}
 use Rattle.av_events.proofs.keys.keys_in.Goals as goal

@@ -1,6 +1,7 @@
 use Rattle.std.proofs.Common.{◌≡◌, length}
 use Rattle.av_plain.specs.Event.{put_all}
-use Rattle.av_book.specs.Book.{entries_of, ledger_of}
+use Rattle.av_pages.specs.Entries.{entries_of}
+use Rattle.av_book.specs.Book.{ledger_of}
 use Rattle.av_events.proofs.puts.put_all.Given as goal
 
 abbrev pub invariant-loop-rest : goal.invariant-loop-rest

@@ -1,8 +1,8 @@
 use Rattle.std.proofs.Common.{List, map, ap, ◌∙◌, get_or}
 use Rattle.av_base.specs.Keys.{Key}
 use Rattle.av_book.specs.Book.{ledger_of}
-use Rattle.av_book.specs.declared.book.Entry.{Entry}
-use Rattle.av_book.specs.declared.book.Entry.TheVariants.{Zero}
+use Rattle.av_pages.specs.declared.entries.Entry.{Entry}
+use Rattle.av_pages.specs.declared.entries.Entry.TheVariants.{Zero}
 use Rattle.av_events.specs.Remap.{without_keys}
 use Rattle.av_events.proofs.FilterLaws.{slice-cons}
 use Rattle.av_events.proofs.RemapLaws.{without-all, without-then}

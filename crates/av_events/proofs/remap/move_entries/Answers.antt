@@ -5,8 +5,9 @@ use Rattle.std.proofs.lemmas.Result.{on_ok_weaker}
 use Rattle.av_base.specs.Keys.{Key}
 use Rattle.av_plain.specs.Event.{put_all}
 use Rattle.av_plain.specs.Ledger.{Entry as PlainEntry}
-use Rattle.av_book.specs.Book.{entries_of, ledger_of}
-use Rattle.av_book.specs.declared.book.Entry.{Entry}
+use Rattle.av_pages.specs.Entries.{entries_of}
+use Rattle.av_book.specs.Book.{ledger_of}
+use Rattle.av_pages.specs.declared.entries.Entry.{Entry}
 use Rattle.av_events.specs.Remap.{without_keys}
 use Rattle.av_events.proofs.RemapLaws.{all-fit, fit-raw, places-say, range-gone}
 use Rattle.av_events.proofs.remap.move_entries.Goals as goal

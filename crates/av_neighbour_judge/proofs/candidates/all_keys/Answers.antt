@@ -1,7 +1,7 @@
 use Rattle.std.proofs.Common.{◌++◌, ap, append-nil, sym, ◌∙◌}
 use Rattle.std.proofs.lemmas.Map.Iter.{rest_all}
 use Rattle.std.specs.Map.Iter.{deref}
-use Rattle.av_book.proofs.BookLaws.{keys-are}
+use Rattle.av_pages.proofs.EntryLaws.{keys-are}
 use Rattle.av_neighbour_judge.proofs.candidates.all_keys.Goals as goal
 
 pub returns : goal.returns

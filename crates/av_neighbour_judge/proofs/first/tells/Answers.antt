@@ -2,7 +2,8 @@ use Rattle.std.proofs.Common.{Some, ap, sym, ◌∙◌}
 use Rattle.std.specs.Prelude.{option_map}
 use Rattle.std.proofs.lemmas.Result.{IfOk-weaker}
 use Rattle.av_plain.specs.World.{pages}
-use Rattle.av_book.specs.Book.{entry_of, ledger_of}
+use Rattle.av_pages.specs.Entries.{entry_of}
+use Rattle.av_book.specs.Book.{ledger_of}
 use Rattle.av_neighbour_judge.proofs.FirstLaws.{marked-there, told-frame}
 use Rattle.av_neighbour_judge.proofs.first.tells.Goals as goal
 

@@ -3,7 +3,7 @@ use Rattle.std.specs.Prelude.{option_map}
 use Rattle.std.specs.BTreeMap.{is_at}
 use Rattle.std.specs.Map.{lookup}
 use Rattle.av_base.specs.Keys.{Key, key_cmp}
-use Rattle.av_book.specs.Book.{entry_of}
+use Rattle.av_pages.specs.Entries.{entry_of}
 use Rattle.av_book.proofs.MapLaws.{find-says}
 use Rattle.av_book.proofs.book.Book.entry.Goals as goal
 

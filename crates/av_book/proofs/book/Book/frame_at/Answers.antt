@@ -1,6 +1,6 @@
 use Rattle.std.proofs.Common.{map, sym, ◌∙◌}
 use Rattle.av_plain.specs.Ledger.{Cached as PlainCached, same_slot}
-use Rattle.av_book.specs.Book.{cached_of}
+use Rattle.av_pages.specs.Entries.{cached_of}
 use Rattle.av_book.proofs.UseLaws.{no-pair}
 use Rattle.av_book.proofs.book.Book.frame_at.Goals as goal
 

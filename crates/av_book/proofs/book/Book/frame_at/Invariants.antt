@@ -1,6 +1,6 @@
 use Rattle.std.proofs.Common.{◌≡◌, map, length}
 use Rattle.av_plain.specs.Ledger.{Cached as PlainCached, cached_by, same_slot}
-use Rattle.av_book.specs.Book.{cached_of}
+use Rattle.av_pages.specs.Entries.{cached_of}
 use Rattle.av_book.proofs.book.Book.frame_at.Given as goal
 
 abbrev pub invariant-loop-rest : goal.invariant-loop-rest

@@ -1,6 +1,7 @@
 use Rattle.std.proofs.Common.{map}
 use Rattle.std.proofs.lemmas.Result.{on_ok_weaker}
-use Rattle.av_book.specs.Book.{areas_of, cached_of, entries_of}
+use Rattle.av_pages.specs.Entries.{cached_of, entries_of}
+use Rattle.av_book.specs.Book.{areas_of}
 use Rattle.av_book.proofs.book.Book.into_cache.Goals as goal
 
 pub returns : goal.returns

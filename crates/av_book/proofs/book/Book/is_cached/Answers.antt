@@ -1,8 +1,8 @@
 use Rattle.std.proofs.Common.{ap, map, ◌∙◌}
 use Rattle.std.specs.Prelude.{nat_lt}
 use Rattle.av_plain.specs.Ledger.{Cached as PlainCached, same_slot}
-use Rattle.av_book.specs.Book.{cached_of}
-use Rattle.av_book.proofs.RangeLaws.{any-count}
+use Rattle.av_pages.specs.Entries.{cached_of}
+use Rattle.av_pages.proofs.CountLaws.{any-count}
 use Rattle.av_book.proofs.book.Book.is_cached.Goals as goal
 
 pub returns : goal.returns

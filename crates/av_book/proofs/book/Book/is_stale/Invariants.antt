@@ -2,7 +2,7 @@ use Rattle.std.proofs.Common.{◌≡◌, map, length}
 use Rattle.std.specs.Prelude.{◌&&◌}
 use Rattle.std.specs.List.{list_any}
 use Rattle.av_plain.specs.Ledger.{Cached as PlainCached, same_slot}
-use Rattle.av_book.specs.Book.{cached_of}
+use Rattle.av_pages.specs.Entries.{cached_of}
 use Rattle.av_book.proofs.book.Book.is_stale.Given as goal
 
 abbrev pub invariant-loop-rest : goal.invariant-loop-rest

@@ -1,7 +1,7 @@
 use Rattle.std.proofs.Common.{◌∙◌}
 use Rattle.std.proofs.lemmas.Result.{IfOk-weaker}
 use Rattle.av_plain.specs.Ledger.{names_slot}
-use Rattle.av_book.proofs.BookLaws.{passing-keys}
+use Rattle.av_pages.proofs.EntryLaws.{passing-keys}
 use Rattle.av_book.proofs.book.Book.keys_of_slot.Goals as goal
 
 pub returns : goal.returns

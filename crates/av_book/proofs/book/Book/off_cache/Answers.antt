@@ -1,8 +1,9 @@
 use Rattle.std.proofs.Common.{ap, map, not, refl, ◌∙◌}
 use Rattle.av_plain.specs.Ledger.{Cached as PlainCached, same_slot}
-use Rattle.av_book.specs.Book.{areas_of, cached_of, entries_of}
-use Rattle.av_book.specs.declared.book.Cached.{Cached}
-use Rattle.av_book.proofs.BookLaws.{filter-cached}
+use Rattle.av_pages.specs.Entries.{cached_of, entries_of}
+use Rattle.av_book.specs.Book.{areas_of}
+use Rattle.av_pages.specs.declared.entries.Cached.{Cached}
+use Rattle.av_pages.proofs.EntryLaws.{filter-cached}
 use Rattle.av_book.proofs.book.Book.off_cache.Goals as goal
 
 pub returns : goal.returns

@@ -1,7 +1,8 @@
 use Rattle.std.proofs.Common.{map, not, rules}
 use Rattle.std.proofs.lemmas.Fn.{filter_same}
 use Rattle.av_plain.specs.Ledger.{same_slot}
-use Rattle.av_book.specs.Book.{areas_of, cached_of, entries_of}
+use Rattle.av_pages.specs.Entries.{cached_of, entries_of}
+use Rattle.av_book.specs.Book.{areas_of}
 use Rattle.av_book.proofs.book.Book.off_flight.Goals as goal
 
 pub returns : goal.returns

@@ -1,7 +1,8 @@
 use Rattle.std.proofs.Common.{ap, map, ◌∙◌}
 use Rattle.std.specs.Prelude.{option_map}
 use Rattle.av_base.specs.Keys.{Key, key_cmp}
-use Rattle.av_book.specs.Book.{areas_of, cached_of, entry_of}
+use Rattle.av_pages.specs.Entries.{cached_of, entry_of}
+use Rattle.av_book.specs.Book.{areas_of}
 use Rattle.av_book.proofs.MapLaws.{find-says}
 use Rattle.av_book.proofs.RemovalLaws.{removed-key}
 use Rattle.av_book.proofs.book.Book.remove.Goals as goal

@@ -1,7 +1,8 @@
 use Rattle.std.proofs.Common.{ap, map, ◌∙◌}
 use Rattle.std.proofs.lemmas.Result.{on_ok_weaker}
 use Rattle.av_base.specs.Keys.{Key, key_cmp}
-use Rattle.av_book.specs.Book.{areas_of, cached_of, entries_of, entry_of}
+use Rattle.av_pages.specs.Entries.{cached_of, entries_of, entry_of}
+use Rattle.av_book.specs.Book.{areas_of}
 use Rattle.av_book.proofs.MapLaws.{put-says}
 use Rattle.av_book.proofs.book.Book.set.Goals as goal
 

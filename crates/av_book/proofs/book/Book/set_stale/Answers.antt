@@ -1,9 +1,10 @@
 use Rattle.std.proofs.Common.{ap, map, ◌∙◌}
 use Rattle.std.proofs.lemmas.Result.{on_ok_weaker}
-use Rattle.av_book.specs.Book.{areas_of, cached_of, entries_of, stale_at}
-use Rattle.av_book.specs.Entries.{changed_pair}
-use Rattle.av_book.specs.declared.changes.PairChange.TheVariants.{Stale}
-use Rattle.av_book.proofs.BookLaws.{change-pairs, stale-is}
+use Rattle.av_pages.specs.Entries.{cached_of, entries_of, stale_at}
+use Rattle.av_book.specs.Book.{areas_of}
+use Rattle.av_pages.specs.Entries.{changed_pair}
+use Rattle.av_pages.specs.declared.changes.PairChange.TheVariants.{Stale}
+use Rattle.av_pages.proofs.EntryLaws.{change-pairs, stale-is}
 use Rattle.av_book.proofs.book.Book.set_stale.Goals as goal
 
 pub returns : goal.returns

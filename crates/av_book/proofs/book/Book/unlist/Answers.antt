@@ -1,6 +1,7 @@
 use Rattle.std.proofs.Common.{map, not, rules, ◌==◌}
 use Rattle.std.proofs.lemmas.Fn.{filter_same}
-use Rattle.av_book.specs.Book.{areas_of, cached_of, entries_of}
+use Rattle.av_pages.specs.Entries.{cached_of, entries_of}
+use Rattle.av_book.specs.Book.{areas_of}
 use Rattle.av_book.proofs.book.Book.unlist.Goals as goal
 
 pub returns : goal.returns

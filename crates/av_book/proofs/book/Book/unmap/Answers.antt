@@ -1,8 +1,9 @@
 use Rattle.std.proofs.Common.{ap, cond, map, ◌∙◌}
 use Rattle.std.proofs.lemmas.Result.{on_ok_weaker}
 use Rattle.av_plain.specs.Ledger.{InSlot as PlainInSlot, names_frame}
-use Rattle.av_book.specs.Book.{areas_of, cached_of, entries_of, with_slot}
-use Rattle.av_book.proofs.BookLaws.{change-entries, slot-is}
+use Rattle.av_pages.specs.Entries.{cached_of, entries_of, with_slot}
+use Rattle.av_book.specs.Book.{areas_of}
+use Rattle.av_pages.proofs.EntryLaws.{change-entries, slot-is}
 use Rattle.av_book.proofs.book.Book.unmap.Goals as goal
 
 pub returns : goal.returns

@@ -2,8 +2,9 @@ use Rattle.std.proofs.Common.{ap, cond, map, ◌∙◌}
 use Rattle.std.proofs.lemmas.Result.{on_ok_weaker}
 use Rattle.av_plain.specs.Event.{without_seen}
 use Rattle.av_plain.specs.Ledger.{names_frame}
-use Rattle.av_book.specs.Book.{areas_of, cached_of, entries_of, without_seen_of}
-use Rattle.av_book.proofs.BookLaws.{change-entries, unseen-is}
+use Rattle.av_pages.specs.Entries.{cached_of, entries_of, without_seen_of}
+use Rattle.av_book.specs.Book.{areas_of}
+use Rattle.av_pages.proofs.EntryLaws.{change-entries, unseen-is}
 use Rattle.av_book.proofs.book.Book.unsee.Goals as goal
 
 pub returns : goal.returns

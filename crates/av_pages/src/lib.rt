@@ -1,0 +1,24 @@
+//! What a ledger keeps of pages: the entry of each, and the cached pairs. It knows no lists, no
+//! swap areas and no notes.
+//!
+//! For each frame and each slot the keys of its entries are kept beside these, and how many cached
+//! pairs have it, by an invariant that says that they are right: how often a frame or a slot is
+//! named or used, which is the least that is used, and whether an entry of a frame is seen, is a
+//! look-up.
+//!
+//! Proved: what each change of an entry, of the entries of a frame, and of cached pairs leaves of
+//! them (`Pages`), and each of these answers, in the words of the ledger's definitions. Where
+//! memory runs out, a page may have lost its entry, and a part of a change may be done.
+//!
+//! Only tested: nothing.
+#![tactic(auto)]
+
+mod changes;
+mod entries;
+mod index;
+mod pages;
+mod slot_holders;
+
+pub use changes::{Change, PairChange, place_of};
+pub use entries::{Cached, Entry};
+pub use pages::Pages;

@@ -1,0 +1,316 @@
+//! The entries of pages and the cached pairs, with what is kept beside them.
+
+ghost use Rattle.std.specs.Prelude.{◌≡◌, ◌+◌, ◌-◌, ◌^◌, ◌<◌, ◌==◌, [], ◌∷◌};
+ghost use Rattle.std.specs.Prelude.{IfOk, OnOk, None, Some, if◌then◌else◌, filter, length};
+ghost use Rattle.std.specs.Prelude.{map, nat_lt, not, option_map, set, slice_get};
+ghost use Rattle.std.specs.BTreeMap.{insert_entry, is_at};
+ghost use Rattle.std.specs.List.{list_any, range_with_len};
+ghost use Rattle.std.specs.List.Sorted.{IsStrictlySortedBy};
+ghost use Rattle.std.specs.Map.{keys_of, lookup, remove_entry};
+ghost use Rattle.av_base.specs.Keys.{Key, key_cmp, same_key};
+ghost use Rattle.av_base.specs.Words.{how_many};
+ghost use Rattle.av_plain.specs.Ledger.{names_frame, names_slot, same_slot};
+ghost use Rattle.av_plain.specs.Reclaim.{names_seen};
+ghost use Rattle.av_pages.specs.Entries.{cached_of, changed_at, changed_pair, entries_of, entry_of};
+ghost use Rattle.av_pages.specs.Entries.{without_seen_of};
+ghost use Rattle.av_pages.specs.Index.{CountsPairs, KeepsKeys};
+ghost use Rattle.av_pages.specs.Pages.{used_pages};
+
+use crate::changes::{Change, PairChange};
+use crate::entries::{Cached, Entry};
+use crate::index::Index;
+use av_base::Slot;
+use std::alloc::{AllocError, Global};
+use std::collections::BTreeMap;
+use std::marker::Model;
+
+/// Entries by process and page, cached pairs, and what each frame and slot has of them.
+#[derive(Drop)]
+pub struct Pages {
+    entries: BTreeMap<(u16, u64), Entry>,
+    cache: Vec<Cached>,
+    index: Index,
+}
+
+impl Model for Pages {
+    ghost use Rattle.av_pages.specs.Pages.{Content};
+
+    ghost Value = { Content };
+
+    ghost use Rattle.av_pages.specs.Pages.{IsIndexed};
+
+    ghost view = { λ a. record { entries = a.entries.entries; cache = a.cache.items } };
+
+    ghost invariant = { λ a. IsIndexed a.index a.entries.entries a.cache.items };
+}
+
+impl Pages {
+    /// Nothing.
+    pub fn new(alloc: Global) -> Pages
+        ensures entries { result.entries ≡ [] }
+        ensures cache { result.cache ≡ [] }
+    {
+        Pages {
+            entries: BTreeMap::new(alloc),
+            cache: Vec::new(alloc),
+            index: Index::new(alloc),
+        }
+    }
+
+    /// The entries, by process and page.
+    pub fn entries(&self) -> &BTreeMap<(u16, u64), Entry>
+        ensures { result.now.entries ≡ self.now.entries }
+    {
+        &self.entries
+    }
+
+    /// The cached pairs.
+    pub fn cache(&self) -> &[Cached]
+        ensures { result.now ≡ self.now.cache }
+    {
+        self.cache.as_slice()
+    }
+
+    /// The entry of a page goes, if it has one.
+    pub fn remove(&mut self, process: u16, page: u64) -> Option<Entry>
+        ensures value { result ≡ lookup (is_at (key_cmp (process, page))) self.old.entries }
+        ensures entries { self.new.entries
+            ≡ remove_entry (is_at (key_cmp (process, page))) self.old.entries }
+        ensures gone { lookup (is_at (key_cmp (process, page))) self.new.entries ≡ None }
+        ensures cache { self.new.cache ≡ self.old.cache }
+    {
+        let entry = self.entries.remove(&(process, page));
+        self.index.take((process, page), entry);
+        entry
+    }
+
+    /// The page has this entry now. Without memory it may have lost the one that it had.
+    pub fn set(&mut self, process: u16, page: u64, entry: Entry) -> Result<(), AllocError>
+        ensures entries { OnOk result (self.new.entries
+            ≡ insert_entry key_cmp self.old.entries (process, page) entry) }
+        ensures at { OnOk result ((q : Key) → lookup (is_at (key_cmp q)) self.new.entries
+            ≡ if same_key (process, page) q then Some entry
+            else lookup (is_at (key_cmp q)) self.old.entries) }
+        ensures rising { IsStrictlySortedBy key_cmp (keys_of self.new.entries) }
+        ensures cache { self.new.cache ≡ self.old.cache }
+    {
+        let old = self.entries.insert((process, page), entry)?;
+        match self.index.put((process, page), old, entry) {
+            Ok(()) => Ok(()),
+            Err(error) => {
+                let _ = self.entries.remove(&(process, page));
+                Err(error)
+            }
+        }
+    }
+
+    /// How many entries name a frame.
+    pub fn frame_names(&self, frame: u32) -> u64
+        ensures { result ≡ how_many (λ e. names_frame frame e.1) (entries_of self.now.entries) }
+    {
+        self.index.frames().names(frame)
+    }
+
+    /// How many pairs cache at a frame.
+    pub fn frame_pairs(&self, frame: u32) -> u64
+        ensures { result ≡ how_many (λ c. frame == c.frame) (map cached_of self.now.cache) }
+    {
+        self.index.frames().pairs(frame)
+    }
+
+    /// Whether an entry names the frame, or a pair caches at it.
+    pub fn is_frame_used(&self, frame: u32) -> bool
+        ensures { result ≡ nat_lt 0
+            (how_many (λ e. names_frame frame e.1) (entries_of self.now.entries)
+            + how_many (λ c. frame == c.frame) (map cached_of self.now.cache)) }
+    {
+        self.index.frames().is_used(frame)
+    }
+
+    /// How many entries name a slot.
+    pub fn slot_names(&self, slot: Slot) -> u64
+        ensures names { result
+            ≡ how_many (λ e. names_slot slot e.1) (entries_of self.now.entries) }
+        ensures fits { result < 2 ^ 63 }
+    {
+        self.index.slots().names(slot)
+    }
+
+    /// How many pairs cache a slot.
+    pub fn slot_pairs(&self, slot: Slot) -> u64
+        ensures { result ≡ how_many (λ c. same_slot slot c.slot) (map cached_of self.now.cache) }
+    {
+        self.index.slots().pairs(slot)
+    }
+
+    /// How many of the first frames are used.
+    pub fn frames_used(&self, frames: u32) -> u32
+        ensures { result ≡ length (filter (λ f. nat_lt 0
+            (how_many (λ e. names_frame f e.1) (entries_of self.now.entries)
+            + how_many (λ c. f == c.frame) (map cached_of self.now.cache)))
+            (range_with_len 0 frames)) }
+    {
+        self.index.frames().len_within(0, frames)
+    }
+
+    /// How many slots of an area are used, where it has so many pages.
+    pub fn slots_used(&self, area: u8, pages: u32) -> u32
+        ensures { result ≡ length (used_pages self.now area pages) }
+    {
+        self.index.slots().len_within(area, 1, pages)
+    }
+
+    /// The least page of a slot of an area that is used, where it has so many pages.
+    pub fn least_used(&self, area: u8, pages: u32) -> Option<u32>
+        ensures { result ≡ slice_get (used_pages self.now area pages) 0 }
+    {
+        self.index.slots().least(area, 1, pages)
+    }
+
+    /// The keys of the entries that name a frame, rising.
+    pub fn keys_of_frame(&self, alloc: Global, frame: u32) -> Result<Vec<(u16, u64)>, AllocError>
+        ensures keys { IfOk result (λ keys. keys.items
+            ≡ keys_of (filter (λ e. names_frame frame (entry_of e.1)) self.now.entries)) }
+        ensures rising { IsStrictlySortedBy key_cmp (keys_of self.now.entries) }
+    {
+        self.index.frames().keys(alloc, frame)
+    }
+
+    /// The keys of the entries that name a slot, rising.
+    pub fn keys_of_slot(&self, alloc: Global, slot: Slot) -> Result<Vec<(u16, u64)>, AllocError>
+        ensures { IfOk result (λ keys. keys.items
+            ≡ keys_of (filter (λ e. names_slot slot (entry_of e.1)) self.now.entries)) }
+    {
+        self.index.slots().keys(alloc, slot)
+    }
+
+    /// Whether an entry of a frame is seen.
+    pub fn is_seen(&self, frame: u32) -> bool
+        ensures { result ≡ list_any (λ e. names_seen frame e.1) (entries_of self.now.entries) }
+    {
+        self.index.frames().seen(frame) > 0
+    }
+
+    /// The entries of a frame change. Without memory a part may have changed.
+    pub fn change(&mut self, alloc: Global, frame: u32, change: Change) -> Result<(), AllocError>
+        ensures entries { OnOk result (self.new.entries
+            ≡ map (λ e. (e.0, changed_at frame change e.1)) self.old.entries) }
+        ensures cache { self.new.cache ≡ self.old.cache }
+    {
+        let keys = self.keys_of_frame(alloc, frame)?;
+        for key in keys.as_slice() {
+            self.change_at(*key, frame, change)?;
+        }
+        Ok(())
+    }
+
+    /// The entries of a frame are unseen. Without memory a part may have changed.
+    pub fn unsee(&mut self, alloc: Global, frame: u32) -> Result<(), AllocError>
+        ensures entries { OnOk result (self.new.entries
+            ≡ map (λ e. (e.0, without_seen_of frame e.1)) self.old.entries) }
+        ensures cache { self.new.cache ≡ self.old.cache }
+    {
+        if !self.is_seen(frame) {
+            return Ok(());
+        }
+        self.change(alloc, frame, Change::Unseen)
+    }
+
+    /// The entry of a page changes, if it has one that names the frame. Without memory it may have
+    /// lost it.
+    fn change_at(&mut self, key: (u16, u64), frame: u32, change: Change) -> Result<(), AllocError>
+        ensures at { OnOk result ((q : Key) → lookup (is_at (key_cmp q)) self.new.entries
+            ≡ if same_key key q
+            then option_map (changed_at frame change) (lookup (is_at (key_cmp q)) self.old.entries)
+            else lookup (is_at (key_cmp q)) self.old.entries) }
+        ensures rising { IsStrictlySortedBy key_cmp (keys_of self.old.entries)
+            → IsStrictlySortedBy key_cmp (keys_of self.new.entries) }
+        ensures cache { self.new.cache ≡ self.old.cache }
+    {
+        let Some(place) = self.entries.get_mut(&key) else {
+            return Ok(());
+        };
+        let old = *place;
+        let entry = old.changed_at(frame, change);
+        *place = entry;
+        match self.index.put(key, Some(old), entry) {
+            Ok(()) => Ok(()),
+            Err(error) => {
+                let _ = self.entries.remove(&key);
+                Err(error)
+            }
+        }
+    }
+
+    /// One pair more is cached, before the others. Without memory all stays.
+    pub fn into_cache(&mut self, pair: Cached) -> Result<(), AllocError>
+        ensures cache { OnOk result (self.new.cache ≡ pair ∷ self.old.cache) }
+        ensures entries { self.new.entries ≡ self.old.entries }
+    {
+        are_few(self.cache.as_slice());
+        self.index.hold(pair)?;
+        match self.cache.insert(0, pair) {
+            Ok(()) => Ok(()),
+            Err(error) => {
+                self.index.drop_pair(pair);
+                Err(error.into())
+            }
+        }
+    }
+
+    /// The slot is cached no longer.
+    pub fn off_cache(&mut self, slot: Slot)
+        ensures cache { self.new.cache
+            ≡ filter (λ c. not (same_slot slot c.slot)) self.old.cache }
+        ensures entries { self.new.entries ≡ self.old.entries }
+    {
+        drop_pairs(&mut self.index, self.cache.as_slice(), slot);
+        self.cache.retain(|c| slot != c.slot);
+    }
+
+    /// Another pair stands at a place. Without memory all stays.
+    fn put_pair(&mut self, place: usize, pair: Cached) -> Result<(), AllocError>
+        requires { place < length self.old.cache }
+        ensures cache { OnOk result (self.new.cache ≡ set self.old.cache place pair) }
+        ensures entries { self.new.entries ≡ self.old.entries }
+    {
+        are_few(self.cache.as_slice());
+        self.index.hold(pair)?;
+        self.index.drop_pair(self.cache[place]);
+        self.cache[place] = pair;
+        Ok(())
+    }
+
+    /// Cached pairs change. Without memory a part may have changed.
+    pub fn change_pairs(&mut self, change: PairChange) -> Result<(), AllocError>
+        ensures cache { OnOk result (self.new.cache ≡ map (changed_pair change) self.old.cache) }
+        ensures entries { self.new.entries ≡ self.old.entries }
+    {
+        for place in 0..self.cache().len() {
+            if let Some(pair) = self.cache()[place].changed(change) {
+                self.put_pair(place, pair)?;
+            }
+        }
+        Ok(())
+    }
+}
+
+/// There is memory for fewer pairs than these.
+fn are_few(cache: &[Cached])
+    ensures { length cache.now < 2 ^ 63 }
+{
+    let _ = cache.len();
+}
+
+/// The pairs of a slot go.
+fn drop_pairs(index: &mut Index, cache: &[Cached], slot: Slot)
+    ensures keys { KeepsKeys index.old index.new }
+    ensures pairs { CountsPairs index.old (map cached_of cache.now) → CountsPairs index.new
+        (map cached_of (filter (λ c. not (same_slot slot c.slot)) cache.now)) }
+{
+    for pair in cache {
+        if slot == pair.slot {
+            index.drop_pair(*pair);
+        }
+    }
+}
