@@ -1,12 +1,19 @@
 -- Keys in a range.
-use Rattle.std.proofs.Common.{◌≡◌, ℕ, ◌+◌, Bool, true, false, List, filter, refl, sym, ap, ◌∙◌, arith}
+use Rattle.std.proofs.Common.{◌≡◌, ℕ, ◌+◌, Bool, true, false, cond, List, [], ◌∷◌, ◌++◌, filter, map, refl, sym, ap, ◌∙◌, arith, append_assoc}
 use Rattle.std.specs.Prelude.{◌&&◌, ◌==◌}
 use Rattle.std.specs.declared.ops.Bound.TheVariants.{Included, Excluded, Unbounded}
 use Rattle.std.specs.BTreeMap.Range.{range_contains}
 use Rattle.std.proofs.lemmas.Bool.Decides.{nat_tests}
 use Rattle.av_base.specs.Keys.{Key, key_cmp}
 use Rattle.av_base.specs.Words.{within}
-use Rattle.av_events.proofs.FilterLaws.{filter-both, filter-filter}
+use Rattle.av_plain.specs.Ledger.{Entry as PlainEntry}
+use Rattle.av_pages.specs.Entries.{entry_of}
+use Rattle.av_pages.specs.declared.entries.Entry.{Entry}
+use Rattle.av_pages.proofs.EntryLaws.{keys-are}
+use Rattle.av_book.specs.Book.{ledger_of}
+use Rattle.av_book.specs.declared.book.Book.{Book}
+use Rattle.av_book.proofs.MapLaws.{where-says}
+use Rattle.av_events.proofs.FilterLaws.{filter-both, filter-filter, keys-where}
 
 -- those of a process's n pages from one on lie between two keys
 pub pages-between : (p from n : ℕ) (k : Key)
@@ -49,3 +56,22 @@ module _ {E : Type 0} (p : ℕ) (es : List (Key × E)) where
 pub pages-of : (p from n : ℕ) (ks : List Key) → filter (λ k. within from n k.1) (filter (λ k. k.0 == p) ks) ≡ filter (λ k. k.0 == p && within from n k.1) ks
 pages-of p from n ks = filter-both (λ k. within from n k.1) (λ k. k.0 == p) (λ k. k.0 == p && within from n k.1)
     (λ k h. ap (λ b. b && within from n k.1) (sym h)) (λ k h. first-of _ _ h) ks
+
+-- the keys that pass a test are those of the ledger's entries that do
+pub keys-say : (b : Book) (t : Key → Bool) → map (λ (e : Key × Entry). e.0) (filter (λ (e : Key × Entry). t e.0) b.pages.entries)
+    ≡ filter t (map (λ (e : Key × PlainEntry). e.0) (ledger_of b).entries)
+keys-say b t = sym (keys-are (filter (λ (e : Key × Entry). t e.0) b.pages.entries))
+    ∙ ap (map (λ (e : Key × PlainEntry). e.0)) (where-says key_cmp entry_of t b.pages.entries) ∙ keys-where t (ledger_of b).entries
+
+-- the key of an entry of the process is added
+pub key-added : (p : ℕ) (k : Key) (made more : List Key) (es rest : List (Key × Entry)) (e : Entry) (whole : List Key) → es ≡ (k, e) ∷ rest
+    → k.0 ≡ p → more ≡ made ++ k ∷ []
+    → made ++ filter (λ (k : Key). k.0 == p) (map (λ (e : Key × Entry). e.0) es) ≡ whole
+    → more ++ filter (λ (k : Key). k.0 == p) (map (λ (e : Key × Entry). e.0) rest) ≡ whole
+key-added p k made more es rest e whole steps own push left =
+    let behind = filter (λ (k : Key). k.0 == p) (map (λ (e : Key × Entry). e.0) rest) in
+    ap (λ ks. ks ++ behind) push ∙ append_assoc made (k ∷ []) behind ∙ ap (λ b. made ++ cond b (k ∷ behind) behind) (sym (test k.0 own))
+    ∙ ap (λ es. made ++ filter (λ (k : Key). k.0 == p) (map (λ (e : Key × Entry). e.0) es)) (sym steps) ∙ left
+  where
+    test : (n : ℕ) → n ≡ p → (n == p) ≡ true
+    test n own = grind (arith, nat_tests, own)

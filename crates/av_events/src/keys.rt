@@ -14,6 +14,32 @@ use std::collections::btree_map::Range;
 /// An entry with its process and page.
 pub type Keyed = ((u16, u64), Entry);
 
+/// For how many entries a list has room at first.
+const ROOM: usize = 64;
+
+/// A range of entries in which those of a process stand.
+fn range_of(book: &Book, process: u16) -> Range<'_, (u16, u64), Entry>
+    ensures { filter (λ e. e.0.0 == process) result
+        ≡ filter (λ e. e.0.0 == process) book.now.pages.entries }
+{
+    let entries = book.entries();
+    match process.checked_add(1) {
+        None => entries.range((process, 0)..),
+        Some(next) => entries.range((process, 0)..(next, 0)),
+    }
+}
+
+/// A range of entries in which those of a process's n pages from one on stand, and of its entries
+/// no others.
+fn range_in(book: &Book, process: u16, from: u64, n: u64) -> Range<'_, (u16, u64), Entry>
+    requires { from + n < 2 ^ 64 }
+    ensures { filter (λ e. e.0.0 == process) result
+        ≡ filter (λ e. e.0.0 == process && within from n e.0.1) book.now.pages.entries }
+{
+    let end = from + n;
+    book.entries().range((process, from)..(process, end))
+}
+
 /// Those of some entries that are of a process.
 fn of_process(
     alloc: Global,
@@ -22,7 +48,7 @@ fn of_process(
 ) -> Result<Vec<Keyed>, AllocError>
     ensures { IfOk result (λ made. made.items ≡ filter (λ e. e.0.0 == process) range.entry) }
 {
-    let mut made = Vec::new(alloc);
+    let mut made = Vec::with_capacity(alloc, ROOM)?;
     for (key, entry) in range {
         if key.0 == process {
             made.push((*key, *entry))?;
@@ -31,15 +57,20 @@ fn of_process(
     Ok(made)
 }
 
-/// The keys of some entries.
-fn only_keys(alloc: Global, entries: &[Keyed]) -> Result<Vec<(u16, u64)>, AllocError>
-    ensures { IfOk result (λ made. made.items ≡ map (λ e. e.0) entries.now) }
+/// The keys of those of some entries that are of a process.
+fn only_keys(
+    alloc: Global,
+    range: Range<'_, (u16, u64), Entry>,
+    process: u16,
+) -> Result<Vec<(u16, u64)>, AllocError>
+    ensures { IfOk result (λ made. made.items
+        ≡ filter (λ k. k.0 == process) (map (λ e. e.0) range.entry)) }
 {
-    let mut made = Vec::new(alloc);
-    let mut rest = entries;
-    while let [first, others @ ..] = rest {
-        made.push(first.0)?;
-        rest = others;
+    let mut made = Vec::with_capacity(alloc, ROOM)?;
+    for (key, _) in range {
+        if key.0 == process {
+            made.push(*key)?;
+        }
     }
     Ok(made)
 }
@@ -49,14 +80,7 @@ pub fn entries_of(book: &Book, alloc: Global, process: u16) -> Result<Vec<Keyed>
     ensures { IfOk result (λ made. entries_say made.items
         ≡ entries_where (λ k. k.0 == process) (ledger_of book.now)) }
 {
-    match process.checked_add(1) {
-        None => of_process(alloc, book.entries().range((process, 0)..), process),
-        Some(next) => of_process(
-            alloc,
-            book.entries().range((process, 0)..(next, 0)),
-            process,
-        ),
-    }
+    of_process(alloc, range_of(book, process), process)
 }
 
 /// The entries of a process's n pages from one on, by rising page.
@@ -71,20 +95,14 @@ pub fn entries_in(
     ensures { IfOk result (λ made. entries_say made.items
         ≡ entries_where (λ k. k.0 == process && within from n k.1) (ledger_of book.now)) }
 {
-    let end = from + n;
-    of_process(
-        alloc,
-        book.entries().range((process, from)..(process, end)),
-        process,
-    )
+    of_process(alloc, range_in(book, process, from, n), process)
 }
 
 /// The keys of a process's entries, by rising page.
 pub fn keys_of(book: &Book, alloc: Global, process: u16) -> Result<Vec<(u16, u64)>, AllocError>
     ensures { IfOk result (λ made. made.items ≡ keys_of_process (ledger_of book.now) process) }
 {
-    let entries = entries_of(book, alloc, process)?;
-    only_keys(alloc, entries.as_slice())
+    only_keys(alloc, range_of(book, process), process)
 }
 
 /// The keys of the entries of a process's n pages from one on, by rising page.
@@ -98,6 +116,5 @@ pub fn keys_in(
     requires { from + n < 2 ^ 64 }
     ensures { IfOk result (λ made. made.items ≡ keys_in_of (ledger_of book.now) process from n) }
 {
-    let entries = entries_in(book, alloc, process, from, n)?;
-    only_keys(alloc, entries.as_slice())
+    only_keys(alloc, range_in(book, process, from, n), process)
 }

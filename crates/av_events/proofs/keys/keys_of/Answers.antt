@@ -1,17 +1,12 @@
 use Rattle.std.proofs.Common.{◌==◌, map, ap, sym, ◌∙◌}
 use Rattle.std.proofs.lemmas.Result.{IfOk-weaker}
 use Rattle.av_base.specs.Keys.{Key}
-use Rattle.av_plain.specs.Ledger.{Entry as PlainEntry}
-use Rattle.av_book.specs.Book.{ledger_of}
 use Rattle.av_pages.specs.declared.entries.Entry.{Entry}
-use Rattle.av_pages.proofs.EntryLaws.{keys-are}
 use Rattle.av_events.proofs.FilterLaws.{keys-where}
+use Rattle.av_events.proofs.KeyLaws.{keys-say}
 use Rattle.av_events.proofs.keys.keys_of.Goals as goal
 
 pub returns : goal.returns
-returns c =
-    let l = ledger_of c.args.book.now in
-    let keys = ap (map (λ (e : Key × Entry). e.0)) c.as_slice.ensures.value ∙ sym (keys-are c.in_ok-entries.entries.items)
-    ∙ ap (map (λ (e : Key × PlainEntry). e.0)) c.in_ok-entries.ensures
-    ∙ keys-where (λ (k : Key). k.0 == c.args.process) l.entries in
-    IfOk-weaker c.only_keys.result _ _ (λ made h. h ∙ keys) c.only_keys.ensures
+returns c = IfOk-weaker c.only_keys.result _ _ (λ made h. h ∙ sym (keys-where (λ (k : Key). k.0 == c.args.process) c.range_of.result)
+    ∙ ap (map (λ (e : Key × Entry). e.0)) c.range_of.ensures
+    ∙ keys-say c.args.book.now (λ k. k.0 == c.args.process)) c.only_keys.ensures
