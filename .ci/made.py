@@ -45,6 +45,7 @@ CARRIERS = {
     "replies_of_runs_are_read_back texts_of_runs_say_replies runs_lay_areas runs_cover_entries",
     "av_audit_laws": "replies_tell_events units_leave_one transcripts_are_judged",
     "av_index": "Holders",
+    "av_queue": "Queue",
     "av_pages": "Pages",
     "av_book": "Book Machine Spared",
     "av_events": "touch zap_process zap_range fork move_entries turn_on turn_off",
