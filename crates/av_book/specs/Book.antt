@@ -19,10 +19,10 @@ abbrev pub ledger_of : Book → Ledger
 ledger_of book = record {
   entries = entries_of book.pages.entries;
   cache = map cached_of book.pages.cache;
-  flight = book.flight.items;
-  active = book.active.items;
-  inactive = book.inactive.items;
-  merged = book.merged.items;
+  flight = book.flight;
+  active = book.active;
+  inactive = book.inactive;
+  merged = book.merged;
   on = areas_of book.on.entries;
 }
 

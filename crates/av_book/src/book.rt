@@ -6,6 +6,7 @@ ghost use Rattle.av_book.specs.Book.{ledger_of};
 
 use av_base::Slot;
 use av_pages::Pages;
+use av_queue::Queue;
 use std::alloc::Global;
 use std::collections::BTreeMap;
 
@@ -22,10 +23,10 @@ pub struct Area {
 pub struct Book {
     pub alloc: Global,
     pub pages: Pages,
-    pub flight: Vec<Slot>,
-    pub active: Vec<u32>,
-    pub inactive: Vec<u32>,
-    pub merged: Vec<u32>,
+    pub flight: Queue<Slot>,
+    pub active: Queue<u32>,
+    pub inactive: Queue<u32>,
+    pub merged: Queue<u32>,
     pub on: BTreeMap<u8, Area>,
 }
 
@@ -37,10 +38,10 @@ impl Book {
         Book {
             alloc,
             pages: Pages::new(alloc),
-            flight: Vec::new(alloc),
-            active: Vec::new(alloc),
-            inactive: Vec::new(alloc),
-            merged: Vec::new(alloc),
+            flight: Queue::new(alloc),
+            active: Queue::new(alloc),
+            inactive: Queue::new(alloc),
+            merged: Queue::new(alloc),
             on: BTreeMap::new(alloc),
         }
     }

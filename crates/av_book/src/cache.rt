@@ -76,14 +76,14 @@ impl Book {
     pub fn is_flying(&self, slot: Slot) -> bool
         ensures { result ≡ in_flight (ledger_of self.now) slot }
     {
-        let mut rest = self.flight.as_slice();
-        while let [first, others @ ..] = rest {
-            if slot == *first {
-                return true;
-            }
-            rest = others;
-        }
-        false
+        self.flight.contains(slot)
+    }
+
+    /// The slots in flight, those whose writes began first in front.
+    pub fn slots_in_flight(&self, alloc: Global) -> Result<Vec<Slot>, AllocError>
+        ensures { IfOk result (λ slots. slots.items ≡ (ledger_of self.now).flight) }
+    {
+        self.flight.iter().copied().collect(alloc)
     }
 
     /// Whether nothing names the frame.
@@ -140,6 +140,6 @@ impl Book {
     pub fn off_flight(&mut self, slot: Slot)
         ensures { ledger_of self.new ≡ off_flight slot (ledger_of self.old) }
     {
-        self.flight.retain(|other| slot != *other);
+        self.flight.remove(slot);
     }
 }

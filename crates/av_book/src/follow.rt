@@ -88,7 +88,7 @@ impl Book {
         ensures { OnOk result (ledger_of self.new
             ≡ after_note (notes.Started slot) (ledger_of self.old)) }
     {
-        self.flight.push(slot)?;
+        self.flight.push_back(slot)?;
         self.set_stale(false, slot)
     }
 
@@ -153,8 +153,7 @@ impl Book {
         ensures { OnOk result (ledger_of self.new
             ≡ after_note (notes.Shared frame) (ledger_of self.old)) }
     {
-        self.merged.push(frame)?;
-        Ok(())
+        self.merged.push_back(frame)
     }
 
     /// A page gets the entry that its note tells. Without memory a part may be done.

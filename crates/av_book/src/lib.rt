@@ -1,5 +1,6 @@
 //! The ledger as data: flight, lists and swap areas, beside the entries and cached pairs that
-//! `av_pages` keeps. It knows the definitions alone, and no kernel.
+//! `av_pages` keeps. A slot in flight and a frame in a list are found at once (`av_queue`). It
+//! knows the definitions alone, and no kernel.
 //!
 //! Proved: what each note leaves of the ledger (`Book::follow`), and what the definitions ask of
 //! it: which frames and slots are free, and how many, what caches what, what a page needs, why a
@@ -28,4 +29,4 @@ pub use av_pages::{Cached, Entry};
 pub use book::{Area, Book};
 pub use machine::{Head, Layout, Machine};
 pub use need::Need;
-pub use spared::{Spared, from_end};
+pub use spared::Spared;

@@ -14,8 +14,8 @@ impl Book {
     fn unlist(&mut self, frame: u32)
         ensures { ledger_of self.new ≡ in_neither frame (ledger_of self.old) }
     {
-        self.active.retain(|other| frame != *other);
-        self.inactive.retain(|other| frame != *other);
+        self.active.remove(frame);
+        self.inactive.remove(frame);
     }
 
     /// The frame leaves its list, and is merged no longer.
@@ -23,14 +23,14 @@ impl Book {
         ensures { ledger_of self.new ≡ off_lists frame (ledger_of self.old) }
     {
         self.unlist(frame);
-        self.merged.retain(|other| frame != *other);
+        self.merged.remove(frame);
     }
 
     /// Whether the frame is merged.
     pub fn is_merged(&self, frame: u32) -> bool
         ensures { result ≡ is_merged (ledger_of self.now) frame }
     {
-        is_among(frame, self.merged.as_slice())
+        self.merged.contains(frame)
     }
 
     /// The frame goes to the head of inactive. Without memory it is in no list.
@@ -38,8 +38,7 @@ impl Book {
         ensures { OnOk result (ledger_of self.new ≡ to_inactive_head frame (ledger_of self.old)) }
     {
         self.unlist(frame);
-        self.inactive.insert(0, frame)?;
-        Ok(())
+        self.inactive.push_front(frame)
     }
 
     /// Or to its tail. Without memory it is in no list.
@@ -47,8 +46,7 @@ impl Book {
         ensures { OnOk result (ledger_of self.new ≡ to_inactive_tail frame (ledger_of self.old)) }
     {
         self.unlist(frame);
-        self.inactive.push(frame)?;
-        Ok(())
+        self.inactive.push_back(frame)
     }
 
     /// Or to the head of active. Without memory it is in no list.
@@ -56,8 +54,7 @@ impl Book {
         ensures { OnOk result (ledger_of self.new ≡ to_active frame (ledger_of self.old)) }
     {
         self.unlist(frame);
-        self.active.insert(0, frame)?;
-        Ok(())
+        self.active.push_front(frame)
     }
 }
 

@@ -10,6 +10,7 @@ ghost use Rattle.av_book.specs.Spared.{spared_of};
 use crate::book::Book;
 use crate::lists::is_among;
 use crate::machine::Machine;
+use av_queue::Queue;
 use std::alloc::{AllocError, Global};
 
 /// What a pass leaves alone, beside merged frames: the frame that is about to be copied, those of
@@ -61,8 +62,8 @@ impl Book {
         ensures { IfOk result (λ frames. frames.items
             ≡ frames_in_turn (spared_of spared.now) (ledger_of self.now)) }
     {
-        let mut frames = from_end(alloc, self.inactive.as_slice())?;
-        let active = from_end(alloc, self.active.as_slice())?;
+        let mut frames = from_end(alloc, &self.inactive)?;
+        let active = from_end(alloc, &self.active)?;
         frames.extend_from_slice(active.as_slice())?;
         frames.retain(|frame| self.has_turn(spared, *frame));
         Ok(frames)
@@ -70,11 +71,8 @@ impl Book {
 }
 
 /// A list from its end on.
-pub fn from_end(alloc: Global, frames: &[u32]) -> Result<Vec<u32>, AllocError>
+fn from_end(alloc: Global, frames: &Queue<u32>) -> Result<Vec<u32>, AllocError>
     ensures { IfOk result (λ made. made.items ≡ reverse frames.now) }
 {
-    let mut made = Vec::new(alloc);
-    made.extend_from_slice(frames)?;
-    made.as_mut_slice().reverse();
-    Ok(made)
+    frames.iter().rev().copied().collect(alloc)
 }

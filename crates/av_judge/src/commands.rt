@@ -12,24 +12,29 @@ ghost use Rattle.av_judge.specs.Verdict.{IsVerdict};
 
 use crate::flight::completes;
 use crate::reclaim::{ages, outcomes};
-use crate::seek::same_slots;
 use crate::unit::Unit;
 use av_base::Slot;
-use av_book::{Book, Machine, Spared, from_end};
+use av_book::{Book, Machine, Spared};
+use av_queue::Queue;
 use av_text::word::after;
 use std::alloc::{AllocError, Global};
 
 /// The first slots of some, n at most.
-fn first(alloc: Global, slots: &[Slot], n: u16) -> Result<Vec<Slot>, AllocError>
+fn first(alloc: Global, slots: &Queue<Slot>, n: u16) -> Result<Vec<Slot>, AllocError>
     ensures { IfOk result (λ made. made.items ≡ take n slots.now) }
 {
-    let mut made = same_slots(alloc, slots)?;
-    made.truncate(usize::from(n));
-    Ok(made)
+    slots.iter().take(usize::from(n)).copied().collect(alloc)
+}
+
+/// Frames from the last on.
+fn from_end(alloc: Global, frames: &Queue<u32>) -> Result<Vec<u32>, AllocError>
+    ensures { IfOk result (λ made. made.items ≡ reverse frames.now) }
+{
+    frames.iter().rev().copied().collect(alloc)
 }
 
 /// The last frames of some, n at most, from the end.
-fn last(alloc: Global, frames: &[u32], n: u16) -> Result<Vec<u32>, AllocError>
+fn last(alloc: Global, frames: &Queue<u32>, n: u16) -> Result<Vec<u32>, AllocError>
     ensures { IfOk result (λ made. made.items ≡ take n (reverse frames.now)) }
 {
     let mut made = from_end(alloc, frames)?;
@@ -47,7 +52,7 @@ pub fn judges_complete(
     ensures { IfOk result (λ legal. (m : Setting) (w : World) → IsVerdict m w
         (ledger_of book.old) (commands.Complete n) text.now legal (ledger_of book.new)) }
 {
-    let slots = first(alloc, book.flight.as_slice(), n)?;
+    let slots = first(alloc, &book.flight, n)?;
     match after(text, b"ok\n") {
         None => Ok(false),
         Some(rest) => {
@@ -65,7 +70,7 @@ pub fn judges_age(book: &mut Book, alloc: Global, n: u16, text: &[u8]) -> Result
     ensures { IfOk result (λ legal. (m : Setting) (w : World) → IsVerdict m w
         (ledger_of book.old) (commands.Age n) text.now legal (ledger_of book.new)) }
 {
-    let frames = last(alloc, book.active.as_slice(), n)?;
+    let frames = last(alloc, &book.active, n)?;
     match after(text, b"ok\n") {
         None => Ok(false),
         Some(rest) => {
@@ -93,7 +98,7 @@ pub fn judges_reclaim(
         → IsVerdict (setting_of machine.now) w (ledger_of book.old) (commands.Reclaim n) text.now
         legal (ledger_of book.new)) }
 {
-    let frames = last(alloc, book.inactive.as_slice(), n)?;
+    let frames = last(alloc, &book.inactive, n)?;
     match after(text, b"ok\n") {
         None => Ok(false),
         Some(rest) => {

@@ -12,18 +12,8 @@ use crate::flight::completes;
 use crate::notes::{Taking, fits, take_frame};
 use crate::pass::turns;
 use crate::unit::Unit;
-use av_base::Slot;
 use av_book::{Book, Machine, Spared};
-use std::alloc::{AllocError, Global};
-
-/// The same slots.
-pub fn same_slots(alloc: Global, slots: &[Slot]) -> Result<Vec<Slot>, AllocError>
-    ensures { IfOk result (λ copy. copy.items ≡ slots.now) }
-{
-    let mut copy = Vec::new(alloc);
-    copy.extend_from_slice(slots)?;
-    Ok(copy)
-}
+use std::alloc::AllocError;
 
 /// A direct pass.
 fn passes(
@@ -37,7 +27,7 @@ fn passes(
         (ledger_of book.old)) (ledger_of book.old) unit.old.rest.now read (ledger_of book.new)
         unit.new.rest.now) }
 {
-    let slots = same_slots(unit.alloc, book.flight.as_slice())?;
+    let slots = book.slots_in_flight(unit.alloc)?;
     if !completes(book, unit, slots.as_slice())? {
         return Ok(false);
     }

@@ -90,8 +90,7 @@ pub fn closes(
         → IsWhole (Closes (setting_of machine.now) w area (ledger_of book.old))
         (ledger_of book.old) notes.now (option_map close_of found) (ledger_of book.new)) }
 {
-    let mut slots = Vec::new(alloc);
-    slots.extend_from_slice(book.flight.as_slice())?;
+    let slots = book.slots_in_flight(alloc)?;
     let mut unit = Unit { alloc, rest: notes };
     if !completes(book, &mut unit, slots.as_slice())? {
         return Ok(None);

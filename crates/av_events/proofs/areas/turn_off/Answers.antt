@@ -22,9 +22,9 @@ returns c =
     λ i. record {
       entries = entries_of c.args.book.now.pages.entries;
       cache = map cached_of c.args.book.now.pages.cache;
-      flight = c.args.book.now.flight.items;
-      active = c.args.book.now.active.items;
-      inactive = c.args.book.now.inactive.items;
-      merged = c.args.book.now.merged.items;
+      flight = c.args.book.now.flight;
+      active = c.args.book.now.active;
+      inactive = c.args.book.now.inactive;
+      merged = c.args.book.now.merged;
       on = left i;
     }

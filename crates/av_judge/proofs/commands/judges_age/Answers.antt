@@ -1,5 +1,4 @@
-use Rattle.std.proofs.Common.{◌≡◌, List, ℕ, map, take, true, false, ap, subst, ◌∙◌}
-use Rattle.std.specs.Prelude.{reverse}
+use Rattle.std.proofs.Common.{◌≡◌, List, ℕ, map, take, true, false, subst, ◌∙◌}
 use Rattle.av_trace.specs.declared.command.Command.TheVariants as commands
 use Rattle.av_trace.specs.declared.note.Note.TheVariants.{Aged}
 use Rattle.av_plain.specs.Reclaim.{from_tail}
@@ -22,7 +21,7 @@ returns-then-not-branch c = λ m w.
     c.args.text.now c.in-Some.rest.now c.ages.new.unit.rest.now (age-ok m w l c.args.n)
     c.in-Some.ensures
     (subst (λ (xs : List ℕ). Reads (λ ns. ns ≡ map Aged xs) l c.in-Some.rest.now false l1 c.ages.new.unit.rest.now)
-    (c.as_slice-in-Some.ensures.value ∙ c.in_ok-frames.ensures ∙ ap (λ (xs : List ℕ). take c.args.n (reverse xs)) c.as_slice.ensures.value)
+    (c.as_slice.ensures.value ∙ c.in_ok-frames.ensures)
     (reads-is _ _ _ _ _ c.in_ok-ages-in-Some.field-0 false c.if-not-branch.true c.in_ok-ages-in-Some.ensures))
 
 pub returns : goal.returns
@@ -33,5 +32,5 @@ returns c = λ m w.
     c.in-Some.rest.now c.ages.new.unit.rest.now c.is_empty.result
     (age-ok m w l c.args.n) c.in-Some.ensures c.is_empty.ensures
     (subst (λ (xs : List ℕ). Reads (λ ns. ns ≡ map Aged xs) l c.in-Some.rest.now true l1 c.ages.new.unit.rest.now)
-    (c.as_slice-in-Some.ensures.value ∙ c.in_ok-frames.ensures ∙ ap (λ (xs : List ℕ). take c.args.n (reverse xs)) c.as_slice.ensures.value)
+    (c.as_slice.ensures.value ∙ c.in_ok-frames.ensures)
     (reads-is _ _ _ _ _ c.in_ok-ages-in-Some.field-0 true c.if-not-branch.false c.in_ok-ages-in-Some.ensures))

@@ -1,4 +1,4 @@
-use Rattle.std.proofs.Common.{List, take, true, false, ap, subst, ◌∙◌}
+use Rattle.std.proofs.Common.{List, take, true, false, subst, ◌∙◌}
 use Rattle.av_base.specs.declared.slot.Slot.{Slot}
 use Rattle.av_trace.specs.declared.command.Command.TheVariants as commands
 use Rattle.av_plain.specs.Pass.{Completes}
@@ -21,7 +21,7 @@ returns-then-not-branch c = λ m w.
     c.in-Some.rest.now c.completes.new.unit.rest.now (complete-ok m w l c.args.n)
     c.in-Some.ensures
     (subst (λ (xs : List Slot). Reads (Completes l xs) l c.in-Some.rest.now false l1 c.completes.new.unit.rest.now)
-    (c.as_slice-in-Some.ensures.value ∙ c.in_ok-slots.ensures ∙ ap (λ (xs : List Slot). take c.args.n xs) c.as_slice.ensures.value)
+    (c.as_slice.ensures.value ∙ c.in_ok-slots.ensures)
     (reads-is _ _ _ _ _ c.in_ok-completes-in-Some.field-0 false c.if-not-branch.true c.in_ok-completes-in-Some.ensures))
 
 pub returns : goal.returns
@@ -32,5 +32,5 @@ returns c = λ m w.
     c.in-Some.rest.now c.completes.new.unit.rest.now c.is_empty.result
     (complete-ok m w l c.args.n) c.in-Some.ensures c.is_empty.ensures
     (subst (λ (xs : List Slot). Reads (Completes l xs) l c.in-Some.rest.now true l1 c.completes.new.unit.rest.now)
-    (c.as_slice-in-Some.ensures.value ∙ c.in_ok-slots.ensures ∙ ap (λ (xs : List Slot). take c.args.n xs) c.as_slice.ensures.value)
+    (c.as_slice.ensures.value ∙ c.in_ok-slots.ensures)
     (reads-is _ _ _ _ _ c.in_ok-completes-in-Some.field-0 true c.if-not-branch.false c.in_ok-completes-in-Some.ensures))

@@ -1,5 +1,4 @@
-use Rattle.std.proofs.Common.{List, ℕ, take, true, false, ap, subst, ◌∙◌}
-use Rattle.std.specs.Prelude.{reverse}
+use Rattle.std.proofs.Common.{List, ℕ, take, true, false, subst, ◌∙◌}
 use Rattle.av_trace.specs.declared.command.Command.TheVariants as commands
 use Rattle.av_book.specs.Spared.{spared_of}
 use Rattle.av_plain.specs.Reclaim.{Outcomes, from_tail}
@@ -28,7 +27,7 @@ returns-then-not-branch c = λ w e.
     c.args.text.now c.in-Some.rest.now c.outcomes.new.unit.rest.now (reclaim-ok m w l c.args.n sp e)
     c.in-Some.ensures
     (subst (λ (xs : List ℕ). Reads (Outcomes m sp l xs) l c.in-Some.rest.now false l1 c.outcomes.new.unit.rest.now)
-    (c.as_slice-in-Some.ensures.value ∙ c.in_ok-frames.ensures ∙ ap (λ (xs : List ℕ). take c.args.n (reverse xs)) c.as_slice.ensures.value)
+    (c.as_slice.ensures.value ∙ c.in_ok-frames.ensures)
     (reads-is _ _ _ _ _ c.in_ok-outcomes-in-Some.field-0 false c.if-not-branch.true c.in_ok-outcomes-in-Some.ensures))
 
 pub returns : goal.returns
@@ -41,5 +40,5 @@ returns c = λ w e.
     c.args.text.now c.in-Some.rest.now c.outcomes.new.unit.rest.now c.is_empty.result
     (reclaim-ok m w l c.args.n sp e) c.in-Some.ensures c.is_empty.ensures
     (subst (λ (xs : List ℕ). Reads (Outcomes m sp l xs) l c.in-Some.rest.now true l1 c.outcomes.new.unit.rest.now)
-    (c.as_slice-in-Some.ensures.value ∙ c.in_ok-frames.ensures ∙ ap (λ (xs : List ℕ). take c.args.n (reverse xs)) c.as_slice.ensures.value)
+    (c.as_slice.ensures.value ∙ c.in_ok-frames.ensures)
     (reads-is _ _ _ _ _ c.in_ok-outcomes-in-Some.field-0 true c.if-not-branch.false c.in_ok-outcomes-in-Some.ensures))

@@ -16,7 +16,7 @@ returns-then-not-branch c =
     let sp = spared_of c.args.spared.now in
     let l = ledger_of c.args.book.now in
     let l1 = ledger_of c.completes.new.book in
-    let slots = c.as_slice-2.ensures.value ∙ c.in_ok-slots.ensures ∙ c.as_slice.ensures.value in
+    let slots = c.as_slice.ensures.value ∙ c.in_ok-slots.ensures in
     reads-no-first (IsPass m sp l) (Completes l l.flight) (λ a. AreTurnsAt m sp (after_notes l a)) l l1
     l1 c.args.unit.now.rest.now c.completes.new.unit.rest.now c.completes.new.unit.rest.now (pass-parts m sp l)
     (subst (λ (ss : List Slot). Reads (Completes l ss) l c.args.unit.now.rest.now false l1 c.completes.new.unit.rest.now) slots
@@ -29,10 +29,10 @@ returns c =
     let l = ledger_of c.args.book.now in
     let l1 = ledger_of c.completes.new.book in
     let l2 = ledger_of c.turns.new.book in
-    let slots = c.as_slice-2.ensures.value ∙ c.in_ok-slots.ensures ∙ c.as_slice.ensures.value in
-    let frames = c.as_slice-3.ensures.value ∙ c.in_ok-frames.ensures in
+    let slots = c.as_slice.ensures.value ∙ c.in_ok-slots.ensures in
+    let frames = c.as_slice-2.ensures.value ∙ c.in_ok-frames.ensures in
     if-ok c.turns.result
-    (λ read. Reads (Turns m sp l1 c.as_slice-3.result.now) l1 c.completes.new.unit.rest.now read l2 c.turns.new.unit.rest.now)
+    (λ read. Reads (Turns m sp l1 c.as_slice-2.result.now) l1 c.completes.new.unit.rest.now read l2 c.turns.new.unit.rest.now)
     (λ read. Reads (IsPass m sp l) l c.args.unit.now.rest.now read l2 c.turns.new.unit.rest.now)
     (λ read h. reads-then (IsPass m sp l) (Completes l l.flight) (λ a. AreTurnsAt m sp (after_notes l a)) l l1
     l2 c.args.unit.now.rest.now c.completes.new.unit.rest.now c.turns.new.unit.rest.now read (pass-parts m sp l)

@@ -1,4 +1,4 @@
-use Rattle.std.proofs.Common.{true, false, List, ◌++◌, ap, subst, ◌∙◌}
+use Rattle.std.proofs.Common.{true, false, List, subst, ◌∙◌}
 use Rattle.std.specs.Prelude.{option_map}
 use Rattle.av_base.specs.declared.slot.Slot.{Slot}
 use Rattle.av_plain.specs.Pass.{Completes}
@@ -16,8 +16,7 @@ pub returns-then-not-branch : goal.returns-then-not-branch
 returns-then-not-branch c = λ w at.
     let l = ledger_of c.args.book.now in
     let l1 = ledger_of c.completes.new.book in
-    let slots = c.as_slice-2.ensures.value ∙ c.in_ok-extend_from_slice.ensures.items
-    ∙ ap (λ (xs : List Slot). xs ++ c.as_slice.result.now) c.new-slots.ensures.items ∙ c.as_slice.ensures.value in
+    let slots = c.as_slice.ensures.value ∙ c.in_ok-slots.ensures in
     closes-not (setting_of c.args.machine.now) w c.args.area l l1 l1 c.args.notes.now c.completes.new.unit.rest.now
     (subst (λ (ss : List Slot). Reads (Completes l ss) l c.args.notes.now false l1 c.completes.new.unit.rest.now) slots
     (reads-is _ _ _ _ _ c.in_ok-completes.field-0 false c.if-not-branch.true c.in_ok-completes.ensures))
@@ -29,8 +28,7 @@ returns c =
     let l1 = ledger_of c.completes.new.book in
     let l2 = ledger_of c.empties_all.new.book in
     let mid = c.completes.new.unit.rest.now in
-    let slots = c.as_slice-2.ensures.value ∙ c.in_ok-extend_from_slice.ensures.items
-    ∙ ap (λ (xs : List Slot). xs ++ c.as_slice.result.now) c.new-slots.ensures.items ∙ c.as_slice.ensures.value in
+    let slots = c.as_slice.ensures.value ∙ c.in_ok-slots.ensures in
     if-ok c.empties_all.result
     (λ found. (w : World) → IsWorld c.args.memories.now w → IsWhole (AreEmptied m w c.args.area l1) l1 mid (option_map close_of found) l2) _
     (λ found h w at. closes-then m w c.args.area l l1 l2 c.args.notes.now mid (option_map close_of found)

@@ -9,10 +9,10 @@ returns c = on_ok_weaker c.into_cache.result
     (λ more. λ i. record {
       entries = entries_of (c.into_cache.ensures.entries i);
       cache = map cached_of (more i);
-      flight = c.args.self.now.flight.items;
-      active = c.args.self.now.active.items;
-      inactive = c.args.self.now.inactive.items;
-      merged = c.args.self.now.merged.items;
+      flight = c.args.self.now.flight;
+      active = c.args.self.now.active;
+      inactive = c.args.self.now.inactive;
+      merged = c.args.self.now.merged;
       on = areas_of c.args.self.now.on.entries;
     })
     c.into_cache.ensures.cache

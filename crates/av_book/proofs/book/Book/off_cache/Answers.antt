@@ -14,9 +14,9 @@ returns c =
     λ i. record {
       entries = entries_of (c.off_cache.ensures.entries i);
       cache = same i;
-      flight = c.args.self.now.flight.items;
-      active = c.args.self.now.active.items;
-      inactive = c.args.self.now.inactive.items;
-      merged = c.args.self.now.merged.items;
+      flight = c.args.self.now.flight;
+      active = c.args.self.now.active;
+      inactive = c.args.self.now.inactive;
+      merged = c.args.self.now.merged;
       on = areas_of c.args.self.now.on.entries;
     }

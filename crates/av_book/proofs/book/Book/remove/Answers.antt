@@ -17,10 +17,10 @@ returns c =
       others = λ i. record {
         entries = left i;
         cache = map cached_of (c.remove.ensures.cache i);
-        flight = c.args.self.now.flight.items;
-        active = c.args.self.now.active.items;
-        inactive = c.args.self.now.inactive.items;
-        merged = c.args.self.now.merged.items;
+        flight = c.args.self.now.flight;
+        active = c.args.self.now.active;
+        inactive = c.args.self.now.inactive;
+        merged = c.args.self.now.merged;
         on = areas_of c.args.self.now.on.entries;
       };
     }

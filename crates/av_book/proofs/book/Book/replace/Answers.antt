@@ -15,9 +15,6 @@ returns c =
     let to = c.args.to in
     let cache = ap (map cached_of) (c.change.ensures.cache ∙ c.in_ok-change_pairs.ensures.cache)
     ∙ change-pairs (changed_pair (Frame from to)) (cached_with_frame_at from to) (λ t. refl) c.args.self.now.pages.cache in
-    let active = c.in_ok-active.ensures ∙ ap (map (renamed from to)) c.as_slice.ensures.value in
-    let inactive = c.in_ok-inactive.ensures ∙ ap (map (renamed from to)) c.as_slice-2.ensures.value in
-    let merged = c.in_ok-merged.ensures ∙ ap (map (renamed from to)) c.as_slice-3.ensures.value in
     on_ok_weaker c.change.result
     (λ changes. let entries = ap entries_of changes
     ∙ change-entries (with_frame_at from to) (placed_entry (renamed from to)) (place-is from to) c.change_pairs.new.self.entries
@@ -25,10 +22,10 @@ returns c =
     λ i. record {
       entries = entries i;
       cache = cache i;
-      flight = c.args.self.now.flight.items;
-      active = active i;
-      inactive = inactive i;
-      merged = merged i;
+      flight = c.args.self.now.flight;
+      active = c.in_ok-replace.ensures.ok i;
+      inactive = c.in_ok-replace-2.ensures.ok i;
+      merged = c.in_ok-replace-3.ensures.ok i;
       on = areas_of c.args.self.now.on.entries;
     })
     c.change.ensures.entries
