@@ -26,7 +26,7 @@ pub enum PairChange {
 }
 
 /// A frame, where one gives its place to another.
-pub fn place_of(from: u32, to: u32, frame: u32) -> u32
+fn place_of(from: u32, to: u32, frame: u32) -> u32
     ensures { result ≡ renamed from to frame }
 {
     if frame == from { to } else { frame }

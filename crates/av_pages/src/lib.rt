@@ -19,6 +19,6 @@ mod index;
 mod pages;
 mod slot_holders;
 
-pub use changes::{Change, PairChange, place_of};
+pub use changes::{Change, PairChange};
 pub use entries::{Cached, Entry};
 pub use pages::Pages;
