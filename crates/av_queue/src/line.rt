@@ -85,6 +85,10 @@ impl<T: Member> Line<T> {
         ensures none { IfNone result ((r : ℕ) → has_at T.name self.now name r ≡ false) }
         ensures rising { IsStrictlySortedBy nat_cmp (keys_of self.now) }
     {
+        // Often none is there at all: no frame is merged, say.
+        if self.members.is_empty() {
+            return None;
+        }
         let (next, rank) = self.places.range((name, 0)..).next()?;
         if *next != name {
             return None;
