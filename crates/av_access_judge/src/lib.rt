@@ -5,10 +5,10 @@
 //! where it ends; or they are those of none (`accesses`). Of one page, that it is served, or isn't
 //! and the unit ends. Its parts: a page whose entry is a slot comes in, or is kept out; a page that
 //! is here gets what it needs, or no frame can be had for it; its slot is dropped where that is
-//! needed no more. What a pass spares is what the definitions say (`sparing`). It is looked for only
-//! where no frame is free, so that a pass comes. That costs a look at the ranges of the processes
-//! with a locked page, and at the entries of these pages. Which bytes a page holds is not asked
-//! here, nor what the answer says.
+//! needed no more. What a pass spares is what the definitions say (`sparing`): that costs a look at
+//! the ranges of the processes with a locked page, and at the entries of these pages. In an access
+//! it is looked for only where no frame is free, so that a pass comes. Which bytes a page holds is
+//! not asked here, nor what the answer says.
 //!
 //! Only tested: nothing.
 #![tactic(auto)]

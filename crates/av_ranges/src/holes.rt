@@ -75,7 +75,7 @@ impl Holes {
         requires { 0 < n }
         ensures { MatchOption result (AllShorter self.now n) (λ page. IsHighest self.now n page) }
     {
-        // No hole has as many pages as a number can say.
+        // By what holds of all holes, none has as many pages as a number can say.
         let _ = &self.pairs;
         let mut end: u64 = 0;
         let mut fewer = u64::MAX;

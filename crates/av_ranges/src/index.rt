@@ -1,4 +1,4 @@
-//! What the index of the holes takes up of the bounds.
+//! Which holes a change touches, read off the bounds.
 
 ghost use Rattle.std.specs.Prelude.{◌≡◌, ℕ, ◌+◌, ◌<◌, ◌≤◌, true, false, IfSome, is_some};
 ghost use Rattle.av_base.specs.Limits.{low_page, top_page};

@@ -17,7 +17,8 @@
 //! from then on a gap goes once down the tree of bounds for each run of pages that it passes from
 //! the top: it is as exact, and no call is refused for want of an index.
 //!
-//! That the trees are gone down so often is read off the code, and no clause says it.
+//! That the trees are gone down so often, and that the index is given up only then, is read off the
+//! code, and no clause says it.
 //!
 //! Only tested: nothing.
 #![tactic(auto)]
