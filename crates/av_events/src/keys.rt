@@ -14,8 +14,7 @@ use std::collections::btree_map::Range;
 /// An entry with its process and page.
 pub type Keyed = ((u16, u64), Entry);
 
-/// For how many entries a list has room at first: few processes have more, and a list that grows
-/// is copied each time.
+/// For how many entries a list has room at first.
 const ROOM: usize = 64;
 
 /// A range of entries in which those of a process stand.
