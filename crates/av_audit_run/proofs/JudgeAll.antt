@@ -1,5 +1,5 @@
 -- The units that were judged so far, and where the judging ends.
-use Rattle.std.proofs.Common.{◌≡◌, ℕ, suc, ◌+◌, ◌<◌, ◌≤◌, List, [], ◌∷◌, ◌++◌, length, length-append, take, take-add, drop, drop-cons, get_or, Option}
+use Rattle.std.proofs.Common.{◌≡◌, ℕ, zero, suc, ◌+◌, ◌<◌, ◌≤◌, List, [], ◌∷◌, ◌++◌, length, length-append, take, take-add, drop, drop-cons, get_or, Option}
 use Rattle.std.proofs.Common.{Some, None, refl, sym, ap, subst, ◌∙◌, arith, append-nil, inl, inr}
 use Rattle.std.specs.List.{AllByRecursion}
 use Rattle.std.proofs.lemmas.List.{drop_all, take-append-drop}
@@ -13,7 +13,7 @@ use Rattle.av_audit_laws.specs.Unit.{AreUnits, Leaves}
 use Rattle.av_book.specs.Machine.{setting_of}
 use Rattle.av_book.specs.declared.machine.Machine.{Machine}
 use Rattle.std.specs.Prelude.{option_to_list, unwrap_or}
-use Rattle.av_audit_input.specs.Trace.{AreSaid}
+use Rattle.av_audit_input.specs.Script.{AreLinesOf}
 use Rattle.av_audit.specs.Judge.{IsAt, IsRight}
 use Rattle.av_audit.specs.declared.auditor.Verdict.{Verdict}
 use Rattle.av_audit.specs.declared.auditor.Verdict.TheVariants as verdicts
@@ -271,15 +271,36 @@ module _ {m : Setting} {commands others : List Command} {number : ℕ} {before n
         counts = t.counts;
       }
 
--- a trace has no more commands than lines
-pub commands-few : (lines : List (List ℕ)) (cs : List Command) → AreSaid lines cs → length cs ≤ length lines
-commands-few [] cs h = omega (arith, ap length h)
-commands-few (line ∷ lines) cs h = by h.0 (ap length h.2 ∙ length-append (option_to_list h.0) h.1) (commands-few lines h.1 h.4)
-  where
-    by : (command : Option Command) → length cs ≡ length (option_to_list command) + length h.1 → length h.1 ≤ length lines → length cs ≤ length (line ∷ lines)
-    by None e few = omega (arith, e, few)
-    by (Some c) e few = omega (arith, e, few)
-
 -- the command at a place
-pub at-place : (cs : List Command) (k : ℕ) (c : Command) → k < length cs → c ≡ get_or cs k c → drop k cs ≡ c ∷ drop (suc k) cs
-at-place cs k c below is = drop-cons cs k c below ∙ ap (λ x. x ∷ drop (suc k) cs) (sym is)
+pub at-place : (cs : List Command) (k : ℕ) → k < length cs
+    → (c : Command) × (others : List Command) × (drop k cs ≡ c ∷ others) × (drop (suc k) cs ≡ others)
+at-place [] k below = absurd (omega (arith, below))
+at-place (c ∷ cs) zero below = (c, cs, refl, refl)
+at-place (c ∷ cs) (suc k) below = at-place cs k (omega (arith, below))
+
+-- what a line of the script says is the next command
+module _ {commands : List Command} {index : ℕ} {rest : List ℕ} {size : ℕ} {read : Option Command}
+    (lines : AreLinesOf rest (drop index commands)) (below : index < length commands)
+    (reads : (first : Command) (others : List Command) → AreLinesOf rest (first ∷ others)
+    → (read ≡ Some first) × AreLinesOf (drop size rest) others) where
+  next-by : (first : Command) × (others : List Command) × (drop index commands ≡ first ∷ others) × (drop (suc index) commands ≡ others)
+      → (first : Command) × (others : List Command) × (drop index commands ≡ first ∷ others) × (read ≡ Some first)
+      × AreLinesOf (drop size rest) (drop (index + 1) commands)
+  next-by at =
+      let r = reads at.0 at.1 (subst (AreLinesOf rest) at.2 lines) in
+      let more : drop (index + 1) commands ≡ at.1 = ap (λ k. drop k commands) (omega arith) ∙ at.3 in
+      (at.0, at.1, at.2, r.0, subst (AreLinesOf (drop size rest)) (sym more) r.1)
+
+  next : (first : Command) × (others : List Command) × (drop index commands ≡ first ∷ others) × (read ≡ Some first)
+      × AreLinesOf (drop size rest) (drop (index + 1) commands)
+  next = next-by (at-place commands index below)
+
+  pub some-command : read ≡ None → ⊥
+  some-command none = let n = next in let e = n.3 in cc
+
+  pub next-command : {command : Command} → read ≡ Some command
+      → (others : List Command) × (drop index commands ≡ command ∷ others) × AreLinesOf (drop size rest) (drop (index + 1) commands)
+  next-command {command} is =
+      let n = next in
+      let same : n.0 ≡ command = ap (λ o. unwrap_or o n.0) (sym n.3 ∙ is) in
+      (n.1, n.2 ∙ ap (λ c. c ∷ n.1) same, n.4)
