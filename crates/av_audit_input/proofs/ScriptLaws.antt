@@ -48,7 +48,7 @@ module _ (text line rest : List ℕ) (is : text ≡ line ++ 10 ∷ rest) where
       by (inr (inl within)) =
           let other = All-get_or IsNoNewline line size 0 within one in
           let here : get_or line size 0 ≡ 10 =
-              sym (get_or-append line (10 ∷ rest) 0 size within) ∙ ap (λ l. get_or l size 0) (sym is) ∙ eqb-true _ 10 at in
+          sym (get_or-append line (10 ∷ rest) 0 size within) ∙ ap (λ l. get_or l size 0) (sym is) ∙ eqb-true _ 10 at in
           absurd (other here)
       by (inr (inr behind)) = absurd (before.before (length line) (omega arith) behind (eq-eqb _ 10 newline))
 
@@ -60,8 +60,7 @@ first-of text size meaning first others before at says h =
     let size-is = line-size text h.0 h.1 h.2 size h.3 before at in
     let front : take size text ≡ h.0 = ap (λ n. take n text) size-is ∙ ap (take (length h.0)) h.2 ∙ take-append_seam h.0 (10 ∷ h.1) in
     let back : drop (size + 1) text ≡ h.1 =
-        ap (λ n. drop (n + 1) text) size-is ∙ ap (drop (length h.0 + 1)) h.2 ∙ drop-append-add h.0 (10 ∷ h.1) 1 in
-    (
+    ap (λ n. drop (n + 1) text) size-is ∙ ap (drop (length h.0 + 1)) h.2 ∙ drop-append-add h.0 (10 ∷ h.1) 1 in (
       says_one h.0 meaning (Some first) (subst (λ l. Says l meaning) front says) h.4,
       subst (λ l. AreLinesOf l others) (sym back) h.5,
     )

@@ -40,12 +40,7 @@ fn is_mark(line: &[u8]) -> bool
 }
 
 /// Keeps a line, if it says a command and isn't the mark; and says whether it is.
-fn keep(
-    alloc: Global,
-    line: &[u8],
-    number: u32,
-    script: &mut Script,
-) -> Result<bool, InputErr>
+fn keep(alloc: Global, line: &[u8], number: u32, script: &mut Script) -> Result<bool, InputErr>
     requires few { script.old.count < number }
     requires one { HasNoNewline line.now }
     ensures kept { IfOk result

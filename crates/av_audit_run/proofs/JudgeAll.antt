@@ -278,29 +278,49 @@ at-place [] k below = absurd (omega (arith, below))
 at-place (c ∷ cs) zero below = (c, cs, refl, refl)
 at-place (c ∷ cs) (suc k) below = at-place cs k (omega (arith, below))
 
--- what a line of the script says is the next command
-module _ {commands : List Command} {index : ℕ} {rest : List ℕ} {size : ℕ} {read : Option Command}
-    (lines : AreLinesOf rest (drop index commands)) (below : index < length commands)
-    (reads : (first : Command) (others : List Command) → AreLinesOf rest (first ∷ others)
-    → (read ≡ Some first) × AreLinesOf (drop size rest) others) where
-  next-by : (first : Command) × (others : List Command) × (drop index commands ≡ first ∷ others) × (drop (suc index) commands ≡ others)
-      → (first : Command) × (others : List Command) × (drop index commands ≡ first ∷ others) × (read ≡ Some first)
-      × AreLinesOf (drop size rest) (drop (index + 1) commands)
-  next-by at =
-      let r = reads at.0 at.1 (subst (AreLinesOf rest) at.2 lines) in
-      let more : drop (index + 1) commands ≡ at.1 = ap (λ k. drop k commands) (omega arith) ∙ at.3 in
-      (at.0, at.1, at.2, r.0, subst (AreLinesOf (drop size rest)) (sym more) r.1)
+-- what a line of the script says is the first command
+abbrev pub Reads : List ℕ → ℕ → Option Command → Type 0
+Reads rest size read = (first : Command) (others : List Command) → AreLinesOf rest (first ∷ others)
+    → (read ≡ Some first) × AreLinesOf (drop size rest) others
 
-  next : (first : Command) × (others : List Command) × (drop index commands ≡ first ∷ others) × (read ≡ Some first)
-      × AreLinesOf (drop size rest) (drop (index + 1) commands)
-  next = next-by (at-place commands index below)
+-- that is the next command
+record IsNextOf (commands : List Command) (index : ℕ) (rest : List ℕ) (size : ℕ) (read : Option Command) : Type 0 where
+  pub first : Command
+  pub others : List Command
+  pub at : drop index commands ≡ first ∷ others
+  pub is : read ≡ Some first
+  pub behind : AreLinesOf (drop size rest) (drop (index + 1) commands)
 
-  pub some-command : read ≡ None → ⊥
-  some-command none = let n = next in let e = n.3 in cc
+next-of : (commands : List Command) (index : ℕ) (rest : List ℕ) (size : ℕ) (read : Option Command) → AreLinesOf rest (drop index commands)
+    → index < length commands → Reads rest size read → IsNextOf commands index rest size read
+next-of commands index rest size read lines below reads =
+    let at = at-place commands index below in
+    let r = reads at.0 at.1 (subst (λ cs. AreLinesOf rest cs) at.2 lines) in
+    let plus : index + 1 ≡ suc index = omega arith in
+    let more : drop (index + 1) commands ≡ at.1 = ap (λ (k : ℕ). drop k commands) plus ∙ at.3 in
+    record {
+      first = at.0;
+      others = at.1;
+      at = at.2;
+      is = r.0;
+      behind = subst (λ cs. AreLinesOf (drop size rest) cs) (sym more) r.1;
+    }
 
-  pub next-command : {command : Command} → read ≡ Some command
-      → (others : List Command) × (drop index commands ≡ command ∷ others) × AreLinesOf (drop size rest) (drop (index + 1) commands)
-  next-command {command} is =
-      let n = next in
-      let same : n.0 ≡ command = ap (λ o. unwrap_or o n.0) (sym n.3 ∙ is) in
-      (n.1, n.2 ∙ ap (λ c. c ∷ n.1) same, n.4)
+pub some-command : (commands : List Command) (index : ℕ) (rest : List ℕ) (size : ℕ) (read : Option Command) → AreLinesOf rest (drop index commands)
+    → index < length commands → Reads rest size read → read ≡ None → ⊥
+some-command commands index rest size read lines below reads none =
+    let n = next-of commands index rest size read lines below reads in
+    let e = n.is in
+    cc
+
+pub next-command : (commands : List Command) (index : ℕ) (rest : List ℕ) (size : ℕ) (read : Option Command) (command : Command)
+    → AreLinesOf rest (drop index commands) → index < length commands → Reads rest size read → read ≡ Some command
+    → (others : List Command) × (drop index commands ≡ command ∷ others) × AreLinesOf (drop size rest) (drop (index + 1) commands)
+next-command commands index rest size read command lines below reads is =
+    let n = next-of commands index rest size read lines below reads in
+    let same : n.first ≡ command = ap (λ o. unwrap_or o n.first) (sym n.is ∙ is) in
+    (n.others, n.at ∙ ap (λ c. c ∷ n.others) same, n.behind)
+
+pub none-else : (o : Option Command) → ((c : Command) → o ≡ Some c → ⊥) → o ≡ None
+none-else None h = refl
+none-else (Some c) h = absurd (h c refl)

@@ -1,6 +1,6 @@
 //! A trace is read, and then its transcript judged, unit by unit.
 
-ghost use Rattle.std.specs.Prelude.{◌≡◌, ◌≤◌, List, [], IfOk, IfErr, true};
+ghost use Rattle.std.specs.Prelude.{◌≡◌, ◌≤◌, List, [], IfOk, IfErr, drop, length, true};
 ghost use Rattle.av_ports.specs.Ports.{undone};
 ghost use Rattle.av_trace.specs.declared.command.Command.{Command};
 ghost use Rattle.av_plain.specs.Ledger.{first_ledger};
@@ -36,6 +36,14 @@ fn finding_at(verdict: Verdict, number: u32) -> Option<Finding>
         Verdict::Legal => None,
         Verdict::Illegal => Some(Finding::Illegal(number)),
     }
+}
+
+/// What comes behind so many bytes.
+fn behind(text: &[u8], size: usize) -> &[u8]
+    requires { size ≤ length text.now }
+    ensures { result.now ≡ drop size text.now }
+{
+    &text[size..]
 }
 
 /// Reads a unit for each command, and judges it, up to the first that isn't legal.
@@ -76,7 +84,7 @@ fn judge_all<P: Ports>(
             return Ok(Finding::Illegal(number));
         }
         let size = read_command(alloc, rest, &mut spare, &mut command)?;
-        rest = &rest[size..];
+        rest = behind(rest, size);
         let Some(next) = &command else {
             // The unit comes behind the last command.
             return Ok(Finding::Illegal(number));

@@ -1,12 +1,11 @@
-use Rattle.std.proofs.Common.{◌≡◌, ◌+◌, length, sym, subst, ◌∙◌, arith, take_all}
+use Rattle.std.proofs.Common.{◌≡◌, ◌+◌, drop, length, sym, subst, ◌∙◌, arith, take_all}
 use Rattle.std.proofs.lemmas.Result.{err_from_is_err_and}
 use Rattle.av_ports.proofs.Times.{unfailed_then}
 use Rattle.av_audit.specs.Swap.{FitsWords}
 use Rattle.av_audit_input.proofs.InputLaws.{is-open-then, only-then}
-use Rattle.av_audit_run.proofs.JudgeAll.{all-legal, at-place, missing, next-command, on-machine, reading-breaks, some-command, too-many, verdict-ends}
+use Rattle.av_audit_input.specs.Script.{AreLinesOf}
+use Rattle.av_audit_run.proofs.JudgeAll.{all-legal, at-place, missing, next-command, none-else, on-machine, reading-breaks, some-command, too-many, verdict-ends}
 use Rattle.av_audit_run.proofs.JudgeAll.{verdict-goes, verdict-legal, wants-memory}
-use Rattle.av_audit_run.specs.Transcript.{Judges}
-use Rattle.av_audit_run.specs.declared.transcript.Finding.TheVariants as findings
 use Rattle.av_audit_run.proofs.transcript.judge_all.Goals as goal
 
 pub returns-in_err-read_unit-clause-stops : goal.returns-in_err-read_unit-clause-stops
@@ -43,28 +42,31 @@ returns-in_err-size-clause-stops g c =
 pub returns-in_err-size-clause-only : goal.returns-in_err-size-clause-only
 returns-in_err-size-clause-only g c = only-then _ _ _ c.loop-index.invariant.only c.read_unit.ensures.only
 
-pub returns-in-None-clause-judges : goal.returns-in-None-clause-judges
-returns-in-None-clause-judges g c commands h =
+pub returns-in_default-clause-judges : goal.returns-in_default-clause-judges
+returns-in_default-clause-judges g c commands h =
     let inv = c.loop-index.invariant.legal commands h in
-    absurd (some-command inv.0 (omega (arith, h.count, c.loop-index-test.true)) c.in_ok-size.ensures.first c.in-None.is)
+    absurd (some-command commands c.loop-index.index c.loop-index.rest.now c.in_ok-size.size c.read_command.new.command inv.0
+    (omega (arith, h.count, c.loop-index-test.true)) c.in_ok-size.ensures.first
+    (none-else c.read_command.new.command c.in_default.not-Some))
 
-pub returns-in-None-clause-only : goal.returns-in-None-clause-only
-returns-in-None-clause-only g c = only-then _ _ _ c.loop-index.invariant.only c.read_unit.ensures.only
+pub returns-in_default-clause-only : goal.returns-in_default-clause-only
+returns-in_default-clause-only g c = only-then _ _ _ c.loop-index.invariant.only c.read_unit.ensures.only
 
-pub returns-in-Some-clause-judges : goal.returns-in-Some-clause-judges
-returns-in-Some-clause-judges g c commands held =
+pub returns-in-Some-finding_at-clause-judges : goal.returns-in-Some-finding_at-clause-judges
+returns-in-Some-finding_at-clause-judges g c commands held =
     let inv = c.loop-index.invariant in
     let legal = inv.legal commands held in
     let h = legal.1 in
     let takes = rw c.if-not-branch.false at c.in_ok-read_unit.ensures.taken in
-    let is = next-command legal.0 (omega (arith, held.count, c.loop-index-test.true)) c.in_ok-size.ensures.first c.in-Some.is in
+    let is = next-command commands c.loop-index.index c.loop-index.rest.now c.in_ok-size.size c.read_command.new.command c.in-Some.next legal.0
+    (omega (arith, held.count, c.loop-index-test.true)) c.in_ok-size.ensures.first c.in-Some.is in
     let verdict = c.in_ok-verdict.verdict in
     verdict-ends c.read_unit.new.extent.left h takes is.1 c.judge.new.self _ verdict
-    (on-machine h.world h.ledger c.in-Some.next verdict c.judge.new.self inv.machine c.as_slice-2.ensures.value
-    (c.in_ok-verdict.ensures.going inv.going h.world h.ledger h.is_at)) (sym c.finding_at.ensures ∙ c.in-Some-2.is)
+    (on-machine h.world h.ledger c.in-Some.next verdict c.judge.new.self inv.machine c.as_slice.ensures.value
+    (c.in_ok-verdict.ensures.going inv.going h.world h.ledger h.is_at)) (sym c.finding_at.ensures ∙ c.in-Some-finding_at.is)
 
-pub returns-in-Some-clause-only : goal.returns-in-Some-clause-only
-returns-in-Some-clause-only g c = only-then _ _ _ c.loop-index.invariant.only c.read_unit.ensures.only
+pub returns-in-Some-finding_at-clause-only : goal.returns-in-Some-finding_at-clause-only
+returns-in-Some-finding_at-clause-only g c = only-then _ _ _ c.loop-index.invariant.only c.read_unit.ensures.only
 
 pub loop-index-preserved : goal.loop-index-preserved
 loop-index-preserved g c =
@@ -78,10 +80,11 @@ loop-index-preserved g c =
       legal = λ commands held.
           let old = inv.legal commands held in
           let h = old.1 in
-          let is = next-command old.0 (omega (arith, held.count, c.loop-index-test.true)) c.in_ok-size.ensures.first c.in-Some.is in (
-            is.2,
+          let is = next-command commands c.loop-index.index c.loop-index.rest.now c.in_ok-size.size c.read_command.new.command c.in-Some.next old.0
+          (omega (arith, held.count, c.loop-index-test.true)) c.in_ok-size.ensures.first c.in-Some.is in (
+            subst (λ l. AreLinesOf l (drop (c.loop-index.index + 1) commands)) (sym c.behind-rest.ensures) is.2,
             verdict-goes c.read_unit.new.extent.left h takes is.1 c.judge.new.self verdict
-                (on-machine h.world h.ledger c.in-Some.next verdict c.judge.new.self inv.machine c.as_slice-2.ensures.value
+                (on-machine h.world h.ledger c.in-Some.next verdict c.judge.new.self inv.machine c.as_slice.ensures.value
                 (c.in_ok-verdict.ensures.going inv.going h.world h.ledger h.is_at)) legal,
           );
       stays = is-open-then c.args.extent.now.ended c.loop-index.extent.ended c.read_unit.new.extent.ended c.loop-index.pending
@@ -104,8 +107,7 @@ pub returns-then-branch-clause-judges : goal.returns-then-branch-clause-judges
 returns-then-branch-clause-judges g c commands h =
     let takes = rw c.if-branch.true at c.in_ok-read_unit-2.ensures.taken in
     let all : c.loop-index.index ≡ length commands = omega (arith, h.count, c.loop-index.auto.index-end, c.loop-index-test.false) in
-    subst (λ n. Judges (findings.Illegal (n + 1)) _ commands _ _ _) (sym h.count)
-    (too-many c.read_unit-2.new.extent.left _ (c.loop-index.invariant.legal commands h).1 takes all)
+    rw h.count (too-many c.read_unit-2.new.extent.left _ (c.loop-index.invariant.legal commands h).1 takes all)
 
 pub returns-then-branch-clause-only : goal.returns-then-branch-clause-only
 returns-then-branch-clause-only g c = only-then _ _ _ c.loop-index.invariant.only c.read_unit-2.ensures.only
