@@ -1,4 +1,5 @@
 pub mod InputLaws
 pub mod ReadUnit
+pub mod ScriptLaws
 pub mod TraceLaws
 pub mod UnitLaws

@@ -1,6 +1,6 @@
 -- Lines of a trace that are taken.
 use Rattle.std.proofs.Common.{◌≡◌, ℕ, ◌+◌, ◌<◌, ◌≤◌, Bool, true, false, List, [], ◌∷◌, ◌++◌, length, take, drop, Option, refl, sym, ap, subst, ◌∙◌, arith}
-use Rattle.std.proofs.Common.{append-nil, append_assoc, inl, inr}
+use Rattle.std.proofs.Common.{append-nil, append_assoc, inl, inr, length-append, None, Some}
 use Rattle.std.specs.Prelude.{◌≢◌, ◌==◌, option_to_list, IfErr, OnErr, Result, Ok, Err}
 use Rattle.std.specs.List.{AllByRecursion}
 use Rattle.std.proofs.lemmas.List.{take_all, drop_all}
@@ -112,6 +112,15 @@ says-more (x ∷ xs) line command cs cs' h says is = (
   h.3,
   says-more xs line command h.1 (h.1 ++ option_to_list command) h.4 says refl,
 )
+
+-- a trace has no more commands than lines
+pub commands-few : (lines : List (List ℕ)) (cs : List Command) → AreSaid lines cs → length cs ≤ length lines
+commands-few [] cs h = omega (arith, ap length h)
+commands-few (line ∷ lines) cs h = by h.0 (ap length h.2 ∙ length-append (option_to_list h.0) h.1) (commands-few lines h.1 h.4)
+  where
+    by : (command : Option Command) → length cs ≡ length (option_to_list command) + length h.1 → length h.1 ≤ length lines → length cs ≤ length (line ∷ lines)
+    by None e few = omega (arith, e, few)
+    by (Some c) e few = omega (arith, e, few)
 
 good-more : (lines : List (List ℕ)) (line : List ℕ) → AllByRecursion IsTraceLine lines → IsTraceLine line
     → AllByRecursion IsTraceLine (lines ++ line ∷ [])

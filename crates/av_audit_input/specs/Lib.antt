@@ -1,3 +1,4 @@
 pub mod Input
+pub mod Script
 pub mod Trace
 pub mod Unit

@@ -1,16 +1,20 @@
 //! Reading a trace, up to its mark.
 
-ghost use Rattle.std.specs.Prelude.{◌≡◌, ◌≢◌, [], IfOk, IfErr, OnOk, OnErr, true, false};
+ghost use Rattle.std.specs.Prelude.{◌≡◌, ◌≢◌, ◌<◌, List, [], IfOk, IfErr, OnOk, OnErr, true, false};
+ghost use Rattle.av_ports.specs.Line.{HasNoNewline};
 ghost use Rattle.av_ports.specs.Ports.{undone};
+ghost use Rattle.av_trace.specs.declared.command.Command.{Command};
 ghost use Rattle.av_audit_input.specs.Input.{FailsOnly, OnlyReads};
+ghost use Rattle.av_audit_input.specs.Script.{Becomes, IsScript};
 ghost use Rattle.av_audit_input.specs.Trace.{mark, IsKept, IsNotKept, StopsLine, StopsMark};
 ghost use Rattle.av_audit_input.specs.Trace.{StopsWithin, TakesMark, TakesNext, TakesTrace};
 ghost use Rattle.av_audit_input.specs.Trace.{last_error};
 ghost use Rattle.av_audit_input.specs.Trace.{next_of};
 
 use crate::input_err::{InputErr, error_at};
+use crate::script::Script;
 use av_ports::{Pending, Ports, RunErr, read_line};
-use av_trace::{Command, LineErr, parse_line};
+use av_trace::{LineErr, parse_line};
 use std::alloc::Global;
 
 /// The lines of a trace, at most.
@@ -35,15 +39,12 @@ fn is_mark(line: &[u8]) -> bool
     line == MARK
 }
 
-/// Keeps what a line says, if it says something and isn't the mark; and says whether it is.
-fn keep(
-    alloc: Global,
-    line: &[u8],
-    number: u32,
-    commands: &mut Vec<Command>,
-) -> Result<bool, InputErr>
+/// Keeps a line, if it says a command and isn't the mark; and says whether it is.
+fn keep(alloc: Global, line: &[u8], number: u32, script: &mut Script) -> Result<bool, InputErr>
+    requires few { script.old.count < number }
+    requires one { HasNoNewline line.now }
     ensures kept { IfOk result
-        (λ marked. IsKept marked line.now commands.old.items commands.new.items) }
+        (λ marked. Becomes script.old script.new (IsKept marked line.now)) }
     ensures err { IfErr result (λ e. IsNotKept e number line.now) }
 {
     if is_mark(line) {
@@ -51,10 +52,8 @@ fn keep(
     }
     match parse_line(alloc, line) {
         Ok(None) => Ok(false),
-        Ok(Some(command)) => {
-            if commands.push(command).is_err() {
-                return Err(InputErr::Memory);
-            }
+        Ok(Some(_)) => {
+            script.push(line)?;
             Ok(false)
         }
         Err(LineErr::Bad) => Err(InputErr::BadLine(number)),
@@ -79,10 +78,11 @@ fn next_line<P: Ports>(
     ports: &mut P,
     pending: &mut Pending,
     number: u32,
-    commands: &mut Vec<Command>,
+    script: &mut Script,
 ) -> Result<Next, InputErr>
-    ensures taken { IfOk result (λ next. TakesNext next pending.old pending.new (P.view ports.old)
-        (P.view ports.new) commands.old.items commands.new.items) }
+    requires few { script.old.count < number }
+    ensures taken { IfOk result (λ next. Becomes script.old script.new (TakesNext next pending.old
+        pending.new (P.view ports.old) (P.view ports.new))) }
     ensures stops { IfErr result (λ e. StopsLine e number pending.new (P.view ports.new)) }
     ensures same { OnErr result
         (undone pending.new (P.view ports.new) ≡ undone pending.old (P.view ports.old)) }
@@ -95,7 +95,7 @@ fn next_line<P: Ports>(
         Ok(None) => return Ok(Next::End),
         Err(error) => return Err(error_at(error, number)),
     };
-    let marked = keep(alloc, &pending.as_slice()[..line.size], number, commands)?;
+    let marked = keep(alloc, &pending.as_slice()[..line.size], number, script)?;
     pending.skip(line.whole);
     Ok(next_of(marked, line.whole == line.size))
 }
@@ -135,17 +135,18 @@ fn take_mark<P: Ports>(ports: &mut P, pending: &mut Pending) -> Result<bool, Inp
     Ok(line.whole == line.size)
 }
 
-/// Reads a trace up to the line `%%`, which is taken, or to the end of the input, and gives what it
-/// commands; there are no commands before. Says whether the input has ended.
+/// Reads a trace up to the line `%%`, which is taken, or to the end of the input, and keeps the lines
+/// that say commands; none are kept before. Says whether the input has ended.
 pub fn read_trace<P: Ports>(
     alloc: Global,
     ports: &mut P,
     pending: &mut Pending,
-    commands: &mut Vec<Command>,
+    script: &mut Script,
 ) -> Result<bool, InputErr>
-    requires { commands.old.items ≡ [] }
-    ensures taken { IfOk result (λ ended. TakesTrace ended commands.new.items pending.old
-        pending.new (P.view ports.old) (P.view ports.new)) }
+    requires { IsScript script.old [] }
+    ensures taken { IfOk result (λ ended. (commands : List Command) × IsScript script.new commands
+        × TakesTrace ended commands pending.old pending.new (P.view ports.old)
+        (P.view ports.new)) }
     ensures stops { IfErr result
         (λ e. StopsWithin e pending.old pending.new (P.view ports.old) (P.view ports.new)) }
     ensures only { OnlyReads (P.view ports.old) (P.view ports.new) }
@@ -153,7 +154,7 @@ pub fn read_trace<P: Ports>(
     ensures kept { P.kept ports.new ≡ P.kept ports.old }
 {
     for number in 0..MOST_LINES {
-        match next_line(alloc, ports, pending, number + 1, commands)? {
+        match next_line(alloc, ports, pending, number + 1, script)? {
             Next::Line => {}
             Next::Transcript => return Ok(false),
             Next::End => return Ok(true),

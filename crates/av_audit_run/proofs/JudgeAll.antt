@@ -1,5 +1,5 @@
 -- The units that were judged so far, and where the judging ends.
-use Rattle.std.proofs.Common.{◌≡◌, ℕ, suc, ◌+◌, ◌<◌, ◌≤◌, List, [], ◌∷◌, ◌++◌, length, length-append, take, take-add, drop, drop-cons, get_or, Option}
+use Rattle.std.proofs.Common.{◌≡◌, ℕ, zero, suc, ◌+◌, ◌<◌, ◌≤◌, List, [], ◌∷◌, ◌++◌, length, length-append, take, take-add, drop, drop-cons, get_or, Option}
 use Rattle.std.proofs.Common.{Some, None, refl, sym, ap, subst, ◌∙◌, arith, append-nil, inl, inr}
 use Rattle.std.specs.List.{AllByRecursion}
 use Rattle.std.proofs.lemmas.List.{drop_all, take-append-drop}
@@ -13,7 +13,7 @@ use Rattle.av_audit_laws.specs.Unit.{AreUnits, Leaves}
 use Rattle.av_book.specs.Machine.{setting_of}
 use Rattle.av_book.specs.declared.machine.Machine.{Machine}
 use Rattle.std.specs.Prelude.{option_to_list, unwrap_or}
-use Rattle.av_audit_input.specs.Trace.{AreSaid}
+use Rattle.av_audit_input.specs.Script.{AreLinesOf}
 use Rattle.av_audit.specs.Judge.{IsAt, IsRight}
 use Rattle.av_audit.specs.declared.auditor.Verdict.{Verdict}
 use Rattle.av_audit.specs.declared.auditor.Verdict.TheVariants as verdicts
@@ -271,15 +271,56 @@ module _ {m : Setting} {commands others : List Command} {number : ℕ} {before n
         counts = t.counts;
       }
 
--- a trace has no more commands than lines
-pub commands-few : (lines : List (List ℕ)) (cs : List Command) → AreSaid lines cs → length cs ≤ length lines
-commands-few [] cs h = omega (arith, ap length h)
-commands-few (line ∷ lines) cs h = by h.0 (ap length h.2 ∙ length-append (option_to_list h.0) h.1) (commands-few lines h.1 h.4)
-  where
-    by : (command : Option Command) → length cs ≡ length (option_to_list command) + length h.1 → length h.1 ≤ length lines → length cs ≤ length (line ∷ lines)
-    by None e few = omega (arith, e, few)
-    by (Some c) e few = omega (arith, e, few)
-
 -- the command at a place
-pub at-place : (cs : List Command) (k : ℕ) (c : Command) → k < length cs → c ≡ get_or cs k c → drop k cs ≡ c ∷ drop (suc k) cs
-at-place cs k c below is = drop-cons cs k c below ∙ ap (λ x. x ∷ drop (suc k) cs) (sym is)
+pub at-place : (cs : List Command) (k : ℕ) → k < length cs
+    → (c : Command) × (others : List Command) × (drop k cs ≡ c ∷ others) × (drop (suc k) cs ≡ others)
+at-place [] k below = absurd (omega (arith, below))
+at-place (c ∷ cs) zero below = (c, cs, refl, refl)
+at-place (c ∷ cs) (suc k) below = at-place cs k (omega (arith, below))
+
+-- what a line of the script says is the first command
+abbrev pub Reads : List ℕ → ℕ → Option Command → Type 0
+Reads rest size read = (first : Command) (others : List Command) → AreLinesOf rest (first ∷ others)
+    → (read ≡ Some first) × AreLinesOf (drop size rest) others
+
+-- that is the next command
+record IsNextOf (commands : List Command) (index : ℕ) (rest : List ℕ) (size : ℕ) (read : Option Command) : Type 0 where
+  pub first : Command
+  pub others : List Command
+  pub at : drop index commands ≡ first ∷ others
+  pub is : read ≡ Some first
+  pub behind : AreLinesOf (drop size rest) (drop (index + 1) commands)
+
+next-of : (commands : List Command) (index : ℕ) (rest : List ℕ) (size : ℕ) (read : Option Command) → AreLinesOf rest (drop index commands)
+    → index < length commands → Reads rest size read → IsNextOf commands index rest size read
+next-of commands index rest size read lines below reads =
+    let at = at-place commands index below in
+    let r = reads at.0 at.1 (subst (λ cs. AreLinesOf rest cs) at.2 lines) in
+    let plus : index + 1 ≡ suc index = omega arith in
+    let more : drop (index + 1) commands ≡ at.1 = ap (λ (k : ℕ). drop k commands) plus ∙ at.3 in
+    record {
+      first = at.0;
+      others = at.1;
+      at = at.2;
+      is = r.0;
+      behind = subst (λ cs. AreLinesOf (drop size rest) cs) (sym more) r.1;
+    }
+
+pub some-command : (commands : List Command) (index : ℕ) (rest : List ℕ) (size : ℕ) (read : Option Command) → AreLinesOf rest (drop index commands)
+    → index < length commands → Reads rest size read → read ≡ None → ⊥
+some-command commands index rest size read lines below reads none =
+    let n = next-of commands index rest size read lines below reads in
+    let e = n.is in
+    cc
+
+pub next-command : (commands : List Command) (index : ℕ) (rest : List ℕ) (size : ℕ) (read : Option Command) (command : Command)
+    → AreLinesOf rest (drop index commands) → index < length commands → Reads rest size read → read ≡ Some command
+    → (others : List Command) × (drop index commands ≡ command ∷ others) × AreLinesOf (drop size rest) (drop (index + 1) commands)
+next-command commands index rest size read command lines below reads is =
+    let n = next-of commands index rest size read lines below reads in
+    let same : n.first ≡ command = ap (λ o. unwrap_or o n.first) (sym n.is ∙ is) in
+    (n.others, n.at ∙ ap (λ c. c ∷ n.others) same, n.behind)
+
+pub none-else : (o : Option Command) → ((c : Command) → o ≡ Some c → ⊥) → o ≡ None
+none-else None h = refl
+none-else (Some c) h = absurd (h c refl)

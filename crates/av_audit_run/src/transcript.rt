@@ -1,22 +1,24 @@
 //! A trace is read, and then its transcript judged, unit by unit.
 
-ghost use Rattle.std.specs.Prelude.{◌≡◌, ◌≤◌, [], IfOk, IfErr, length, true};
+ghost use Rattle.std.specs.Prelude.{◌≡◌, ◌≤◌, List, [], IfOk, IfErr, drop, length, true};
 ghost use Rattle.av_ports.specs.Ports.{undone};
+ghost use Rattle.av_trace.specs.declared.command.Command.{Command};
 ghost use Rattle.av_plain.specs.Ledger.{first_ledger};
 ghost use Rattle.av_book.specs.Machine.{setting_of};
 ghost use Rattle.av_audit.specs.Judge.{IsAt, machine_of, phase_of};
 ghost use Rattle.av_audit.specs.Swap.{FitsWords};
 ghost use Rattle.av_audit.specs.declared.auditor.Phase.TheVariants.{Going};
 ghost use Rattle.av_audit_input.specs.Input.{FailsOnly, IsEnded, IsNoPortErr, OnlyReads};
+ghost use Rattle.av_audit_input.specs.Script.{IsScript};
 ghost use Rattle.av_audit_input.specs.Trace.{most_lines};
 ghost use Rattle.av_audit_input.specs.Unit.{most_bytes};
 ghost use Rattle.av_audit_run.specs.Transcript.{AuditStops, Audits, BreaksOff, Judges, finding_of};
 
 use av_audit::{Auditor, Verdict};
-use av_audit_input::{Extent, InputErr, read_trace, read_unit};
+use av_audit_input::{Extent, InputErr, Script, read_command, read_trace, read_unit};
 use av_book::Machine;
 use av_ports::{Pending, Ports};
-use av_trace::Command;
+use av_text::Bytes;
 use std::alloc::Global;
 
 /// What an audit finds: the transcript is legal, or the reply of this number, from 1, isn't.
@@ -36,10 +38,19 @@ fn finding_at(verdict: Verdict, number: u32) -> Option<Finding>
     }
 }
 
+/// What comes behind so many bytes.
+fn behind(text: &[u8], size: usize) -> &[u8]
+    requires { size ≤ length text.now }
+    ensures { result.now ≡ drop size text.now }
+{
+    &text[size..]
+}
+
 /// Reads a unit for each command, and judges it, up to the first that isn't legal.
 fn judge_all<P: Ports>(
+    alloc: Global,
     auditor: &mut Auditor,
-    commands: &[Command],
+    script: &Script,
     ports: &mut P,
     pending: &mut Pending,
     extent: &mut Extent,
@@ -48,32 +59,44 @@ fn judge_all<P: Ports>(
     requires first { IsAt auditor.old [] first_ledger }
     requires going { phase_of auditor.old ≡ Going }
     requires words { FitsWords (machine_of auditor.old) }
-    requires few { length commands.now ≤ most_lines }
+    requires few { script.now.count ≤ most_lines }
     requires all { extent.old.left ≡ most_bytes }
     requires ended { extent.old.ended ≡ true → IsEnded pending.old (P.view ports.old) }
-    ensures judges { IfOk result (λ finding. Judges finding (setting_of (machine_of auditor.old))
-        commands.now (undone pending.old (P.view ports.old)) (undone pending.new (P.view ports.new))
+    ensures judges { IfOk result (λ finding. (commands : List Command)
+        → IsScript script.now commands
+        → Judges finding (setting_of (machine_of auditor.old)) commands
+        (undone pending.old (P.view ports.old)) (undone pending.new (P.view ports.new))
         (IsEnded pending.new (P.view ports.new))) }
-    ensures stops { IfErr result (λ e. BreaksOff e (setting_of (machine_of auditor.old))
-        commands.now (undone pending.old (P.view ports.old))) }
+    ensures stops { IfErr result (λ e. (commands : List Command) → IsScript script.now commands
+        → BreaksOff e (setting_of (machine_of auditor.old)) commands
+        (undone pending.old (P.view ports.old))) }
     ensures only { OnlyReads (P.view ports.old) (P.view ports.new) }
     ensures fails { FailsOnly result (P.view ports.old) (P.view ports.new) }
     ensures over { extent.old.ended ≡ true → IfErr result IsNoPortErr }
     ensures kept { P.kept ports.new ≡ P.kept ports.old }
 {
-    for (index, command) in commands.iter().enumerate() {
-        let number = index as u32 + 1;
+    let mut spare = Bytes::new(alloc);
+    let mut command = None;
+    let mut rest = script.text.as_slice();
+    for index in 0..script.count {
+        let number = index + 1;
         if !read_unit(ports, pending, extent, unit)? {
             return Ok(Finding::Illegal(number));
         }
-        let verdict = auditor.judge(command, unit.as_slice())?;
+        let size = read_command(alloc, rest, &mut spare, &mut command)?;
+        rest = behind(rest, size);
+        let Some(next) = &command else {
+            // The unit comes behind the last command.
+            return Ok(Finding::Illegal(number));
+        };
+        let verdict = auditor.judge(next, unit.as_slice())?;
         match finding_at(verdict, number) {
             Some(finding) => return Ok(finding),
             None => {}
         }
     }
     if read_unit(ports, pending, extent, unit)? {
-        return Ok(Finding::Illegal(commands.len() as u32 + 1));
+        return Ok(Finding::Illegal(script.count + 1));
     }
     Ok(Finding::Legal)
 }
@@ -90,13 +113,14 @@ pub fn audit<P: Ports>(alloc: Global, machine: Machine, ports: &mut P) -> Result
     ensures kept { P.kept ports.new ≡ P.kept ports.old }
 {
     let mut pending = Pending::new(alloc)?;
-    let mut commands = Vec::new(alloc);
-    let ended = read_trace(alloc, ports, &mut pending, &mut commands)?;
+    let mut script = Script::new(alloc);
+    let ended = read_trace(alloc, ports, &mut pending, &mut script)?;
     let mut auditor = Auditor::new(alloc, machine);
     let mut unit = Vec::new(alloc);
     judge_all(
+        alloc,
         &mut auditor,
-        &commands,
+        &script,
         ports,
         &mut pending,
         &mut Extent::new(ended),
