@@ -135,8 +135,8 @@ fn take_mark<P: Ports>(ports: &mut P, pending: &mut Pending) -> Result<bool, Inp
     Ok(line.whole == line.size)
 }
 
-/// Reads a trace up to the line `%%`, which is taken, or to the end of the input, and keeps the lines
-/// that say commands; none are kept before. Says whether the input has ended.
+/// Reads a trace up to the line `%%`, which is taken, or to the end of the input, and keeps the
+/// lines that say commands; none are kept before. Says whether the input has ended.
 pub fn read_trace<P: Ports>(
     alloc: Global,
     ports: &mut P,
