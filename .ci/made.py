@@ -61,7 +61,7 @@ CARRIERS = {
     "av_neighbour_judge": "judges_merge judges_compact",
     "av_machine": "read_machine",
     "av_audit": "Auditor",
-    "av_audit_input": "read_trace read_unit",
+    "av_audit_input": "Script read_command read_trace read_unit",
     "av_audit_run": "audit audits_of_inputs legal_or_stopped stopped_once",
     "av_swap_laws": "frames_are_put slots_are_loaded slots_are_dropped soundness_goes_on",
     "av_evict": "System reclaim age complete seek",
