@@ -13,15 +13,17 @@ use Rattle.av_plain.specs.Transcript.{Exchange}
 use Rattle.av_kernel.specs.Machine.{Machine}
 use Rattle.av_machine.specs.Heads.{IsSettingOf}
 use Rattle.av_mem.proofs.ServesLaws.{same-setting}
+use Rattle.av_io.specs.Sink.{Gained}
 use Rattle.av_ports.specs.Line.{IsLine}
 use Rattle.av_ports.specs.Ports.{IsAtEnd, PortsView}
 use Rattle.av_laws.proofs.ReadBack.Device.{small-device}
 use Rattle.av_audit_input.specs.Trace.{IsTraceLine}
 use Rattle.av_audit_input.specs.Unit.{units_of}
+use Rattle.av_audit_input.specs.declared.input_err.InputErr.{InputErr}
 use Rattle.av_audit_input.specs.declared.input_err.InputErr.TheVariants as input
-use Rattle.av_audit_run.specs.Transcript.{AreLegal}
+use Rattle.av_audit_run.specs.Transcript.{AreLegal, AuditStops}
 use Rattle.av_words.specs.declared.words.Asked.{Asked}
-use Rattle.av_replay.specs.Audit.{EndsAudit}
+use Rattle.av_replay.specs.Audit.{EndsAudit, legal_text}
 use Rattle.av_replay.specs.Over.{AuditsOver, DoesOver, ReplaysOver}
 use Rattle.av_replay.specs.Replay.{Transcribes}
 use Rattle.av_replay.specs.TopCall.{DoesAsked}
@@ -29,10 +31,10 @@ use Rattle.av_replay.specs.Trace.{lines_of}
 use Rattle.av_replay.specs.declared.status.Status.{Status}
 use Rattle.av_replay.specs.declared.status.Status.TheVariants as statuses
 use Rattle.av_replay.proofs.Traces.{all_done}
-use Rattle.av_round_laws.specs.Round.{AuditEnds, FindsNoneIllegal, RunWrites, SayAlike, input_of}
+use Rattle.av_round_laws.specs.Round.{AuditEnds, FindsLegal, RunWrites, SayAlike, input_of}
 use Rattle.av_round_laws.proofs.Legal.{none-illegal, units-legal}
 use Rattle.av_round_laws.proofs.Commands.{commands_of, in-range, no-more, unmarked}
-use Rattle.av_round_laws.proofs.Stops.{audit-stops}
+use Rattle.av_round_laws.proofs.Stops.{MayStop, audit-stops}
 use Rattle.av_round_laws.proofs.Asks.{asks-audit, asks-run}
 
 -- ---- a run
@@ -134,38 +136,46 @@ module _ (frames : ℕ) (trace transcript : List ℕ) (device : Device) (run : I
       none-illegal (lines_of trace) run.es transcript m n old new run.lines run.did
       (subst (λ (m : Setting). AreLegal m (commands_of run.es) (units_of transcript)) (sym same) run.legal) read ends.0
 
-  audit-ends : (status : Status) (m : Setting) (old new : PortsView) → (new.device ≡ old.device → m ≡ setting_of frames device)
-      → old.source.left ≡ Some (input_of trace transcript) → EndsAudit status m old new → FindsNoneIllegal status transcript
-  audit-ends (statuses.Illegal n) m old new same read ends = none-found n m old new (same ends.1.device) read ends
-  audit-ends (statuses.BadLine n) m old new same read ends =
-      audit-stops (lines_of trace) run.es transcript run.lines run.few run.did (input.BadLine n) m old new read ends.0
-  audit-ends statuses.TooMany m old new same read ends =
-      audit-stops (lines_of trace) run.es transcript run.lines run.few run.did input.TooMany m old new read ends.0
-  audit-ends statuses.TooLong m old new same read ends =
-      audit-stops (lines_of trace) run.es transcript run.lines run.few run.did input.TooLong m old new read ends.0
-  audit-ends statuses.Done m old new same read ends = tt
-  audit-ends statuses.ReadFault m old new same read ends = tt
-  audit-ends statuses.WriteFault m old new same read ends = tt
-  audit-ends statuses.Memory m old new same read ends = tt
-  audit-ends statuses.Usage m old new same read ends = ends
-  audit-ends statuses.AttachFault m old new same read ends = ends
+  stops-by : (error : InputErr) (m : Setting) (old new : PortsView) (attached : Device) → old.source.left ≡ Some (input_of trace transcript)
+      → AuditStops error m (record old { device = attached }) new → MayStop error transcript
+  stops-by error m old new attached read stops =
+      audit-stops (lines_of trace) run.es transcript run.lines run.few run.did error m (record old { device = attached }) new read stops
+
+  -- an audit that began with these areas attached
+  audit-ends : (status : Status) (m : Setting) (old new : PortsView) (attached : Device) → (new.device ≡ attached → m ≡ setting_of frames device)
+      → old.source.left ≡ Some (input_of trace transcript) → EndsAudit status m (record old { device = attached }) new
+      → FindsLegal status transcript old new
+  audit-ends (statuses.Illegal n) m old new attached same read ends =
+      none-found n m (record old { device = attached }) new (same ends.1.device) read ends
+  audit-ends (statuses.BadLine n) m old new attached same read ends = stops-by (input.BadLine n) m old new attached read ends.0
+  audit-ends statuses.TooMany m old new attached same read ends = stops-by input.TooMany m old new attached read ends.0
+  audit-ends statuses.TooLong m old new attached same read ends = stops-by input.TooLong m old new attached read ends.0
+  audit-ends statuses.Done m old new attached same read ends =
+      subst (λ (held : Option (List ℕ)). Gained held new.sink.held legal_text) ends.1.1.held ends.3.0
+  audit-ends statuses.ReadFault m old new attached same read ends = ends.2.read
+  audit-ends statuses.WriteFault m old new attached same read (inl stops) = stops.2.sink.told
+  audit-ends statuses.WriteFault m old new attached same read (inr writes) = writes.3.2.told
+  audit-ends statuses.Memory m old new attached same read ends = tt
+  audit-ends statuses.Usage m old new attached same read ends = ends
+  audit-ends statuses.AttachFault m old new attached same read ends = ends
 
   audit-over : (names : List (List ℕ)) (status : Status) (old new : PortsView) (other : Device) → new.device ≡ other → SayAlike device other
-      → AuditsOver frames names status old new → old.source.left ≡ Some (input_of trace transcript) → FindsNoneIllegal status transcript
+      → AuditsOver frames names status old new → old.source.left ≡ Some (input_of trace transcript) → FindsLegal status transcript old new
   audit-over names status old new other is alike over read =
       let does = over.does in
-      audit-ends status does.0 (record old { device = over.attached }) new
+      audit-ends status does.0 old new over.attached
       (λ (same : new.device ≡ over.attached). let d = sym same ∙ is in
       one-setting frames over.attached does.0 (ap (λ (d : Device). is_some d.pages) d ∙ alike.told) does.1
       ∙ ap (setting_of frames) d ∙ alike-setting frames device other alike)
       read does.2
 
 pub found-legal : (frames : ℕ) (trace transcript : List ℕ) (status : Status) (device other : Device) → RunWrites frames trace transcript device
-    → AuditEnds frames (input_of trace transcript) status other → SayAlike device other → FindsNoneIllegal status transcript
+    → (audit : AuditEnds frames (input_of trace transcript) status other) → SayAlike device other
+    → FindsLegal status transcript audit.old audit.new
 found-legal frames trace transcript status device other run h alike = by h.does
   where
-    by : DoesAsked h.words status h.old h.new h.kernel → FindsNoneIllegal status transcript
-    by (inl wants) = subst (λ (s : Status). FindsNoneIllegal s transcript) (sym wants.wanting) tt
+    by : DoesAsked h.words status h.old h.new h.kernel → FindsLegal status transcript h.old h.new
+    by (inl wants) = subst (λ (s : Status). FindsLegal s transcript h.old h.new) (sym wants.wanting) tt
     by (inr (demand, names, form, does)) =
         let over = subst (λ (d : Asked). DoesOver d names status h.old h.new h.kernel) (asks-audit h.words h.names names frames demand h.form form)
         does in

@@ -1,5 +1,5 @@
 -- An audit of lines, the mark and a transcript stops neither at a line nor behind the most lines.
-use Rattle.std.proofs.Common.{◌≡◌, ◌∙◌, ℕ, ◌≤◌, ◌^◌, Bool, true, false, sym, ap, subst, arith}
+use Rattle.std.proofs.Common.{◌≡◌, ◌∙◌, ℕ, ◌<◌, ◌≤◌, ◌^◌, Bool, true, false, sym, ap, subst, arith}
 use Rattle.std.proofs.Common.{List, [], ◌∷◌, ◌++◌, length, take, drop, Option, Some, append_assoc, inl, inr, length-append, length-take-le}
 use Rattle.std.specs.List.{AllByRecursion}
 use Rattle.std.proofs.lemmas.List.{take-append-drop}
@@ -13,17 +13,24 @@ use Rattle.av_ports.specs.Line.{IsLine, IsNoNewline, IsTooLong}
 use Rattle.av_ports.specs.Ports.{PortsView, undone}
 use Rattle.av_audit_input.specs.Input.{IsEnded}
 use Rattle.av_audit_input.specs.Trace.{EndsTrace, IsBad, IsNoMark, IsTraceLine, StopsWithin, TakesTrace, all_lines, mark}
-use Rattle.av_audit_input.specs.Unit.{bytes_of}
+use Rattle.av_audit_input.specs.Unit.{bytes_of, most_bytes}
 use Rattle.av_audit_input.specs.declared.input_err.InputErr.{InputErr}
 use Rattle.av_audit_input.specs.declared.input_err.InputErr.TheVariants as input
 use Rattle.av_audit_run.specs.Transcript.{AuditStops, BreaksOff, IsFront}
-use Rattle.av_replay.specs.Audit.{status_by}
 use Rattle.av_replay.specs.Replay.{Transcribes}
 use Rattle.av_replay.specs.Trace.{lines_of}
 use Rattle.av_replay.proofs.Traces.{Told, ended_is_nil, line_next, lines_of-joined, starts_long, told}
-use Rattle.av_round_laws.specs.Round.{FindsNoneIllegal}
 use Rattle.av_round_laws.proofs.Front.{begin, front-one, good-behind, marked}
 use Rattle.av_round_laws.proofs.Commands.{says-some}
+
+-- why an audit of a legal transcript may stop
+abbrev pub MayStop : InputErr → List ℕ → Type 0
+MayStop (input.BadLine n) transcript = ⊥
+MayStop input.TooMany transcript = ⊥
+MayStop input.TooLong transcript = most_bytes < length transcript
+MayStop input.Read transcript = Unit {0}
+MayStop input.Write transcript = Unit {0}
+MayStop input.Memory transcript = Unit {0}
 
 -- ---- the line that stands next
 
@@ -142,7 +149,7 @@ module _ (lines : List (List ℕ)) (es : List Exchange) (transcript : List ℕ) 
       by (line ∷ others) are next = omega (arith, few, most, ap length are, length-append front (line ∷ others))
 
   within : (error : InputErr) (ahead : List ℕ) (old now : PortsView) → undone [] old ≡ Some (marked lines ++ transcript)
-      → StopsWithin error [] ahead old now → FindsNoneIllegal (status_by error) transcript
+      → StopsWithin error [] ahead old now → MayStop error transcript
   within (input.BadLine n) ahead old now is h =
       none-bad h.lines ahead now (stand h.lines ahead old now h.trace.good is h.took) h.stops.1
   within input.TooMany ahead old now is h =
@@ -162,7 +169,7 @@ module _ (lines : List (List ℕ)) (es : List Exchange) (transcript : List ℕ) 
       t.left_is ∙ ap Some same.1
 
   breaks-off : (error : InputErr) (m : Setting) (commands : List Command) (before : Option (List ℕ)) → before ≡ Some transcript
-      → BreaksOff error m commands before → FindsNoneIllegal (status_by error) transcript
+      → BreaksOff error m commands before → MayStop error transcript
   breaks-off (input.BadLine n) m commands before is h = h.stops
   breaks-off input.TooMany m commands before is h = h.stops
   breaks-off input.TooLong m commands before is h =
@@ -176,8 +183,8 @@ module _ (lines : List (List ℕ)) (es : List Exchange) (transcript : List ℕ) 
   breaks-off input.Memory m commands before is h = tt
 
   pub audit-stops : (error : InputErr) (m : Setting) (old new : PortsView) → old.source.left ≡ Some (marked lines ++ transcript)
-      → AuditStops error m old new → FindsNoneIllegal (status_by error) transcript
-  audit-stops error m old new is (inl memory) = subst (λ e. FindsNoneIllegal (status_by e) transcript) (sym memory) tt
+      → AuditStops error m old new → MayStop error transcript
+  audit-stops error m old new is (inl memory) = subst (λ e. MayStop e transcript) (sym memory) tt
   audit-stops error m old new is (inr (inl (rest, h))) = within error rest old new (ap (in_front []) is) h
   audit-stops error m old new is (inr (inr (commands, ahead, between, end, takes, h))) =
       breaks-off error m commands (undone ahead between) (behind-trace end commands ahead old between (ap (in_front []) is) takes) h

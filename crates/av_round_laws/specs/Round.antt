@@ -2,11 +2,13 @@
 use Rattle.std.specs.Prelude.{◌≡◌, ℕ, ◌<◌, List, [], ◌∷◌, ◌++◌, length, Option, Some, is_some, true}
 use Rattle.av_plain.specs.Device.{Device, headers_of}
 use Rattle.av_kernel.specs.Machine.{Machine}
-use Rattle.av_ports.specs.Ports.{PortsView}
+use Rattle.av_io.specs.Sink.{Gained}
+use Rattle.av_ports.specs.Ports.{IsReadFault, PortsView}
 use Rattle.av_words.specs.Words.{IsForm}
 use Rattle.av_words.specs.declared.words.Asked.TheVariants as asked
 use Rattle.av_audit_input.specs.Trace.{all_lines, mark}
 use Rattle.av_audit_input.specs.Unit.{most_bytes}
+use Rattle.av_replay.specs.Audit.{legal_text}
 use Rattle.av_replay.specs.Trace.{lines_of}
 use Rattle.av_replay.specs.TopCall.{DoesAsked}
 use Rattle.av_replay.specs.declared.status.Status.{Status}
@@ -52,11 +54,12 @@ pub record SayAlike (device other : Device) : Type 0 where
   pub sizes : other.sizes ≡ device.sizes
   pub headers : headers_of other ≡ headers_of device
 
--- how an audit ends that finds nothing illegal in a transcript, which is too long only by so much
-abbrev pub FindsNoneIllegal : Status → List ℕ → Type 0
-FindsNoneIllegal statuses.Done transcript = Unit {0}
-FindsNoneIllegal statuses.Memory transcript = Unit {0}
-FindsNoneIllegal statuses.ReadFault transcript = Unit {0}
-FindsNoneIllegal statuses.WriteFault transcript = Unit {0}
-FindsNoneIllegal statuses.TooLong transcript = most_bytes < length transcript
-FindsNoneIllegal status transcript = ⊥
+-- how an audit ends of a transcript that is legal: it writes so, unless memory is wanting, its
+-- source or the last call of its sink failed, or the transcript is too long
+abbrev pub FindsLegal : Status → List ℕ → PortsView → PortsView → Type 0
+FindsLegal statuses.Done transcript old new = Gained old.sink.held new.sink.held legal_text
+FindsLegal statuses.Memory transcript old new = Unit {0}
+FindsLegal statuses.ReadFault transcript old new = IsReadFault old.source new.source
+FindsLegal statuses.WriteFault transcript old new = new.sink.last_failed ≡ true
+FindsLegal statuses.TooLong transcript old new = most_bytes < length transcript
+FindsLegal status transcript old new = ⊥
