@@ -1,4 +1,4 @@
--- The numbers of an out-of-memory by counts alone, where no frame is cached and none is locked.
+-- The numbers of an out-of-memory by counts alone, where no frame is locked.
 use Rattle.std.proofs.Common.{Bool, List, None, Option, Some, [], ap, arith, cond, false, is_none, is_some, nat_lt, not, refl, suc, sym, true, zero, ℕ, ◌&&◌, ◌++◌, ◌+◌, ◌-◌, ◌<◌, ◌==◌, ◌||◌, ◌∙◌, ◌∷◌, ◌≡◌, ◌≤◌}
 use Rattle.std.specs.List.{range_with_len}
 use Rattle.std.specs.Prelude.{MatchBool}
@@ -11,9 +11,10 @@ use Rattle.av_trace.specs.declared.reply.OutOf.{OutOf}
 use Rattle.av_plain.specs.Event.{after_notes}
 use Rattle.av_plain.specs.Ledger.{Ledger, Setting, is_merged, map_count, no_slot, slot_of}
 use Rattle.av_plain.specs.Pass.{IsSlotFor, Spared, frames_in_turn, has_turn, how_many_frames, is_dirty, is_pinned, is_stuck, out_of, turn_notes}
-use Rattle.av_plain.specs.Sound.{IsSound, uses}
+use Rattle.av_plain.specs.Sound.{IsSound, IsSoundBut, uses}
 use Rattle.av_plain.proofs.Event.{how_many-none}
-use Rattle.av_plain.proofs.Sound.Changes.{free-is}
+use Rattle.av_plain.proofs.Sound.Changes.{any-counts, free-is}
+use Rattle.av_plain.proofs.Sound.Counts.{pair-frame, slot_of-some}
 use Rattle.av_evict.specs.Pass.{AreTurns}
 use Rattle.av_evict.specs.Standing.{adds_unpinned, cached_count, can_go, merged_count, numbers_of, pinned_adds, stands_as}
 use Rattle.av_evict.specs.Steps.{closes}
@@ -64,6 +65,18 @@ range-both p a (suc n) = by (p a) _ _ (range-both p (a + 1) n)
     by true j k h = omega (arith, h)
     by false j k h = omega (arith, h)
 
+-- those that pass a test which is narrower, and the others
+range-within : (p q : ℕ → Bool) (a n : ℕ) → ((f : ℕ) → q f ≡ true → p f ≡ true) →
+    how_many q (range_with_len a n) + how_many (λ f. p f && not (q f)) (range_with_len a n) ≡ how_many p (range_with_len a n)
+range-within p q a zero within = refl
+range-within p q a (suc n) within = by (p a) (q a) _ _ _ (within a) (range-within p q (a + 1) n within)
+  where
+    by : (b c : Bool) (i j k : ℕ) → (c ≡ true → b ≡ true) → i + j ≡ k → (cond c 1 0 + i) + (cond (b && not c) 1 0 + j) ≡ cond b 1 0 + k
+    by true true i j k h e = omega (arith, e)
+    by true false i j k h e = omega (arith, e)
+    by false false i j k h e = omega (arith, e)
+    by false true i j k h e = let z = h refl in cc
+
 -- all but one, where it is among them
 range-less : (p : ℕ → Bool) (x a n : ℕ) → a ≤ x → x < a + n →
     how_many (λ f. not (x == f) && p f) (range_with_len a n) + cond (p x) 1 0 ≡ how_many p (range_with_len a n)
@@ -110,46 +123,89 @@ frames-less m p (Some x) = by (nat_lt x m.frames) refl
     by false is = plus_zero _ _ (range-same (λ f. not (x == f) && p f) p 0 m.frames
         (λ f low high. ap (λ b. not b && p f) (let other : (x == f) ≡ false = grind (arith, nat_tests) in other)))
 
--- where no frame is cached or locked, the numbers are these
+-- a merged frame is not cached
+merged-uncached : (m : Setting) (excuse : Slot → ℕ) (l : Ledger) → IsSoundBut m excuse l → (f : ℕ) → is_merged l f ≡ true → is_some (slot_of l f) ≡ false
+merged-uncached m excuse l sound f is = by (slot_of l f) refl
+  where
+    some : (n : ℕ) → nat_lt 0 n ≡ true → 0 < n
+    some n e = grind (arith, nat_tests, e)
+
+    by : (o : Option Slot) → slot_of l f ≡ o → is_some o ≡ false
+    by None at = refl
+    by (Some t) at =
+        let p = slot_of-some f t l.cache at in
+        let q = pair-frame t f l.cache in
+        let once = sound.frames_once f in
+        let h = some _ (sym (any-counts (λ g. f == g) l.merged) ∙ is) in
+        absurd (omega (arith, h, p, q, once))
+
+-- where no frame is locked, the numbers are these
 pub record AreCounts (m : Setting) (sp : Spared) (l : Ledger) : Type 0 where
-  pub noslot : (out_of m sp l).noslot ≡ (m.frames - merged_count m l) - (pinned_adds m sp l).noslot
-  pub fault : (out_of m sp l).fault ≡ 0
+  pub noslot : (out_of m sp l).noslot ≡ (m.frames - merged_count m l - cached_count m l) - (pinned_adds m sp l).noslot
+  pub fault : (out_of m sp l).fault ≡ cached_count m l - (pinned_adds m sp l).fault
   pub locked : (out_of m sp l).locked ≡ 0
   pub ksm : (out_of m sp l).ksm ≡ merged_count m l - (pinned_adds m sp l).ksm
   -- and nothing that is taken away is more than what is there
-  pub some : merged_count m l ≤ m.frames
-  pub some_noslot : (pinned_adds m sp l).noslot ≤ m.frames - merged_count m l
+  pub some : merged_count m l + cached_count m l ≤ m.frames
+  pub some_noslot : (pinned_adds m sp l).noslot ≤ m.frames - merged_count m l - cached_count m l
+  pub some_fault : (pinned_adds m sp l).fault ≤ cached_count m l
   pub some_ksm : (pinned_adds m sp l).ksm ≤ merged_count m l
 
-pub are-counts : (m : Setting) (sp : Spared) (l : Ledger) → cached_count m l ≡ 0 → ((f : ℕ) → sp.locked f ≡ false) → AreCounts m sp l
-are-counts m sp l none unlocked = record {
-  noslot = (let a = noslot in let b = frames-less m (λ f. not (is_merged l f)) sp.pinned in let c = rest in let d = add_noslot sp.pinned in omega (arith, a, b, c, d));
-  fault = fault;
+pub are-counts : (m : Setting) (excuse : Slot → ℕ) (sp : Spared) (l : Ledger) → IsSoundBut m excuse l → ((f : ℕ) → sp.locked f ≡ false)
+    → AreCounts m sp l
+are-counts m excuse sp l sound unlocked = record {
+  noslot = (let a = noslot in let b = frames-less m bare sp.pinned in let c = rest in let d = add_noslot sp.pinned in omega (arith, a, b, c, d));
+  fault = (let a = fault in let b = frames-less m cached sp.pinned in let d = add_fault sp.pinned in omega (arith, a, b, d));
   locked = locked;
   ksm = (let a = ksm in let b = frames-less m (is_merged l) sp.pinned in let d = add_ksm sp.pinned in omega (arith, a, b, d));
   some = (let c = rest in omega (arith, c));
-  some_noslot = (let b = frames-less m (λ f. not (is_merged l f)) sp.pinned in let c = rest in let d = add_noslot sp.pinned in omega (arith, b, c, d));
+  some_noslot = (let b = frames-less m bare sp.pinned in let c = rest in let d = add_noslot sp.pinned in omega (arith, b, c, d));
+  some_fault = (let b = frames-less m cached sp.pinned in let d = add_fault sp.pinned in omega (arith, b, d));
   some_ksm = (let b = frames-less m (is_merged l) sp.pinned in let d = add_ksm sp.pinned in omega (arith, b, d));
 }
   where
-    rest : merged_count m l + how_many_frames m (λ f. not (is_merged l f)) ≡ m.frames
-    rest = range-both (is_merged l) 0 m.frames
+    cached : ℕ → Bool
+    cached f = is_some (slot_of l f)
 
-    uncached : (f : ℕ) → f < 0 + m.frames → slot_of l f ≡ None
-    uncached f high = by (slot_of l f) (range-none (λ f. is_some (slot_of l f)) 0 m.frames none f (omega arith) high)
-      where
-        by : (o : Option Slot) → is_some o ≡ false → o ≡ None
-        by None h = refl
-        by (Some s) h = cc
+    -- neither merged nor cached
+    bare : ℕ → Bool
+    bare f = not (is_merged l f) && is_none (slot_of l f)
 
-    -- one that is not pinned has no slot, or is merged
-    at_noslot : (p : Bool) (f : ℕ) → f < 0 + m.frames → ((not (p || sp.locked f) && not (is_merged l f)) && is_none (slot_of l f)) ≡ (not p && not (is_merged l f))
-    at_noslot p f high = (λ i. (not (p || unlocked f i) && not (is_merged l f)) && is_none (uncached f high i)) ∙ by p (is_merged l f)
+    apart : (f : ℕ) → cached f ≡ true → not (is_merged l f) ≡ true
+    apart f is = by (is_merged l f) (merged-uncached m excuse l sound f)
       where
-        by : (p k : Bool) → ((not (p || false) && not k) && true) ≡ (not p && not k)
-        by true k = refl
-        by false true = refl
-        by false false = refl
+        by : (b : Bool) → (b ≡ true → cached f ≡ false) → not b ≡ true
+        by false h = refl
+        by true h = absurd (false≢true (sym (h refl) ∙ is))
+
+    not_some : (b : Bool) (o : Option Slot) → (b && not (is_some o)) ≡ (b && is_none o)
+    not_some b None = refl
+    not_some b (Some s) = refl
+
+    rest : (merged_count m l + cached_count m l) + how_many_frames m bare ≡ m.frames
+    rest =
+        let a = range-both (is_merged l) 0 m.frames in
+        let b = range-within (λ f. not (is_merged l f)) cached 0 m.frames apart in
+        let c = range-same (λ f. not (is_merged l f) && not (cached f)) bare 0 m.frames (λ f low high. not_some (not (is_merged l f)) (slot_of l f)) in
+        omega (arith, a, b, c)
+
+    -- one that is not pinned and not merged, and has no slot
+    at_noslot : (p : Bool) (f : ℕ) → ((not (p || sp.locked f) && not (is_merged l f)) && is_none (slot_of l f)) ≡ (not p && bare f)
+    at_noslot p f = (λ i. (not (p || unlocked f i) && not (is_merged l f)) && is_none (slot_of l f)) ∙ by p (is_merged l f) (is_none (slot_of l f))
+      where
+        by : (p k n : Bool) → ((not (p || false) && not k) && n) ≡ (not p && (not k && n))
+        by true k n = refl
+        by false true n = refl
+        by false false n = refl
+
+    at_fault : (p : Bool) (f : ℕ) → ((not (p || sp.locked f) && not (is_merged l f)) && cached f) ≡ (not p && cached f)
+    at_fault p f = (λ i. (not (p || unlocked f i) && not (is_merged l f)) && cached f) ∙ by p (is_merged l f) (cached f) (apart f)
+      where
+        by : (p k c : Bool) → (c ≡ true → not k ≡ true) → ((not (p || false) && not k) && c) ≡ (not p && c)
+        by true k c h = refl
+        by false false c h = refl
+        by false true false h = refl
+        by false true true h = h refl
 
     at_ksm : (p : Bool) (f : ℕ) → (not (p || sp.locked f) && is_merged l f) ≡ (not p && is_merged l f)
     at_ksm p f = (λ i. not (p || unlocked f i) && is_merged l f) ∙ by p
@@ -158,15 +214,15 @@ are-counts m sp l none unlocked = record {
         by true = refl
         by false = refl
 
-    noslot : (out_of m sp l).noslot ≡ how_many_frames m (λ f. not (is_pinned sp.pinned f) && not (is_merged l f))
-    noslot = range-same _ _ 0 m.frames (λ f low high. at_noslot (is_pinned sp.pinned f) f high)
+    noslot : (out_of m sp l).noslot ≡ how_many_frames m (λ f. not (is_pinned sp.pinned f) && bare f)
+    noslot = range-same _ _ 0 m.frames (λ f low high. at_noslot (is_pinned sp.pinned f) f)
+
+    fault : (out_of m sp l).fault ≡ how_many_frames m (λ f. not (is_pinned sp.pinned f) && cached f)
+    fault = range-same _ _ 0 m.frames (λ f low high. at_fault (is_pinned sp.pinned f) f)
 
     and_false : (b : Bool) → (b && false) ≡ false
     and_false true = refl
     and_false false = refl
-
-    fault : (out_of m sp l).fault ≡ 0
-    fault = range-zero _ 0 m.frames (λ f low high. (λ i. has_turn sp l f && is_some (uncached f high i)) ∙ and_false (has_turn sp l f))
 
     locked : (out_of m sp l).locked ≡ 0
     locked = range-zero _ 0 m.frames (λ f low high. (λ i. not (is_pinned sp.pinned f) && unlocked f i) ∙ and_false (not (is_pinned sp.pinned f)))
@@ -178,15 +234,21 @@ are-counts m sp l none unlocked = record {
     counted : (x : ℕ) → Counts (record sp { pinned = None }) l x (numbers_of (stands_as (record sp { pinned = None }) l x))
     counted x = counts-of (record sp { pinned = None }) l x (stands_as (record sp { pinned = None }) l x) _ refl refl
 
-    add_noslot : (o : Option ℕ) → (adds_unpinned m sp l o).noslot ≡ adds m (λ f. not (is_merged l f)) o
+    add_noslot : (o : Option ℕ) → (adds_unpinned m sp l o).noslot ≡ adds m bare o
     add_noslot None = refl
-    add_noslot (Some x) = by (nat_lt x m.frames) refl
+    add_noslot (Some x) = by (nat_lt x m.frames)
       where
-        by : (b : Bool) → nat_lt x m.frames ≡ b → (numbers_of (cond b (stands_as (record sp { pinned = None }) l x) Pinned)).noslot ≡
-            cond b (cond (not (is_merged l x)) 1 0) 0
-        by true is = (counted x).noslot
-            ∙ ap (λ b. cond b 1 0) (at_noslot false x (let less : x < m.frames = grind (arith, nat_tests) in omega (arith, less)))
-        by false is = refl
+        by : (b : Bool) → (numbers_of (cond b (stands_as (record sp { pinned = None }) l x) Pinned)).noslot ≡ cond b (cond (bare x) 1 0) 0
+        by true = (counted x).noslot ∙ ap (λ b. cond b 1 0) (at_noslot false x)
+        by false = refl
+
+    add_fault : (o : Option ℕ) → (adds_unpinned m sp l o).fault ≡ adds m cached o
+    add_fault None = refl
+    add_fault (Some x) = by (nat_lt x m.frames)
+      where
+        by : (b : Bool) → (numbers_of (cond b (stands_as (record sp { pinned = None }) l x) Pinned)).fault ≡ cond b (cond (cached x) 1 0) 0
+        by true = (counted x).fault ∙ ap (λ b. cond b 1 0) (at_fault false x)
+        by false = refl
 
     add_ksm : (o : Option ℕ) → (adds_unpinned m sp l o).ksm ≡ adds m (is_merged l) o
     add_ksm None = refl
@@ -197,13 +259,14 @@ are-counts m sp l none unlocked = record {
         by false = refl
 
 -- so they are had by counts that are kept
-pub counts-are : (m : Setting) (sp : Spared) (l : Ledger) (out less : OutOf) (n merged : ℕ) → AreCounts m sp l → n ≡ m.frames → merged ≡ merged_count m l →
-    less ≡ pinned_adds m sp l → out.pinned ≡ (out_of m sp l).pinned → out.noslot ≡ (n - merged) - less.noslot → out.fault ≡ 0 → out.locked ≡ 0 →
-    out.ksm ≡ merged - less.ksm → out ≡ out_of m sp l
-counts-are m sp l out less n merged are frames is adds pinned noslot fault locked ksm = λ i. record {
+pub counts-are : (m : Setting) (sp : Spared) (l : Ledger) (out less : OutOf) (n merged cached : ℕ) → AreCounts m sp l → n ≡ m.frames
+    → merged ≡ merged_count m l → cached ≡ cached_count m l → less ≡ pinned_adds m sp l → out.pinned ≡ (out_of m sp l).pinned
+    → out.noslot ≡ (n - merged - cached) - less.noslot → out.fault ≡ cached - less.fault → out.locked ≡ 0 → out.ksm ≡ merged - less.ksm
+    → out ≡ out_of m sp l
+counts-are m sp l out less n merged cached are frames is holds adds pinned noslot fault locked ksm = λ i. record {
   pinned = pinned i;
-  noslot = (noslot ∙ (λ j. (frames j - is j) - (adds j).noslot) ∙ sym are.noslot) i;
-  fault = (fault ∙ sym are.fault) i;
+  noslot = (noslot ∙ (λ j. (frames j - is j - holds j) - (adds j).noslot) ∙ sym are.noslot) i;
+  fault = (fault ∙ (λ j. holds j - (adds j).fault) ∙ sym are.fault) i;
   locked = (locked ∙ sym are.locked) i;
   ksm = (ksm ∙ (λ j. is j - (adds j).ksm) ∙ sym are.ksm) i;
 }

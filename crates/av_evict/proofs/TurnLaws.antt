@@ -223,6 +223,15 @@ turn-both m closing l f s false ns ms sent out = by (is_stuck m (closes closing)
 
 -- ---- a frame that is left alone has no turn
 
+pub stuck-turn : (m : Setting) (sp : Spared) (l : Ledger) (f : ℕ) → is_stuck m (closes sp.closing) l f ≡ true → IsTurnIfAny m sp f false l []
+stuck-turn m sp l f stuck = by (has_turn sp l f)
+  where
+    by : (b : Bool) → InVain m sp.closing l (cond b (f ∷ []) []) []
+    by true = subst (λ b. MatchBool b (InVain m sp.closing l [] [])
+        ((s : Slot) × (rest : List Note) × IsSlotFor m (closes sp.closing) l f s × (is_dirty l f s ≡ true)
+        × ([] ≡ turn_notes l f s true ++ rest) × InVain m sp.closing (after_notes l (turn_notes l f s true)) [] rest)) (sym stuck) refl
+    by false = refl
+
 pub no-turn : (m : Setting) (sp : Spared) (l : Ledger) (f : ℕ) → has_turn sp l f ≡ false → IsTurnIfAny m sp f false l []
 no-turn m sp l f is = by (has_turn sp l f) is
   where

@@ -15,7 +15,7 @@ pub fn out_of<S: System>(system: &S, pinned: Option<u32>) -> OutOf
     ensures { (told : Bool) → let now = S.view system.now told in Tells now (λ l.
         result ≡ numbers now.setting (spares now pinned) l) }
 {
-    if has_cached(system) || system.any_locked() {
+    if system.any_locked() {
         return out_of_each(system, pinned);
     }
     out_of_counts(system, pinned)
@@ -55,23 +55,22 @@ fn out_of_each<S: System>(system: &S, pinned: Option<u32>) -> OutOf
     }
 }
 
-// The same by counts alone, where no frame is cached and none is locked: all but the pinned one are
-// merged, or have no slot.
+// The same by counts alone, where none is locked: of all but the pinned one some are merged, others
+// are cached, and the rest have no slot.
 fn out_of_counts<S: System>(system: &S, pinned: Option<u32>) -> OutOf
     requires stands { Knows (S.view system.now false) Always }
-    requires uncached { (told : Bool) → let now = S.view system.now told in Tells now (λ l.
-        cached_count now.setting l ≡ 0) }
     requires unlocked { (told : Bool) → (f : ℕ) → (S.view system.now told).locked f ≡ false }
     ensures { (told : Bool) → let now = S.view system.now told in Tells now (λ l.
         result ≡ numbers now.setting (spares now pinned) l) }
 {
     let merged = system.merged_len();
-    let unmerged = system.frames() - merged;
+    let cached = system.cached_len();
+    let rest = system.frames() - merged - cached;
     let less = adds_of_pinned(system, pinned);
     OutOf {
         pinned: u32::from(pinned.is_some()),
-        noslot: unmerged - less.noslot,
-        fault: 0,
+        noslot: rest - less.noslot,
+        fault: cached - less.fault,
         locked: 0,
         ksm: merged - less.ksm,
     }

@@ -1,9 +1,10 @@
 //! A frame's turn in the direct pass.
 
-ghost use Rattle.std.specs.Prelude.{◌≡◌, ◌∷◌, [], IfOk, Bool, false};
+ghost use Rattle.std.specs.Prelude.{◌≡◌, ◌∷◌, ◌<◌, [], IfOk, Bool, false};
 ghost use Rattle.av_trace.specs.declared.note.Note.TheVariants.{Started};
-ghost use Rattle.av_plain.specs.Pass.{end_note};
-ghost use Rattle.av_evict.specs.System.{Adds, Gives, IsAt, Leaves, spares};
+ghost use Rattle.av_plain.specs.Pass.{end_note, is_stuck as has_no_slot};
+ghost use Rattle.av_evict.specs.Steps.{closes};
+ghost use Rattle.av_evict.specs.System.{Adds, Gives, IsAt, Leaves, Tells, spares};
 ghost use Rattle.av_evict.specs.Turn.{IsCleaned, IsEvicted, IsSentTo, IsTurn, IsTurnIfAny};
 ghost use Rattle.av_evict.specs.Turn.{MayTurn, MayTurnNow};
 
@@ -27,12 +28,25 @@ pub fn turn_if_any<S: System>(
         (IsTurnIfAny old.setting (spares old pinned) frame freed)) }
     ensures stays { (told : Bool) → Leaves (S.view system.old told) (S.view system.new told) }
 {
+    // First of all: where slots are wanting, that is all which is asked of most frames.
+    if is_stuck(system, frame) {
+        return Ok(false);
+    }
     let standing = standing_of(system, pinned, frame);
     if !gets_turn(standing) {
         return Ok(false);
     }
     let freed = turn(system, frame, notes)?;
     Ok(freed)
+}
+
+// Whether the frame isn't cached, and no slot may be given.
+fn is_stuck<S: System>(system: &S, frame: u32) -> bool
+    requires { frame < (S.view system.now false).setting.frames }
+    ensures { (told : Bool) → let now = S.view system.now told in
+        Tells now (λ l. result ≡ has_no_slot now.setting (closes now.closing) l frame) }
+{
+    system.slot(frame).is_none() && !system.has_slot()
 }
 
 // A frame that is neither locked nor merged has its turn. Whether it is free then.

@@ -4,8 +4,19 @@ use Rattle.av_evict.specs.System.{spares}
 use Rattle.av_evict.specs.Turn.{IsTurn, IsTurnIfAny, MayTurn, MayTurnNow}
 use Rattle.av_evict.proofs.StandingLaws.{standing-turn, standing-unlocked}
 use Rattle.av_evict.proofs.SystemLaws.{gives-as, gives-none, loose}
-use Rattle.av_evict.proofs.TurnLaws.{no-turn, turn-if_any, turn-now}
+use Rattle.av_evict.proofs.TurnLaws.{no-turn, stuck-turn, turn-if_any, turn-now}
 use Rattle.av_evict.proofs.turn.turn_if_any.Goals as goal
+
+pub is_stuck-requires : goal.is_stuck-requires
+is_stuck-requires g c = let at = c.requires in at.1.in_range c.args.frame at.3.used
+
+pub returns-then-is_stuck-clause-gives : goal.returns-then-is_stuck-clause-gives
+returns-then-is_stuck-clause-gives g c = λ told.
+    let k = g.S.System.view c.args.system.now told in
+    let f = c.args.frame in
+    let sp = spares k c.args.pinned in
+    gives-none _ c.args.notes.now (MayTurn f) (IsTurnIfAny k.setting sp f false)
+    (λ l sound stands may. stuck-turn k.setting sp l f (sym (c.is_stuck.ensures told l (loose _ _ l sound) stands) ∙ c.if-is_stuck.true))
 
 pub standing_of-standing-requires-clause-in_range : goal.standing_of-standing-requires-clause-in_range
 standing_of-standing-requires-clause-in_range g c = let at = c.requires in at.1.in_range c.args.frame at.3.used
