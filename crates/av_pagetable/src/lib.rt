@@ -9,7 +9,9 @@
 
 mod dir;
 mod level;
+mod marks;
 mod middle;
+mod places;
 mod pte;
 mod radix;
 mod table;
