@@ -7,12 +7,11 @@ use Rattle.std.specs.Ordering.{is_lt}
 use Rattle.std.specs.Prelude.{IfSome}
 use Rattle.av_base.specs.Keys.{Key, key_cmp, same_key}
 use Rattle.av_base.proofs.Keys.{same_key-is, same_key-itself}
-use Rattle.av_pagetable.specs.Entries.{ProcessTables, at_page, entry_at, has, table_at}
+use Rattle.av_pagetable.specs.Entries.{entry_at, has}
 use Rattle.av_pagetable.specs.Table.{page_bound}
-use Rattle.av_pagetable.specs.contracts.radix.RadixTableTable.TheImpl as page_table
+use Rattle.av_pagetable.proofs.Entries.{none_there}
 use Rattle.av_pagetable.specs.declared.pte.Pte.{Pte as Table}
 use Rattle.av_pagetable.specs.declared.pte.Pte.TheVariants.{Away, Empty, Here, Zero}
-use Rattle.av_pagetable.specs.declared.radix.RadixTable.{RadixTable}
 use Rattle.av_plain.specs.Areas.{Rmap}
 use Rattle.av_plain.specs.Device.{Device}
 use Rattle.av_plain.specs.Ledger.{Ledger, entry}
@@ -175,13 +174,6 @@ from-first (k ∷ ks) = ap (λ b. cond (not b) (k ∷ keys_from (0, 0) ks) (keys
 
 -- ---- in what the memory system stands for
 
-none-there : (tables : ProcessTables) (p page : ℕ) → has tables p ≡ false → entry_at tables p page ≡ Empty
-none-there tables p page h = by (table_at tables.tables.items p) h
-  where
-    by : (o : Option RadixTable) → is_some o ≡ false → at_page (option_map page_table.ghosts.at o) page ≡ Empty
-    by None h = refl
-    by (Some t) h = absurd (false≢true (sym h))
-
 module _ (d : Device) (k : Mem) (w : World) (r : Rmap) (l : Ledger) (h : KeepsBetween d k w r l)
     (few : (p : ℕ) → is_some (areas_of k.spaces.processes p) ≡ true → p < 2 ^ 16) where
   empty-none : (q : Key) → entry_at k.tables q.0 q.1 ≡ Empty → is_some (entry l q) ≡ false
@@ -208,7 +200,7 @@ module _ (d : Device) (k : Mem) (w : World) (r : Rmap) (l : Ledger) (h : KeepsBe
           of (Some areas) is = refl
 
       by : (b : Bool) → has k.tables q.0 ≡ b → is_some (entry l q) ≡ false
-      by false out = empty-none q (none-there k.tables q.0 q.1 out)
+      by false out = empty-none q (none_there k.tables q.0 q.1 out)
       by true out = absurd (let low = lives (sym (h.serves.tables q.0) ∙ out) in omega (arith, low, high))
 
   pub next-key : (from : Key) (o : Option Key) → IsNextEntry (entry_at k.tables) from o → IsNextKey from (map (λ e. e.0) l.entries) o

@@ -16,7 +16,7 @@ use Rattle.av_rmap.specs.Items.{AreCovered, is_merged, shown as shown_items}
 use Rattle.av_rmap.specs.Walk.{names_frame, names_seen}
 use Rattle.av_rmap.specs.Seen.{unseen}
 use Rattle.av_rmap.specs.Unmap.{away}
-use Rattle.av_rmap.proofs.SeenLemmas.{unseen-itself, unseen-other}
+use Rattle.av_rmap.proofs.SeenLemmas.{unseen-itself, unseen-other, unseen-then}
 use Rattle.av_rmap.proofs.UnmapLemmas.{away-other}
 use Rattle.av_swap_laws.specs.Steps.{pte_unmapped, pte_unseen, view_unmap, view_unseen}
 use Rattle.av_swapcache.specs.Swap.{shown as shown_swap, with_entries}
@@ -102,6 +102,12 @@ unseen-view old new f rest are = ap (λ (k : Mem). view k) rest ∙ ap (with_tab
   where
     tables : table_of new ≡ (λ p page. option_map (pte_unseen f) (table_of old p page))
     tables = λ i p page. (ap (λ (e : ℕ → ℕ → Pte). plain (e p page)) are ∙ plain-unseen f (entry_at old.tables p page)) i
+
+-- no entry is seen then
+pub none-seen : (old new : Mem) (f : ℕ) → entry_at new.tables ≡ (λ p page. unseen f (entry_at old.tables p page))
+    → (p page : ℕ) → names_seen f (entry_at new.tables p page) ≡ false
+none-seen old new f are p page =
+    ap (λ (e : ℕ → ℕ → Pte). names_seen f (e p page)) are ∙ unseen-then f (entry_at old.tables p page)
 
 -- where no entry is seen
 pub unseen-still : (k : Mem) (f : ℕ) → ((p page : ℕ) → names_seen f (entry_at k.tables p page) ≡ false) → view_unseen f (view k) ≡ view k

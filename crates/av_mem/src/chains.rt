@@ -60,7 +60,12 @@ impl Mem {
         ensures unseen { view self.new ≡ view_unseen frame (view self.old) }
         ensures parts { KeepsParts self.old self.new }
     {
-        self.clear::<Brand>(frame, Blank::new(1))
+        if !self.tables.may_be_seen(frame) {
+            return false;
+        }
+        let seen = self.clear::<Brand>(frame, Blank::new(1));
+        self.tables.mark_unseen(frame);
+        seen
     }
 
     /// Process and page of each entry that names a slot which the frame caches, once, by process

@@ -5,11 +5,17 @@
 //! `PageTable` that all above uses. `Tables` keeps one table for each process. Proved: what each
 //! call answers and changes, that nothing else changes, that want of memory changes nothing, and
 //! how many tables a `RadixTable` holds.
+//!
+//! `Tables` also keeps a mark for each frame of which no entry is seen, so that nobody has to walk
+//! to find that out (`may_be_seen`). Proved: where there is a mark, none is. Not proved: that a
+//! mark is ever set; without memory it is not.
 #![tactic(auto)]
 
 mod dir;
 mod level;
+mod marks;
 mod middle;
+mod places;
 mod pte;
 mod radix;
 mod table;

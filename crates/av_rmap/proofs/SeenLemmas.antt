@@ -66,6 +66,10 @@ still-unseen f (Here other write seen) h = by (f == other) seen (ap seen_of h)
     by false a h = refl
 still-unseen f (Away slot) h = refl
 
+-- no entry is seen then
+pub unseen-then : (f : ℕ) (e : Pte) → names_seen f (unseen f e) ≡ false
+unseen-then f e = still-unseen f (unseen f e) (unseen-twice f e)
+
 -- ---- whether one was
 
 -- an entry of the frame is seen

@@ -7,6 +7,7 @@ use Rattle.av_base.specs.declared.slot.Slot.{Slot}
 use Rattle.av_chain.specs.Links.{one_if}
 use Rattle.av_pagetable.specs.declared.pte.Pte.{Pte}
 use Rattle.av_pagetable.specs.declared.pte.Pte.TheVariants.{Empty, Zero, Here, Away}
+pub use Rattle.av_pagetable.specs.Seen.{names_frame, names_seen}
 use Rattle.av_vma.specs.declared.area.Area.{Area}
 use Rattle.av_vma.specs.Index.{first_of, past_of}
 use Rattle.av_interval.specs.Batch.{overlaps_past}
@@ -15,14 +16,7 @@ use Rattle.av_rmap.specs.View.{View}
 use Rattle.av_rmap.specs.declared.target.Target.{Target}
 use Rattle.av_rmap.specs.declared.target.Target.TheVariants as target
 
--- whether an entry names the frame
-abbrev pub names_frame : ℕ → Pte → Bool
-names_frame frame Empty = false
-names_frame frame Zero = false
-names_frame frame (Here other write seen) = frame == other
-names_frame frame (Away slot) = false
-
--- whether it names the slot
+-- whether an entry names the slot
 abbrev pub names_slot : Slot → Pte → Bool
 names_slot slot Empty = false
 names_slot slot Zero = false
@@ -33,13 +27,6 @@ names_slot slot (Away other) = slot.area == other.area && slot.page == other.pag
 abbrev pub names : Target → Pte → Bool
 names (target.Frame frame) entry = names_frame frame entry
 names (target.Slot slot) entry = names_slot slot entry
-
--- whether it names the frame and says that the page was accessed
-abbrev pub names_seen : ℕ → Pte → Bool
-names_seen frame Empty = false
-names_seen frame Zero = false
-names_seen frame (Here other write seen) = frame == other && seen
-names_seen frame (Away slot) = false
 
 -- the entries that pass the test, each once, in some order
 abbrev pub AreItsEntries : View → (Pte → Bool) → List Key → Type 0

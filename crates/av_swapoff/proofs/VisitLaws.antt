@@ -1,5 +1,5 @@
 -- How the users of slots come together, one visit after another.
-use Rattle.std.proofs.Common.{◌≡◌, ◌≢◌, ℕ, ◌+◌, ◌*◌, ◌/◌, ◌<◌, ◌≤◌, ◌⊎◌, inl, inr, Bool, true, false, cond, ◌==◌, ◌&&◌, nat_lt, List, ◌++◌, length, set, take, drop, Option, Some, None, is_some, option_map, refl, sym, ap, subst, ◌∙◌, arith, length-set}
+use Rattle.std.proofs.Common.{◌≡◌, ◌≢◌, ℕ, ◌+◌, ◌*◌, ◌/◌, ◌<◌, ◌≤◌, ◌⊎◌, inl, inr, Bool, true, false, cond, ◌==◌, ◌&&◌, nat_lt, List, ◌++◌, length, set, take, drop, Option, Some, None, is_some, refl, sym, ap, subst, ◌∙◌, arith, length-set}
 use Rattle.std.proofs.lemmas.Bool.{cases_eq, cases_lt, false≢true}
 use Rattle.std.proofs.lemmas.Bool.Decides.{nat_tests}
 use Rattle.std.proofs.Math.Seq.{drop-length, take-length}
@@ -8,10 +8,9 @@ use Rattle.std.specs.Prelude.{replicate}
 use Rattle.av_base.specs.Keys.{Key}
 use Rattle.av_base.specs.declared.slot.Slot.{Slot}
 use Rattle.av_pagetable.specs.declared.pte.Pte.TheVariants.{Empty}
-use Rattle.av_pagetable.specs.declared.radix.RadixTable.{RadixTable}
-use Rattle.av_pagetable.specs.contracts.radix.RadixTableTable.TheImpl as page_table
-use Rattle.av_pagetable.specs.Entries.{IsFirstProcess, at_page, entry_at, has, table_at}
+use Rattle.av_pagetable.specs.Entries.{IsFirstProcess, entry_at, has}
 use Rattle.av_pagetable.specs.Table.{IsFirst, page_bound}
+use Rattle.av_pagetable.proofs.Entries.{none_there}
 use Rattle.av_plain.specs.Stands.{View}
 use Rattle.av_mem.specs.Entries.{slot_behind}
 use Rattle.av_mem.specs.Mem.{plain, view}
@@ -169,11 +168,7 @@ none-yet v area pages page k at = by (cases_lt page pages)
 
 -- a process without a table has no entry
 pub no-table : (k : Mem) (q : Key) → has k.tables q.0 ≡ false → entry_at k.tables q.0 q.1 ≡ Empty
-no-table k q away = by (table_at k.tables.tables.items q.0) away
-  where
-    by : (o : Option RadixTable) → is_some o ≡ false → at_page (option_map page_table.ghosts.at o) q.1 ≡ Empty
-    by None h = refl
-    by (Some t) h = absurd (false≢true (sym h))
+no-table k q away = none_there k.tables q.0 q.1 away
 
 -- ---- one group after another, and one process after another
 

@@ -79,9 +79,31 @@ fn processes_come_and_go(rt: HostRuntime) -> Result<(), AllocError> {
     assert!(rt; tables.process_from(10) == None);
     tables.exit(9);
     assert!(rt; tables.process_from(5) == None && tables.of(9).is_none());
-    if let Some(table) = tables.of_mut(4) {
-        table.set(1, Pte::Zero)?;
-    }
+    tables.set(4, 1, Pte::Zero)?;
     assert!(rt; tables.get(4, 1) == Pte::Zero);
+    Ok(())
+}
+
+/// The entry of a frame.
+fn here(frame: u32, seen: bool) -> Pte {
+    Pte::Here {
+        frame,
+        write: true,
+        seen,
+    }
+}
+
+#[test]
+fn a_mark_goes_with_an_entry_that_is_seen(rt: HostRuntime) -> Result<(), AllocError> {
+    let mut tables: Tables<PageTable> = Tables::new(rt.alloc());
+    tables.spawn(rt.alloc(), 4)?;
+    assert!(rt; tables.may_be_seen(3));
+    tables.mark_unseen(3);
+    assert!(rt; !tables.may_be_seen(3) && tables.may_be_seen(2) && tables.may_be_seen(4));
+    tables.set(4, 16, here(3, false))?;
+    tables.set(4, 20, here(2, true))?;
+    assert!(rt; !tables.may_be_seen(3));
+    tables.change(4, 16, here(3, true));
+    assert!(rt; tables.may_be_seen(3));
     Ok(())
 }

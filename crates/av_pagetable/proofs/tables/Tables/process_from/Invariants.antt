@@ -7,4 +7,4 @@ invariant-loop-process g l = (l.initial.process ≤ l.number)
     × ((p : ℕ) → l.initial.process ≤ p → p < l.number → has l.initial.self p ≡ false)
 
 abbrev pub decreases-loop-process : goal.decreases-loop-process
-decreases-loop-process g l = length l.initial.self.tables.items - l.number
+decreases-loop-process g l = length l.initial.self.tables.items.items - l.number

@@ -1,8 +1,11 @@
-use Rattle.std.proofs.Common.{◌∙◌, ap, refl}
+use Rattle.std.proofs.Common.{◌∙◌, ℕ, ap, refl}
+use Rattle.av_pagetable.specs.Seen.{names_seen}
+use Rattle.av_pagetable.specs.declared.pte.Pte.{Pte}
 use Rattle.av_base.specs.Words.{with_at}
 use Rattle.av_pagetable.specs.Entries.{at_page, entry_by}
 use Rattle.av_pagetable.specs.Table.{read_only}
-use Rattle.av_pagetable.proofs.Entries.{none_applied, none_changed, same_processes, table_one}
+use Rattle.av_pagetable.proofs.Entries.{none_applied, none_changed, same_entries, same_processes, table_one}
+use Rattle.av_pagetable.proofs.MarkLaws.{unseen-read_only, unseen-same, unseen-table}
 use Rattle.av_pagetable.proofs.tables.Tables.write_protect.Goals as goal
 
 pub returns-in-Some-clause-protects : goal.returns-in-Some-clause-protects
@@ -13,11 +16,24 @@ returns-in-Some-clause-protects g c =
 
 pub returns-in-Some-clause-processes : goal.returns-in-Some-clause-processes
 returns-in-Some-clause-processes g c =
-    same_processes g.T.Table.at c.args.self.now (c.of_mut.follows.lender c.write_protect.new.self) c.args.process _ _
+    same_processes g.T.Table.at c.args.self.now.tables.items.items (c.of_mut.follows.lender c.write_protect.new.self).items.items c.args.process _ _
     (rw c.in-Some.is at (c.of_mut.follows.holds c.write_protect.new.self)) c.in-Some.ensures.value
 
 pub returns-in_default-clause-protects : goal.returns-in_default-clause-protects
 returns-in_default-clause-protects g c = none_applied read_only refl _ _ c.args.process c.in_default.ensures.value c.of_mut.follows.holds-at-none
 
 pub returns-in_default-clause-processes : goal.returns-in_default-clause-processes
-returns-in_default-clause-processes g c = none_changed g.T.Table.at c.args.self.now c.of_mut.follows.lender-at-none c.of_mut.follows.holds-at-none
+returns-in_default-clause-processes g c = none_changed g.T.Table.at c.args.self.now.tables.items.items c.of_mut.follows.lender-at-none.items.items c.of_mut.follows.holds-at-none
+
+pub invariant_of-self : goal.invariant_of-self
+invariant_of-self g c = record {
+  unseen = unseen-table _ _ c.args.self.now.unseen _ c.args.process _
+      (table_one _ _ c.args.process _ (rw c.in-Some.is at (c.of_mut.follows.holds c.write_protect.new.self)))
+      (λ f marked o. ap (λ (t : ℕ → Pte). names_seen f (t o)) c.write_protect.ensures
+      ∙ unseen-read_only f _ ∙ ap (λ t. names_seen f (at_page t o)) c.in-Some.ensures.value ∙ c.args.self.now.unseen f marked c.args.process o);
+}
+
+pub invariant_of-self-in_default : goal.invariant_of-self-in_default
+invariant_of-self-in_default g c = record {
+  unseen = unseen-same _ _ c.args.self.now.unseen _ (same_entries _ _ c.of_mut.follows.holds-at-none);
+}

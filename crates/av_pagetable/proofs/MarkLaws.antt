@@ -1,0 +1,91 @@
+-- A frame with a mark stays unseen.
+use Rattle.std.proofs.Common.{◌≡◌, ℕ, Bool, true, false, cond, not, ◌&&◌, ◌==◌, List, Option, Some, None, Result, Ok, Err, MatchResult, refl, sym, ap, ◌∙◌}
+use Rattle.std.proofs.lemmas.Bool.{false≢true}
+use Rattle.std.specs.Prelude.{MatchOption, ◌<◌, ◌≤◌}
+use Rattle.av_base.specs.Words.{with_at}
+use Rattle.av_pagetable.specs.declared.pte.Pte.{Pte}
+use Rattle.av_pagetable.specs.declared.pte.Pte.TheVariants.{Empty, Zero, Here, Away}
+use Rattle.av_pagetable.specs.Entries.{with_entry}
+use Rattle.av_pagetable.specs.Seen.{AreUnseen, is_marked, names_seen}
+use Rattle.av_pagetable.specs.Table.{IsFirst, child_entry, read_only}
+
+-- ---- entries
+
+pub unseen-read_only : (f : ℕ) (e : Pte) → names_seen f (read_only e) ≡ names_seen f e
+unseen-read_only f Empty = refl
+unseen-read_only f Zero = refl
+unseen-read_only f (Here g write seen) = refl
+unseen-read_only f (Away slot) = refl
+
+pub unseen-child : (f : ℕ) (e : Pte) → names_seen f (child_entry e) ≡ false
+unseen-child f Empty = refl
+unseen-child f Zero = refl
+unseen-child f (Here g write seen) = none (f == g)
+  where
+    none : (b : Bool) → (b && false) ≡ false
+    none true = refl
+    none false = refl
+unseen-child f (Away slot) = refl
+
+-- ---- marks
+
+both : (a b : Bool) → (a && not b) ≡ true → (a ≡ true) × (b ≡ false)
+both true true h = absurd (false≢true h)
+both true false h = (refl, refl)
+both false b h = absurd (false≢true h)
+
+module _ (old : ℕ → ℕ → Pte) (marks : List Bool) (unseen : AreUnseen old marks) where
+  -- an entry is written
+  pub unseen-written : (new : ℕ → ℕ → Pte) (left : List Bool) (p page : ℕ) (e : Pte)
+      → ((f : ℕ) → is_marked left f ≡ (is_marked marks f && not (names_seen f e)))
+      → new ≡ with_entry p page e old → AreUnseen new left
+  unseen-written new left p page e are is f marked q o =
+      ap (λ (t : ℕ → ℕ → Pte). names_seen f (t q o)) is ∙ by (q == p && o == page)
+    where
+      was : (is_marked marks f ≡ true) × (names_seen f e ≡ false)
+      was = both (is_marked marks f) (names_seen f e) (sym (are f) ∙ marked)
+
+      by : (b : Bool) → names_seen f (cond b e (old q o)) ≡ false
+      by true = was.1
+      by false = unseen f was.0 q o
+
+  -- or none is, though a mark may go
+  pub unseen-left : (new : ℕ → ℕ → Pte) (left : List Bool) (e : Pte)
+      → ((f : ℕ) → is_marked left f ≡ (is_marked marks f && not (names_seen f e)))
+      → new ≡ old → AreUnseen new left
+  unseen-left new left e are is f marked q o =
+      ap (λ (t : ℕ → ℕ → Pte). names_seen f (t q o)) is
+      ∙ unseen f (both (is_marked marks f) (names_seen f e) (sym (are f) ∙ marked)).0 q o
+
+  pub unseen-maybe_written : {A E : Type 0} (r : Result A E) (new : ℕ → ℕ → Pte) (left : List Bool) (p page : ℕ) (e : Pte)
+      → ((f : ℕ) → is_marked left f ≡ (is_marked marks f && not (names_seen f e)))
+      → MatchResult r (λ _. new ≡ with_entry p page e old) (λ _. new ≡ old) → AreUnseen new left
+  unseen-maybe_written (Ok x) new left p page e = unseen-written new left p page e
+  unseen-maybe_written (Err x) new left p page e = unseen-left new left e
+
+  -- the entries of a process change, and none becomes seen
+  pub unseen-table : (new : ℕ → ℕ → Pte) (p : ℕ) (table : ℕ → Pte) → new ≡ with_at p table old
+      → ((f : ℕ) → is_marked marks f ≡ true → (o : ℕ) → names_seen f (table o) ≡ false) → AreUnseen new marks
+  unseen-table new p table is none f marked q o = ap (λ (t : ℕ → ℕ → Pte). names_seen f (t q o)) is ∙ by (q == p)
+    where
+      by : (b : Bool) → names_seen f (cond b table (old q) o) ≡ false
+      by true = none f marked o
+      by false = unseen f marked q o
+
+  pub unseen-same : (new : ℕ → ℕ → Pte) → new ≡ old → AreUnseen new marks
+  unseen-same new is f marked q o = ap (λ (t : ℕ → ℕ → Pte). names_seen f (t q o)) is ∙ unseen f marked q o
+
+  -- an entry goes
+  pub unseen-gone : (new : ℕ → ℕ → Pte) (p page : ℕ) → new ≡ with_entry p page Empty old → AreUnseen new marks
+  unseen-gone new p page is f marked q o =
+      ap (λ (t : ℕ → ℕ → Pte). names_seen f (t q o)) is ∙ by (q == p && o == page)
+    where
+      by : (b : Bool) → names_seen f (cond b Empty (old q o)) ≡ false
+      by true = refl
+      by false = unseen f marked q o
+
+  pub unseen-first_taken : (r : Option (ℕ × Pte)) (new : ℕ → ℕ → Pte) (p from to : ℕ)
+      → MatchOption r (((q : ℕ) → from ≤ q → q < to → old p q ≡ Empty) × (new ≡ old))
+      (λ e. IsFirst (old p) from to e.0 × (old p e.0 ≡ e.1) × (new ≡ with_entry p e.0 Empty old)) → AreUnseen new marks
+  unseen-first_taken None new p from to taken = unseen-same new taken.1
+  unseen-first_taken (Some e) new p from to taken = unseen-gone new p e.0 taken.2
