@@ -1,6 +1,6 @@
 -- What node a cell of an arena holds, and which cells hold none.
 use Rattle.std.specs.Prelude.{◌≡◌, ℕ, Bool, true, false, Option, Some, None, List, [], ◌∷◌}
-use Rattle.std.specs.Prelude.{option_map, slice_get}
+use Rattle.std.specs.Prelude.{slice_get}
 use Rattle.std.specs.List.{AllByRecursion}
 use Rattle.av_arena.specs.declared.cell.Cell.{Cell}
 use Rattle.av_arena.specs.declared.cell.Twig.{Twig}
