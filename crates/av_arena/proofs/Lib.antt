@@ -1,5 +1,6 @@
 pub mod AvlLemmas
 pub mod BelowLemmas
+pub mod CellLemmas
 pub mod Entries
 pub mod JoinLemmas
 pub mod Monoid

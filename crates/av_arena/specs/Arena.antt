@@ -1,18 +1,17 @@
 -- What an arena holds.
-use Rattle.slab.specs.Slab.{get}
 use Rattle.av_arena.specs.Tree.{Store}
-use Rattle.std.specs.Prelude.{◌≡◌, ℕ, Option, Some, None, option_map}
+use Rattle.std.specs.Prelude.{◌≡◌, ℕ, List, Option, Some, None, option_map, slice_index_or}
 use Rattle.av_base.specs.Words.{with_at}
 use Rattle.av_arena.specs.Cell.{node_in}
-use Rattle.av_arena.specs.declared.arena.Arena.{Arena}
+use Rattle.av_arena.specs.declared.cell.Cell.{Cell}
 use Rattle.av_arena.specs.declared.link.Link.{Link}
 use Rattle.av_arena.specs.declared.link.Side.{Side}
 use Rattle.av_arena.specs.declared.link.Side.TheVariants.{Left, Right}
 use Rattle.av_arena.specs.declared.link.Stored.{Stored}
 
 -- the node under each number
-abbrev pub store_of : {T S : Type 0} → Arena T S → Store T S
-store_of a n = option_map node_in (get a.slab n)
+abbrev pub store_of : {T S : Type 0} → List (Option (Cell T S)) → Store T S
+store_of cells n = option_map node_in (slice_index_or cells n None)
 
 -- the tree on a side of a node, and the one on its other side
 abbrev pub on_side : {T S : Type 0} → Side → Stored T S → Option (Link S)

@@ -5,15 +5,31 @@ ghost use Rattle.av_arena.specs.Arena.{entry_put, side_put, store_of};
 ghost use Rattle.av_arena.specs.Cell.{node_in};
 ghost use Rattle.av_base.specs.Words.{with_at};
 
-use crate::cell::Cell;
+use crate::cell::{Cell, Twig};
 use crate::link::{Link, Side, Stored};
-use slab::Slab;
 use std::alloc::{AllocError, Global};
+use std::marker::Model;
 
-/// The nodes of all trees, each under a number.
+/// The nodes of all trees, each under a number, seen as the list of the cells that hold one.
+///
+/// A number that is in use is an index below the number of cells, so nothing tests it.
 #[derive(Drop)]
 pub struct Arena<T, S> {
-    slab: Slab<Cell<T, S>>,
+    cells: Vec<Cell<T, S>>,
+    /// The first cell that holds no node. Each tells the next.
+    free: Option<u32>,
+}
+
+impl<T, S> Model for Arena<T, S> {
+    ghost use Rattle.std.specs.Prelude.{List, Option, map};
+    ghost use Rattle.av_arena.specs.Cell.{AreListed, cell_used};
+    ghost use Rattle.av_arena.specs.declared.cell.Cell.{Cell};
+
+    ghost Value = { List (Option (Cell T S)) };
+
+    ghost view = { λ a. map cell_used a.cells.items };
+
+    ghost invariant = { λ a. AreListed a.cells.items a.free };
 }
 
 impl<T: Copy + Drop, S: Copy + Drop> Arena<T, S> {
@@ -22,7 +38,8 @@ impl<T: Copy + Drop, S: Copy + Drop> Arena<T, S> {
         ensures { (number : ℕ) → store_of result number ≡ None }
     {
         Arena {
-            slab: Slab::new(alloc),
+            cells: Vec::new(alloc),
+            free: None,
         }
     }
 
@@ -34,11 +51,16 @@ impl<T: Copy + Drop, S: Copy + Drop> Arena<T, S> {
             (λ number. store_of self.new ≡ with_at number (Some node) (store_of self.old)) }
         ensures kept { OnErr result (store_of self.new ≡ store_of self.old) }
     {
-        let key = self.slab.insert(Cell::of(node))?;
-        let Ok(number) = u32::try_from(key) else {
-            self.slab.remove(key);
+        let cell = Cell::of(node);
+        if let Some(number) = self.free {
+            self.free = self.cells[number as usize].left.next();
+            self.cells[number as usize] = cell;
+            return Ok(number);
+        }
+        let Ok(number) = u32::try_from(self.cells.len()) else {
             return Err(AllocError);
         };
+        self.cells.push(cell)?;
         Ok(number)
     }
 
@@ -48,7 +70,7 @@ impl<T: Copy + Drop, S: Copy + Drop> Arena<T, S> {
         requires { IsSome (store_of self.now number) }
         ensures { store_of self.now number ≡ Some result }
     {
-        self.slab[number as usize].node()
+        self.cells[number as usize].node()
     }
 
     /// The node with a number that is in use, as it lies here.
@@ -57,7 +79,7 @@ impl<T: Copy + Drop, S: Copy + Drop> Arena<T, S> {
         requires { IsSome (store_of self.now number) }
         ensures { store_of self.now number ≡ Some (node_in result.now) }
     {
-        &self.slab[number as usize]
+        &self.cells[number as usize]
     }
 
     /// Puts a node in place of the one with this number, which is in use.
@@ -66,7 +88,7 @@ impl<T: Copy + Drop, S: Copy + Drop> Arena<T, S> {
         requires { IsSome (store_of self.old number) }
         ensures { store_of self.new ≡ with_at number (Some node) (store_of self.old) }
     {
-        self.slab[number as usize] = Cell::of(node);
+        self.cells[number as usize] = Cell::of(node);
     }
 
     /// Puts another entry into the node with this number, which is in use.
@@ -76,8 +98,7 @@ impl<T: Copy + Drop, S: Copy + Drop> Arena<T, S> {
         ensures { store_of self.new ≡ with_at number (entry_put entry (store_of self.old number))
             (store_of self.old) }
     {
-        let cell = &mut self.slab[number as usize];
-        cell.entry = entry;
+        self.cells[number as usize].entry = entry;
     }
 
     /// Puts another tree on a side of the node with this number, which is in use.
@@ -87,8 +108,7 @@ impl<T: Copy + Drop, S: Copy + Drop> Arena<T, S> {
         ensures { store_of self.new ≡ with_at number (side_put side link (store_of self.old number))
             (store_of self.old) }
     {
-        let cell = &mut self.slab[number as usize];
-        cell.set_side(side, link);
+        self.cells[number as usize].set_side(side, link);
     }
 
     /// Takes out the node with this number, which is in use until now.
@@ -96,6 +116,7 @@ impl<T: Copy + Drop, S: Copy + Drop> Arena<T, S> {
         requires { IsSome (store_of self.old number) }
         ensures { store_of self.new ≡ with_at number None (store_of self.old) }
     {
-        self.slab.remove(number as usize);
+        self.cells[number as usize].left = Twig::Free { next: self.free };
+        self.free = Some(number);
     }
 }

@@ -2,21 +2,27 @@
 //!
 //! On the way down and up a tree a cell is read where it lies, and no more of it than is asked
 //! for: a whole `Stored` costs a branch and a copy for each side.
+//!
+//! That a cell is free stands where its left tree would: so it takes no bytes beside the node, and
+//! whoever asks for a node that is in use tests nothing.
 
-ghost use Rattle.std.specs.Prelude.{◌≡◌};
+ghost use Rattle.std.specs.Prelude.{◌≡◌, false};
 ghost use Rattle.av_arena.specs.Arena.{on_side, with_side};
 ghost use Rattle.av_arena.specs.Below.{number_of};
 ghost use Rattle.av_arena.specs.Tree.{height_of};
-ghost use Rattle.av_arena.specs.Cell.{link_in, node_in};
+ghost use Rattle.av_arena.specs.Cell.{is_free, link_in, next_in, node_in};
 
 use crate::link::{Link, Side, Stored};
 
 /// The tree on a side of a node. The parts of its link stand beside the mark that there is one: so
 /// it takes 16 bytes where a summary takes eight, and an `Option<Link>` 24.
+///
+/// The left one of a cell that holds no node tells the next such cell.
 #[derive(Clone, Copy, Drop)]
 pub enum Twig<S> {
     Bare,
     Tree { height: u8, number: u32, sum: S },
+    Free { next: Option<u32> },
 }
 
 /// A node, as it lies in its arena.
@@ -31,7 +37,8 @@ impl<S: Copy + Drop> Twig<S> {
     /// The tree that a link tells, if there is one.
     #[inline(always)]
     pub(crate) fn of(link: Option<Link<S>>) -> Twig<S>
-        ensures { link_in result ≡ link }
+        ensures link { link_in result ≡ link }
+        ensures used { is_free result ≡ false }
     {
         match link {
             None => Twig::Bare,
@@ -55,7 +62,6 @@ impl<S: Copy + Drop> Twig<S> {
         ensures { result ≡ link_in self.now }
     {
         match self {
-            Twig::Bare => None,
             Twig::Tree {
                 height,
                 number,
@@ -65,6 +71,7 @@ impl<S: Copy + Drop> Twig<S> {
                 height: *height,
                 sum: *sum,
             }),
+            _ => None,
         }
     }
 
@@ -74,8 +81,8 @@ impl<S: Copy + Drop> Twig<S> {
         ensures { result ≡ number_of (link_in self.now) }
     {
         match self {
-            Twig::Bare => None,
             Twig::Tree { number, .. } => Some(*number),
+            _ => None,
         }
     }
 
@@ -85,8 +92,19 @@ impl<S: Copy + Drop> Twig<S> {
         ensures { result ≡ height_of (link_in self.now) }
     {
         match self {
-            Twig::Bare => 0,
             Twig::Tree { height, .. } => *height,
+            _ => 0,
+        }
+    }
+
+    /// The next free cell after one whose left tree this is, which is free.
+    #[inline(always)]
+    pub(crate) fn next(&self) -> Option<u32>
+        ensures { result ≡ next_in self.now }
+    {
+        match self {
+            Twig::Free { next } => *next,
+            _ => None,
         }
     }
 }
@@ -94,7 +112,8 @@ impl<S: Copy + Drop> Twig<S> {
 impl<T: Copy + Drop, S: Copy + Drop> Cell<T, S> {
     #[inline(always)]
     pub(crate) fn of(node: Stored<T, S>) -> Cell<T, S>
-        ensures { node_in result ≡ node }
+        ensures node { node_in result ≡ node }
+        ensures used { is_free result.left ≡ false }
     {
         let Stored { left, entry, right } = node;
         Cell {
@@ -129,7 +148,8 @@ impl<T: Copy + Drop, S: Copy + Drop> Cell<T, S> {
     /// Puts another tree on a side.
     #[inline(always)]
     pub(crate) fn set_side(&mut self, side: Side, link: Option<Link<S>>)
-        ensures { node_in self.new ≡ with_side side link (node_in self.old) }
+        ensures node { node_in self.new ≡ with_side side link (node_in self.old) }
+        ensures used { is_free self.old.left ≡ false → is_free self.new.left ≡ false }
     {
         let twig = Twig::of(link);
         match side {

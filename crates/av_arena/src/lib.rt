@@ -15,6 +15,8 @@
 //! A change goes down once, by the numbers of nodes, and comes up to where a link stays. Each step
 //! says whether its root is stored otherwise than before, exactly but where the root itself gets an
 //! entry. That nothing above is written then is not proved: no clause counts writes.
+//!
+//! Nor is it proved that a number that is free is used again, as `Arena::add` does.
 #![tactic(auto)]
 
 mod arena;

@@ -44,8 +44,8 @@ pub fn sum_in<T: Entry>(twig: &Twig<T::Sum>) -> T::Sum
     ensures { result ≡ sum_of T.unit (link_in twig.now) }
 {
     match twig {
-        Twig::Bare => T::empty(),
         Twig::Tree { sum, .. } => *sum,
+        _ => T::empty(),
     }
 }
 
@@ -222,17 +222,19 @@ pub fn is_same_link<T: Entry>(twig: &Twig<T::Sum>, link: Option<Link<T::Sum>>) -
     ensures same { result ≡ true → link_in twig.now ≡ link }
     ensures always { link_in twig.now ≡ link → result ≡ true }
 {
-    match (twig, link) {
-        (Twig::Bare, None) => true,
-        (
-            Twig::Tree {
-                height,
-                number,
-                sum,
-            },
-            Some(link),
-        ) => *number == link.number && *height == link.height && T::is_same(*sum, link.sum),
-        _ => false,
+    let Twig::Tree {
+        height,
+        number,
+        sum,
+    } = twig
+    else {
+        return link.is_none();
+    };
+    match link {
+        Some(link) => {
+            *number == link.number && *height == link.height && T::is_same(*sum, link.sum)
+        }
+        None => false,
     }
 }
 

@@ -42,7 +42,7 @@ impl Model for Spans {
 
     ghost Value = { List (Option (Cell Span ℕ)) × List (ℕ × Root) };
 
-    ghost view = { λ s. (s.arena.slab.slots, s.roots.map.entries) };
+    ghost view = { λ s. (s.arena, s.roots.map.entries) };
 
     ghost invariant = { λ s. IsForest (store_of s.arena) (root_of s.roots) };
 }
