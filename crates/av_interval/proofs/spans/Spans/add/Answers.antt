@@ -35,7 +35,8 @@ returns-in_default-clause-spans c =
     let same : (λ (a : ℕ). entries (tree_at (s p) (top_of (lent p a)))) ≡ triples c.args.self.now = λ i a. entries (trees p i a) in
     let empty : [] ≡ triples c.args.self.now c.args.anon = sym (none_entries (s p) (lent p c.args.anon) (none p)) ∙ (λ i. same i c.args.anon) in
     λ a. c.add_first.ensures.spans a
-    ∙ (λ i. if is_ok c.add_first.result then with_at c.args.anon (with_entry key (triple c.args.first c.args.last c.args.area) (empty i)) (same i) a else same i a)
+    ∙ (λ i. if is_ok c.add_first.result then with_at c.args.anon (with_entry key (triple c.args.first c.args.last c.args.area) (empty i))
+    (same i) a else same i a)
 
 pub returns-in_default-clause-kept : goal.returns-in_default-clause-kept
 returns-in_default-clause-kept c =

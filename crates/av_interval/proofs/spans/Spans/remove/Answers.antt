@@ -75,7 +75,8 @@ last c =
     out.result.0 out.result.1 w c.free.ensures None (sym c.in-None.is)
     (one_left s (store_of out.new.arena) r c.self.invariant c.args.anon (key x) root at there out.result.0
     (subst (λ (g : Option (Link ℕ)). IsWithout key 0 max last_of s (store_of out.new.arena) (Some root.tree)
-    (without_key key (key x) (entries (tree_at s (Some root.tree)))) out.result.0 g) c.in-None.is w)) (c.remove.ensures ∙ ap (with_at c.args.anon None) (rw c.in-Some.is at (c.get_mut.follows.holds root)) ∙ given_twice c.args.anon (Some root) None r)
+    (without_key key (key x) (entries (tree_at s (Some root.tree)))) out.result.0 g) c.in-None.is w)) (c.remove.ensures ∙ ap (with_at c.args.anon None)
+    (rw c.in-Some.is at (c.get_mut.follows.holds root)) ∙ given_twice c.args.anon (Some root) None r)
 
 pub invariant_of-self : goal.invariant_of-self
 invariant_of-self c = (last (goal.at.invariant_of-self c).After-remove).forest
@@ -88,7 +89,8 @@ returns-in-None c =
 
 -- others are left
 others : (c : In-Some-rest) → let s = store_of c.self.inside.arena in let r = root_of c.self.inside.roots in
-    IsDone s r (store_of c.free.new.self) (root_of (c.get_mut.follows.lender (record { tree = c.in-Some-rest.tree; len = c.in-Some.root.now.len - 1 }))) c.args.anon
+    IsDone s r (store_of c.free.new.self) (root_of (c.get_mut.follows.lender (record { tree = c.in-Some-rest.tree; len = c.in-Some.root.now.len - 1 })))
+    c.args.anon
     (without_key key (key_of c.args.first c.args.area) (entries (tree_at s (top_of (r c.args.anon)))))
 others c =
     let s = store_of c.self.inside.arena in
@@ -100,15 +102,18 @@ others c =
     c.requires.there in
     let out = c.remove-number in
     let w = out.ensures.removed in
-    removed_done s (store_of out.new.arena) (store_of c.free.new.self) r (root_of (c.get_mut.follows.lender (record { tree = c.in-Some-rest.tree; len = c.in-Some.root.now.len - 1 }))) c.self.invariant c.args.anon x root at there
+    removed_done s (store_of out.new.arena) (store_of c.free.new.self) r (root_of (c.get_mut.follows.lender
+    (record { tree = c.in-Some-rest.tree; len = c.in-Some.root.now.len - 1 }))) c.self.invariant c.args.anon x root at there
     out.result.0 out.result.1 w c.free.ensures (Some (record { tree = c.in-Some-rest.tree; len = root.len - 1 })) (sym c.in-Some-rest.is)
-    (let h = some_left s r c.self.invariant c.args.anon (key x) root at there in omega arith) (rw c.in-Some.is at (c.get_mut.follows.holds (record { tree = c.in-Some-rest.tree; len = c.in-Some.root.now.len - 1 })))
+    (let h = some_left s r c.self.invariant c.args.anon (key x) root at there in omega arith) (rw c.in-Some.is at (c.get_mut.follows.holds
+    (record { tree = c.in-Some-rest.tree; len = c.in-Some.root.now.len - 1 })))
 
 pub invariant_of-self-in-Some-rest : goal.invariant_of-self-in-Some-rest
 invariant_of-self-in-Some-rest c = (others (goal.at.invariant_of-self-in-Some-rest c).In-Some-rest).forest
 
 pub returns-in-Some-rest : goal.returns-in-Some-rest
 returns-in-Some-rest c =
-    subst (λ (w : Forest). (a : ℕ) → entries (tree_at (store_of c.free.new.self) (top_of (root_of (c.get_mut.follows.lender (record { tree = c.in-Some-rest.tree; len = c.in-Some.root.now.len - 1 })) a))) ≡ with_at c.args.anon
+    subst (λ (w : Forest). (a : ℕ) → entries (tree_at (store_of c.free.new.self) (top_of (root_of (c.get_mut.follows.lender
+    (record { tree = c.in-Some-rest.tree; len = c.in-Some.root.now.len - 1 })) a))) ≡ with_at c.args.anon
     (without_key key (key_of c.args.first c.args.area) (triples w c.args.anon)) (triples w) a) c.self.view_is
     (others (goal.at.returns-in-Some-rest c).In-Some-rest).triples

@@ -46,7 +46,8 @@ replace-root-requires-clause-low c =
     rw a at (low (s i) (r i) c.self.invariant c.args.anon (rw a c.is_few.ensures))
 
 after : (c : After-replace-root) → let s = store_of c.self.inside.arena in let r = root_of c.self.inside.roots in
-    IsDone s r (store_of c.replace-root.new.arena) (root_of (c.get_mut.follows.lender (record { tree = c.replace-root.result; len = c.in-Some.root.now.len }))) c.args.anon
+    IsDone s r (store_of c.replace-root.new.arena) (root_of (c.get_mut.follows.lender
+    (record { tree = c.replace-root.result; len = c.in-Some.root.now.len }))) c.args.anon
     (with_entry key (triple c.args.first c.args.last c.args.area)
     (without_key key (key_of c.args.first c.args.area) (entries (tree_at s (top_of (r c.args.anon))))))
 after c =
@@ -58,15 +59,18 @@ after c =
     let fits : c.args.area < 2 ^ 64 = omega arith in
     let there = subst (λ (w : Forest). IsSome (entry_at key (key_of c.args.first c.args.area) (triples w c.args.anon))) (sym c.self.view_is)
     c.requires.there in
-    replaced_done s (store_of c.replace-root.new.arena) r (root_of (c.get_mut.follows.lender (record { tree = c.replace-root.result; len = c.in-Some.root.now.len }))) c.self.invariant c.args.anon x root at fits there
-    c.replace-root.result c.replace-root.ensures.replaced (rw c.in-Some.is at (c.get_mut.follows.holds (record { tree = c.replace-root.result; len = c.in-Some.root.now.len })))
+    replaced_done s (store_of c.replace-root.new.arena) r (root_of (c.get_mut.follows.lender
+    (record { tree = c.replace-root.result; len = c.in-Some.root.now.len }))) c.self.invariant c.args.anon x root at fits there
+    c.replace-root.result c.replace-root.ensures.replaced (rw c.in-Some.is at (c.get_mut.follows.holds
+    (record { tree = c.replace-root.result; len = c.in-Some.root.now.len })))
 
 pub invariant_of-self : goal.invariant_of-self
 invariant_of-self c = (after (goal.at.invariant_of-self c).After-replace-root).forest
 
 pub returns : goal.returns
 returns c =
-    subst (λ (w : Forest). (a : ℕ) → entries (tree_at (store_of c.replace-root.new.arena) (top_of (root_of (c.get_mut.follows.lender (record { tree = c.replace-root.result; len = c.in-Some.root.now.len })) a))) ≡ with_at c.args.anon
+    subst (λ (w : Forest). (a : ℕ) → entries (tree_at (store_of c.replace-root.new.arena) (top_of (root_of (c.get_mut.follows.lender
+    (record { tree = c.replace-root.result; len = c.in-Some.root.now.len })) a))) ≡ with_at c.args.anon
     (with_entry key (triple c.args.first c.args.last c.args.area) (without_key key (key_of c.args.first c.args.area) (triples w c.args.anon)))
     (triples w) a) c.self.view_is
     (after (goal.at.returns c).After-replace-root).triples
