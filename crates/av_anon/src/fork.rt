@@ -142,8 +142,7 @@ impl Anons {
     {
         let anon = self.next;
         let next = anon.checked_add(1).ok_or(AllocError)?;
-        let root = self.info(parent).root;
-        self.infos.count_children_up(parent)?;
+        let root = self.infos.count_children_up(parent)?;
         let info = Info {
             root,
             parent,

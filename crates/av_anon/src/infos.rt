@@ -1,6 +1,5 @@
 //! What is kept of each anon_vma, by its number.
-ghost use Rattle.std.specs.Prelude.{◌≡◌, ℕ, ◌+◌, ◌-◌, ◌<◌, Some, None, IsSome, MatchResult, OnOk};
-ghost use Rattle.std.specs.Prelude.{OnErr, option_map};
+ghost use Rattle.std.specs.Prelude.{◌≡◌, ℕ, Some, None, IsSome, IfOk, OnOk, option_map};
 ghost use Rattle.av_base.specs.Words.{with_at};
 ghost use Rattle.av_anon.specs.Infos.{info_in, with_info, more_active, less_active, more_children};
 ghost use Rattle.av_anon.specs.Infos.{less_children};
@@ -48,16 +47,6 @@ impl Infos {
         Ok(())
     }
 
-    /// Changes what is kept of an anon_vma that there is.
-    pub(crate) fn change(&mut self, anon: u64, info: Info)
-        requires { IsSome (info_in self.old anon) }
-        ensures { info_in self.new ≡ with_at anon (Some info) (info_in self.old) }
-    {
-        if let Some(old) = self.map.get_mut(&anon) {
-            *old = info;
-        }
-    }
-
     pub(crate) fn remove(&mut self, anon: u64)
         ensures { info_in self.new ≡ with_at anon None (info_in self.old) }
     {
@@ -69,13 +58,13 @@ impl Infos {
         requires { IsSome (info_in self.old anon) }
         ensures { OnOk result (info_in self.new ≡ with_info anon more_active (info_in self.old)) }
     {
-        let Some(info) = self.get(anon) else {
+        let Some(info) = self.map.get_mut(&anon) else {
             unreachable!()
         };
         let Some(active) = info.active.checked_add(1) else {
             return Err(AllocError);
         };
-        self.change(anon, Info { active, ..info });
+        info.active = active;
         Ok(())
     }
 
@@ -83,34 +72,35 @@ impl Infos {
     pub(crate) fn count_active_down(&mut self, anon: u64)
         ensures { info_in self.new ≡ with_info anon less_active (info_in self.old) }
     {
-        if let Some(info) = self.get(anon) {
-            let active = info.active.saturating_sub(1);
-            self.change(anon, Info { active, ..info });
+        if let Some(info) = self.map.get_mut(&anon) {
+            info.active = info.active.saturating_sub(1);
         }
     }
 
-    /// One anon_vma more has this one as its parent.
-    pub(crate) fn count_children_up(&mut self, anon: u64) -> Result<(), AllocError>
+    /// One anon_vma more has this one as its parent. Answers its root.
+    pub(crate) fn count_children_up(&mut self, anon: u64) -> Result<u64, AllocError>
         requires { IsSome (info_in self.old anon) }
-        ensures { OnOk result (info_in self.new ≡ with_info anon more_children (info_in self.old)) }
+        ensures root { IfOk result (λ root. option_map (λ i. i.root) (info_in self.old anon)
+            ≡ Some root) }
+        ensures infos { OnOk result
+            (info_in self.new ≡ with_info anon more_children (info_in self.old)) }
     {
-        let Some(info) = self.get(anon) else {
+        let Some(info) = self.map.get_mut(&anon) else {
             unreachable!()
         };
         let Some(children) = info.children.checked_add(1) else {
             return Err(AllocError);
         };
-        self.change(anon, Info { children, ..info });
-        Ok(())
+        info.children = children;
+        Ok(info.root)
     }
 
     /// One anon_vma less has this one as its parent, if it is there.
     pub(crate) fn count_children_down(&mut self, anon: u64)
         ensures { info_in self.new ≡ with_info anon less_children (info_in self.old) }
     {
-        if let Some(info) = self.get(anon) {
-            let children = info.children.saturating_sub(1);
-            self.change(anon, Info { children, ..info });
+        if let Some(info) = self.map.get_mut(&anon) {
+            info.children = info.children.saturating_sub(1);
         }
     }
 }

@@ -27,31 +27,33 @@ told_own area areas areas' anons anons' bs ea ev t =
     whole_heads areas (with_at area (areas' area) areas') anons anons' bs (λ k. ap (λ (g : ℕ → Option Head). g k) (with_at_same area areas') ∙ ea k) ev t
 
 module _ (A V : ℕ → Option Head) (bs : List Block) (p : Ptr) (area anon : ℕ) where
-  abbrev pub node_behind : Option Head → Node
-  node_behind h = node_of area anon (record { before = last_of h; after = None }) (record { before = last_of (V anon); after = None })
+  -- a node that comes last in the lists with these heads
+  abbrev pub node_behind : Option Head → Option Head → Node
+  node_behind h u = node_of area anon (record { before = last_of h; after = None }) (record { before = last_of u; after = None })
 
   abbrev pub place : Place
   place = record { ptr = p }
 
   -- the nodes, once this one comes last in the area's list
-  abbrev pub in_area : Option Head → List Block
-  in_area h = leads_on Area (last_of h) (Some place) (bs ++ (p, node_behind h) ∷ [])
+  abbrev pub in_area : Option Head → Option Head → List Block
+  in_area h u = leads_on Area (last_of h) (Some place) (bs ++ (p, node_behind h u) ∷ [])
 
   -- and in the anon_vma's
-  abbrev pub in_both : Option Head → List Block
-  in_both h = leads_on Anon (last_of (V anon)) (Some place) (in_area h)
+  abbrev pub in_both : Option Head → Option Head → List Block
+  in_both h u = leads_on Anon (last_of u) (Some place) (in_area h u)
 
-  pub record IsBehind (h : Option Head) : Type 0 where
-    pub first : Reaches (last_of h) (bs ++ (p, node_behind h) ∷ [])
-    pub second : Reaches (last_of (V anon)) (in_area h)
+  pub record IsBehind (h u : Option Head) : Type 0 where
+    pub first : Reaches (last_of h) (bs ++ (p, node_behind h u) ∷ [])
+    pub second : Reaches (last_of u) (in_area h u)
     pub kept : is_in anon (chain_of (links_of bs) area) ≡ false →
-        AreThreaded (with_at area (Some (head_with place h)) A) (with_at anon (Some (head_with place (V anon))) V) (in_both h)
-    pub links : links_of (in_both h) ≡ links_of bs ++ (area, anon) ∷ []
+        AreThreaded (with_at area (Some (head_with place h)) A) (with_at anon (Some (head_with place u)) V) (in_both h u)
+    pub links : links_of (in_both h u) ≡ links_of bs ++ (area, anon) ∷ []
 
-  pub behind : (h : Option Head) → A area ≡ h → AreThreaded A V bs → IsApart (bs ++ (p, node_behind h) ∷ []) → IsBehind h
-  behind h e t = subst (λ g. IsApart (bs ++ (p, node_behind g) ∷ []) → IsBehind g) e (λ d. record {
-    first = first_join A V bs p area anon t d;
-    second = second_join A V bs p area anon t d;
-    kept = whole_made A V bs p area anon t d;
-    links = links_made A V bs p area anon t d;
-  })
+  pub behind : (h u : Option Head) → A area ≡ h → V anon ≡ u → AreThreaded A V bs → IsApart (bs ++ (p, node_behind h u) ∷ []) → IsBehind h u
+  behind h u e f t = subst (λ g. IsApart (bs ++ (p, node_behind g u) ∷ []) → IsBehind g u) e
+      (subst (λ v. IsApart (bs ++ (p, node_behind (A area) v) ∷ []) → IsBehind (A area) v) f (λ d. record {
+        first = first_join A V bs p area anon t d;
+        second = second_join A V bs p area anon t d;
+        kept = whole_made A V bs p area anon t d;
+        links = links_made A V bs p area anon t d;
+      }))

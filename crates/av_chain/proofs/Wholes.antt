@@ -92,6 +92,10 @@ number_sym : (x y : ℕ) → (y == x) ≡ false → (x == y) ≡ false
 number_sym x y e = either ((x == y) ≡ false) (x == y)
     (λ h. let clash = sym (ap (λ z. y == z) (sym (number_eq y x h)) ∙ same_number y) ∙ e in cc) (λ h. h)
 
+pub number_flip : (x y : ℕ) → (x == y) ≡ (y == x)
+number_flip x y = either ((x == y) ≡ (y == x)) (x == y)
+    (λ h. h ∙ sym (ap (λ z. y == z) (sym (number_eq y x h)) ∙ same_number y)) (λ h. h ∙ sym (number_sym y x h))
+
 single : (u b a v : ℕ) → (a ≡ b → (v == u) ≡ false) → is_in u (chain_of ((a, v) ∷ []) b) ≡ false
 single u b a v h = either (is_in u (cond (b == a) (v ∷ []) []) ≡ false) (b == a)
     (λ e. ap (λ y. is_in u (cond y (v ∷ []) [])) e ∙ both_false (u == v) false (number_sym u v (h (number_eq a b e))) refl)

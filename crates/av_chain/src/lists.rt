@@ -13,7 +13,7 @@ ghost use Rattle.av_chain.specs.Lists.{anon_there};
 use crate::node::{Head, Node, Place, Sides, Way};
 use crate::nodes::Nodes;
 use crate::parts::Parts;
-use crate::rows::tell_head;
+use crate::rows::{set_head, tell_head};
 use std::alloc::{AllocError, Global};
 use std::collections::HashMap;
 
@@ -99,7 +99,7 @@ impl Lists {
     }
 
     // Links an area whose list has this head to an anon_vma: its head then, which the heads are not
-    // told.
+    // told. The head of the anon_vma's list is looked up once, where it has one.
     fn add_behind(
         &mut self,
         alloc: Global,
@@ -115,12 +115,43 @@ impl Lists {
         ensures same { OnErr result (AreKeptBut area head self.new) }
         ensures err { OnErr result (self.new.nodes.blocks ≡ self.old.nodes.blocks) }
     {
+        let Some(users) = self.anons.get_mut(&anon) else {
+            return self.add_first_user(alloc, area, head, anon);
+        };
         let in_area = sides_behind(head)?;
-        let in_anon = room_for(&mut self.anons, anon)?;
+        let in_anon = sides_behind(Some(*users))?;
         let node = Box::new(alloc, Node::linking(area, anon, in_area, in_anon))?;
         let place = self.nodes.put(Parts::of(node));
         let longer = self.nodes.join_behind(Way::Area, head, place);
-        self.nodes.join(&mut self.anons, Way::Anon, anon, place);
+        *users = self.nodes.join_behind(Way::Anon, Some(*users), place);
+        Ok(longer)
+    }
+
+    // The same, where the anon_vma has no list: the room for its head is made first.
+    fn add_first_user(
+        &mut self,
+        alloc: Global,
+        area: u64,
+        head: Option<Head>,
+        anon: u64,
+    ) -> Result<Head, AllocError>
+        requires kept { AreKeptBut area head self.old }
+        requires new { is_in anon (chain_of (links_in self.old) area) ≡ false }
+        requires unused { get nat_eq self.old.anons anon ≡ None }
+        ensures areas { self.new.areas ≡ self.old.areas }
+        ensures kept { IfOk result (λ longer. AreKeptBut area (Some longer) self.new) }
+        ensures links { OnOk result (links_in self.new ≡ links_in self.old ++ (area, anon) ∷ []) }
+        ensures same { OnErr result (AreKeptBut area head self.new) }
+        ensures err { OnErr result (self.new.nodes.blocks ≡ self.old.nodes.blocks) }
+    {
+        let in_area = sides_behind(head)?;
+        let in_anon = sides_behind(None)?;
+        self.anons.reserve(1)?;
+        let node = Box::new(alloc, Node::linking(area, anon, in_area, in_anon))?;
+        let place = self.nodes.put(Parts::of(node));
+        let longer = self.nodes.join_behind(Way::Area, head, place);
+        let users = self.nodes.join_behind(Way::Anon, None, place);
+        set_head(&mut self.anons, anon, users);
         Ok(longer)
     }
 

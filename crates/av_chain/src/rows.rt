@@ -160,8 +160,8 @@ pub(crate) fn tell_head(heads: &mut HashMap<u64, Head>, key: u64, head: Option<H
     }
 }
 
-// The head of a list, for which there is room.
-fn set_head(heads: &mut HashMap<u64, Head>, key: u64, head: Head)
+/// The head of a list, for which there is room.
+pub(crate) fn set_head(heads: &mut HashMap<u64, Head>, key: u64, head: Head)
     requires { 0 < spare heads.old }
     ensures { HaveHead key (Some head) (get nat_eq heads.old) (get nat_eq heads.new) }
 {

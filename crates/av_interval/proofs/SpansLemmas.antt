@@ -475,3 +475,24 @@ replaced_done s s' r r' f a x root ra p there k w e =
       ];
     } in
     done s r f s' r' a (Some (record { tree = k; len = root.len })) xs c row e
+
+-- a root that is there is given again
+pub given_again : (a : ℕ) (o : Option Root) (r : ℕ → Option Root) → r a ≡ o → with_at a o r ≡ r
+given_again a o r e = λ i b. (elim (eqb b a) as (λ t. eqb b a ≡ t → cond t o (r b) ≡ r b) [
+  | true ↦ λ q. sym e ∙ ap r (sym (eqb-true b a q))
+  | false ↦ λ q. refl
+] refl) i
+
+-- it is given and taken away
+pub given_twice : (a : ℕ) (o p : Option Root) (r : ℕ → Option Root) → with_at a p (with_at a o r) ≡ with_at a p r
+given_twice a o p r = λ i b. (elim (eqb b a) as (λ t. cond t p (cond t o (r b)) ≡ cond t p (r b)) [
+  | true ↦ refl
+  | false ↦ refl
+]) i
+
+-- an anon_vma without a root has no triple
+pub none_entries : (s : Store) (o : Option Root) → o ≡ None → entries (tree_at s (top_of o)) ≡ []
+none_entries s o e = ap (λ p. entries (tree_at s (top_of p))) e ∙ ap entries (none_tree key 0 max last_of max_laws s)
+
+pub none_new : (s : Store) (o : Option Root) → o ≡ None → (area : ℕ) → IsNew area (entries (tree_at s (top_of o)))
+none_new s o e area = subst (IsNew area) (sym (none_entries s o e)) tt

@@ -1,8 +1,11 @@
 //! Which anon_vmas have a tree, and its root.
 
-ghost use Rattle.std.specs.Prelude.{◌≡◌, ℕ, Some, None, IsSome, MatchResult};
+ghost use Rattle.std.specs.Prelude.{◌≡◌, ℕ, Some, None, MatchResult, OnSome, option_map};
+ghost use Rattle.std.specs.Borrow.{LendsSo, sem};
 ghost use Rattle.av_interval.specs.Roots.{root_of};
 ghost use Rattle.av_base.specs.Words.{with_at};
+ghost use Rattle.av_interval.specs.contracts.roots.Roots.{the_row};
+ghost use Rattle.av_interval.specs.contracts.roots.Root.{the_row as root_row};
 
 use av_arena::Link;
 use std::alloc::{AllocError, Global};
@@ -38,29 +41,25 @@ impl Roots {
         self.map.get(&anon).copied()
     }
 
-    /// Gives an anon_vma its first tree, or another one in place of the one that it has. Memory is
-    /// wanting for a first one alone, and all stays then.
+    /// The tree of an anon_vma, to change it.
+    pub fn get_mut(&mut self, anon: u64) -> Option<&mut Root>
+        // The tree that is lent comes back as this anon_vma's, and no other changes.
+        ensures* writes_back { sem 𝓛 (LendsSo the_row root_row self.entry result
+            (λ n w. OnSome result (root_of n ≡ with_at anon (Some w) (root_of self.old)))
+            (λ n. root_of n ≡ root_of self.old)) }
+        ensures value { option_map (λ r. r.now) result ≡ root_of self.old anon }
+    {
+        self.map.get_mut(&anon)
+    }
+
+    /// Gives an anon_vma a tree. Without memory all stays.
     pub fn put(&mut self, anon: u64, root: Root) -> Result<(), AllocError>
         ensures { MatchResult result
             (λ _. root_of self.new ≡ with_at anon (Some root) (root_of self.old))
-            (λ _. (root_of self.new ≡ root_of self.old) × (root_of self.old anon ≡ None)) }
+            (λ _. root_of self.new ≡ root_of self.old) }
     {
-        if let Some(old) = self.map.get_mut(&anon) {
-            *old = root;
-            return Ok(());
-        }
         self.map.insert(anon, root)?;
         Ok(())
-    }
-
-    /// Gives an anon_vma another tree in place of the one that it has.
-    pub fn change(&mut self, anon: u64, root: Root)
-        requires { IsSome (root_of self.old anon) }
-        ensures { root_of self.new ≡ with_at anon (Some root) (root_of self.old) }
-    {
-        if let Some(old) = self.map.get_mut(&anon) {
-            *old = root;
-        }
     }
 
     /// Takes away the tree of an anon_vma.

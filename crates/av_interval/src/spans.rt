@@ -1,9 +1,9 @@
 //! The trees of all anon_vmas, with the calls that change them.
 
 ghost use Rattle.std.specs.Prelude.{◌≡◌, ℕ, ◌+◌, ◌*◌, ◌^◌, ◌<◌, ◌≤◌, [], is_ok, length, take};
-ghost use Rattle.std.specs.Prelude.{IsSome, OnErr, if◌then◌else◌};
+ghost use Rattle.std.specs.Prelude.{IsSome, None, OnErr, if◌then◌else◌, ◌∷◌};
 ghost use Rattle.av_arena.specs.Order.{entry_at, with_entry, without_key};
-ghost use Rattle.av_interval.specs.Spans.{IsNew, height_at, tree_of, triples};
+ghost use Rattle.av_interval.specs.Spans.{IsNew, height_at, root_in, tree_of, triples};
 ghost use Rattle.av_interval.specs.Span.{triple};
 ghost use Rattle.av_interval.specs.Search.{IsOrdered, overlap_of};
 ghost use Rattle.av_interval.specs.Batch.{overlaps_past};
@@ -68,21 +68,35 @@ impl Spans {
         ensures kept { OnErr result ((a : ℕ) → tree_of self.new a ≡ tree_of self.old a) }
     {
         let span = Span { first, last, area };
-        let root = self.roots.get(anon);
-        let Some(len) = len(root).checked_add(1) else {
+        let Some(root) = self.roots.get_mut(anon) else {
+            return self.add_first(anon, span);
+        };
+        let Some(len) = root.len.checked_add(1) else {
             return Err(AllocError);
         };
-        let leaf = Stored {
-            left: None,
-            entry: span,
-            right: None,
-        };
-        let number = match self.arena.add(leaf) {
+        let number = match self.arena.add(leaf(span)) {
             Ok(number) => number,
             Err(error) => return Err(error),
         };
-        let tree = place(&mut self.arena, top(root), number, span);
-        match self.roots.put(anon, Root { tree, len }) {
+        root.tree = place(&mut self.arena, Some(root.tree), number, span);
+        root.len = len;
+        Ok(())
+    }
+
+    // Links an area to an anon_vma that has no tree. Without memory all stays.
+    fn add_first(&mut self, anon: u64, span: Span) -> Result<(), AllocError>
+        requires none { root_in self.old anon ≡ None }
+        requires fits { span.area < 2 ^ 64 }
+        ensures spans { (a : ℕ) → triples self.new a ≡ (if is_ok result
+            then with_at anon (span ∷ []) (triples self.old) a else triples self.old a) }
+        ensures kept { OnErr result ((a : ℕ) → tree_of self.new a ≡ tree_of self.old a) }
+    {
+        let number = match self.arena.add(leaf(span)) {
+            Ok(number) => number,
+            Err(error) => return Err(error),
+        };
+        let tree = place(&mut self.arena, None, number, span);
+        match self.roots.put(anon, Root { tree, len: 1 }) {
             Ok(()) => Ok(()),
             Err(error) => {
                 self.arena.free(number);
@@ -98,7 +112,7 @@ impl Spans {
         ensures { (a : ℕ) → triples self.new a ≡ with_at anon
             (without_key key (key_of first area) (triples self.old anon)) (triples self.old) a }
     {
-        let Some(root) = self.roots.get(anon) else {
+        let Some(root) = self.roots.get_mut(anon) else {
             unreachable!()
         };
         let like = Span {
@@ -106,17 +120,15 @@ impl Spans {
             last: first,
             area,
         };
+        is_few(root.len);
         let (number, rest) = remove(&mut self.arena, Some(root.tree), like);
         self.arena.free(number);
         match rest {
             None => self.roots.remove(anon),
-            Some(tree) => self.roots.change(
-                anon,
-                Root {
-                    tree,
-                    len: root.len - 1,
-                },
-            ),
+            Some(tree) => {
+                root.tree = tree;
+                root.len -= 1;
+            }
         }
     }
 
@@ -128,18 +140,12 @@ impl Spans {
             (with_entry key (triple first last area)
             (without_key key (key_of first area) (triples self.old anon))) (triples self.old) a }
     {
-        let Some(root) = self.roots.get(anon) else {
+        let Some(root) = self.roots.get_mut(anon) else {
             unreachable!()
         };
         let span = Span { first, last, area };
-        let tree = replace(&mut self.arena, Some(root.tree), span);
-        self.roots.change(
-            anon,
-            Root {
-                tree,
-                len: root.len,
-            },
-        );
+        is_few(root.len);
+        root.tree = replace(&mut self.arena, Some(root.tree), span);
     }
 
     /// First index and area of the first span past `after` that overlaps `index`. It takes no
@@ -188,6 +194,22 @@ impl Spans {
         ensures { result ≡ length (triples self.now anon) }
     {
         len(self.roots.get(anon))
+    }
+}
+
+// How many spans a tree has is a number of the machine: a law, which keeps the tree low.
+fn is_few(len: u64)
+    ensures { len < 2 ^ 64 }
+{}
+
+// A node without sides.
+fn leaf(span: Span) -> Stored<Span, u64>
+    ensures { result ≡ record { left = None; entry = span; right = None } }
+{
+    Stored {
+        left: None,
+        entry: span,
+        right: None,
     }
 }
 

@@ -1,4 +1,4 @@
-use Rattle.std.proofs.Common.{◌≡◌, ℕ, List, [], ◌∷◌, ◌++◌, refl, sym, ap, ◌∙◌, subst, Option, Some}
+use Rattle.std.proofs.Common.{◌≡◌, ℕ, List, [], ◌∷◌, ◌++◌, sym, ap, ◌∙◌, subst, Option, Some, IsSome, cond, refl}
 use Rattle.std.specs.HashMap.{get}
 use Rattle.std.specs.Prelude.{nat_eq}
 use Rattle.av_base.specs.Words.{with_at}
@@ -6,8 +6,7 @@ use Rattle.av_chain.specs.declared.node.Head.{Head}
 use Rattle.av_chain.specs.declared.node.Node.{Node}
 use Rattle.av_chain.specs.Nodes.{Block, IsApart}
 use Rattle.av_chain.specs.Rows.{node_of, Reaches, last_of}
-use Rattle.av_chain.specs.Lists.{AreThreaded}
-use Rattle.av_chain.proofs.Wholes.{whole_heads}
+use Rattle.av_chain.proofs.Wholes.{number_flip, whole_heads}
 use Rattle.av_chain.proofs.Behind.{IsBehind, behind, node_behind, at_own, at_twice}
 use Rattle.av_chain.proofs.lists.Lists.add_behind.Goals.{After-put-place}
 use Rattle.av_chain.proofs.lists.Lists.add_behind.Goals as goal
@@ -18,16 +17,23 @@ module _ (c : After-put-place) where
   A = with_at c.args.area c.args.head (get nat_eq c.args.self.now.areas)
 
   abbrev V : ℕ → Option Head
-  V = get nat_eq c.room_for.new.heads
+  V = get nat_eq c.args.self.now.anons
 
   abbrev bs : List Block
   bs = c.args.self.now.nodes.blocks
 
-  threaded : AreThreaded A V bs
-  threaded = whole_heads A A _ V bs (λ k. refl) c.room_for.ensures.same c.requires.kept
+  -- the head of the anon_vma's list
+  abbrev u : Option Head
+  u = (Some c.in-Some.users.now)
+
+  users : V c.args.anon ≡ u
+  users = sym c.in-Some.ensures.value
+
+  there : IsSome (V c.args.anon)
+  there = subst IsSome (sym users) refl
 
   abbrev node : Node
-  node = node_behind A V bs c.put-place.result.ptr c.args.area c.args.anon c.args.head
+  node = node_behind A V bs c.put-place.result.ptr c.args.area c.args.anon c.args.head u
 
   blocks : c.put-place.new.self.blocks ≡ bs ++ (c.put-place.result.ptr, node) ∷ []
   blocks =
@@ -37,30 +43,32 @@ module _ (c : After-put-place) where
       (record { before = c.in_ok-in_anon.ensures.sides.0 i; after = c.in_ok-in_anon.ensures.sides.1 i })) in
       c.put-place.ensures ∙ ap (λ (m : Node). bs ++ (c.put-place.result.ptr, m) ∷ []) value
 
-  facts : IsBehind A V bs c.put-place.result.ptr c.args.area c.args.anon c.args.head
-  facts = behind A V bs c.put-place.result.ptr c.args.area c.args.anon c.args.head
-      (at_own c.args.area c.args.head (get nat_eq c.args.self.now.areas)) threaded (subst IsApart blocks c.put-place.new.self.apart)
+  facts : IsBehind A V bs c.put-place.result.ptr c.args.area c.args.anon c.args.head u
+  facts = behind A V bs c.put-place.result.ptr c.args.area c.args.anon c.args.head u
+      (at_own c.args.area c.args.head (get nat_eq c.args.self.now.areas)) users c.requires.kept (subst IsApart blocks c.put-place.new.self.apart)
 
 pub join_behind-longer-requires-clause-reaches : goal.join_behind-longer-requires-clause-reaches
 join_behind-longer-requires-clause-reaches c =
     let p = (goal.at.join_behind-longer-requires-clause-reaches c).After-put-place in
     subst (Reaches (last_of c.args.head)) (sym (blocks p)) (facts p).first
 
-pub join-requires-clause-reaches : goal.join-requires-clause-reaches
-join-requires-clause-reaches c =
-    let p = (goal.at.join-requires-clause-reaches c).After-put-place in
+pub join_behind-requires-clause-reaches : goal.join_behind-requires-clause-reaches
+join_behind-requires-clause-reaches c =
+    let p = (goal.at.join_behind-requires-clause-reaches c).After-put-place in
     rw (c.join_behind-longer.ensures.blocks, blocks p) (facts p).second
 
 pub returns-clause-kept : goal.returns-clause-kept
 returns-clause-kept c =
     let p = (goal.at.returns-clause-kept c).After-put-place in
     let areas = get nat_eq c.args.self.now.areas in
-    rw (c.join.ensures.blocks, c.join_behind-longer.ensures.blocks, blocks p)
-    (whole_heads _ (with_at c.args.area (Some c.join_behind-longer.result) areas) _ (get nat_eq c.join.new.heads) _
+    rw (c.join_behind.ensures.blocks, c.join_behind-longer.ensures.blocks, blocks p)
+    (whole_heads _ (with_at c.args.area (Some c.join_behind-longer.result) areas) _ (get nat_eq (c.get_mut.follows.lender c.join_behind.result)) _
     (λ k. ap (λ h. with_at c.args.area (Some h) areas k) c.join_behind-longer.ensures.head ∙ sym (at_twice c.args.area _ c.args.head areas k))
-    c.join.ensures.heads ((facts p).kept c.requires.new))
+    (λ k. ((c.get_mut.follows.holds c.join_behind.result).3 (there p)).0 k
+    ∙ (λ i. cond (number_flip c.args.anon k i) (Some (c.join_behind.ensures.head i)) (V p k)))
+    ((facts p).kept c.requires.new))
 
 pub returns-clause-links : goal.returns-clause-links
 returns-clause-links c =
     let p = (goal.at.returns-clause-links c).After-put-place in
-    rw (c.join.ensures.blocks, c.join_behind-longer.ensures.blocks, blocks p) (facts p).links
+    rw (c.join_behind.ensures.blocks, c.join_behind-longer.ensures.blocks, blocks p) (facts p).links
