@@ -8,7 +8,6 @@ ghost use Rattle.av_book.specs.Shortage.{is_held as is_held_for};
 ghost use Rattle.av_book.specs.Spared.{spared_of};
 
 use crate::book::Book;
-use crate::lists::is_among;
 use crate::machine::Machine;
 use crate::spared::{Spared, is_pinned};
 use av_trace::OutOf;
@@ -30,9 +29,7 @@ impl Book {
         match hold {
             Hold::NoSlot => self.has_turn(spared, frame) && self.slot_of(frame).is_none(),
             Hold::Fault => self.has_turn(spared, frame) && self.slot_of(frame).is_some(),
-            Hold::Locked => {
-                !is_pinned(spared.pinned, frame) && is_among(frame, spared.locked.as_slice())
-            }
+            Hold::Locked => !is_pinned(spared.pinned, frame) && spared.is_locked(frame),
             Hold::Ksm => !spared.spares(frame) && self.is_merged(frame),
         }
     }
