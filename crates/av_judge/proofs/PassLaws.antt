@@ -1,9 +1,9 @@
 -- A frame's turn, part by part.
-use Rattle.std.proofs.Common.{◌≡◌, ℕ, zero, suc, ◌+◌, ◌<◌, add-one, take, drop, reverse, length, arith, Bool, true, false, not, ◌==◌, Option, Some, None, is_none, List, [], ◌∷◌, ◌++◌}
+use Rattle.std.proofs.Common.{◌≡◌, ℕ, zero, suc, ◌+◌, ◌-◌, ◌<◌, add-one, drop, reverse, length, arith, Bool, true, false, not, ◌==◌, Option, Some, None, is_none, List, [], ◌∷◌, ◌++◌}
 use Rattle.std.proofs.Common.{refl, sym, ap, subst, ◌∙◌, append-nil, append_assoc}
 use Rattle.std.specs.Prelude.{IsTrue, MatchBool, MatchOption, if◌then◌else◌, ◌&&◌, ◌||◌, filter}
 use Rattle.std.specs.List.{slice_get}
-use Rattle.std.proofs.lemmas.List.{length-take}
+use Rattle.std.proofs.lemmas.Option.{slice_get_within}
 use Rattle.av_base.specs.Words.{is_in}
 use Rattle.av_base.specs.declared.slot.Slot.{Slot}
 use Rattle.av_trace.specs.declared.note.Note.{Note}
@@ -21,7 +21,7 @@ use Rattle.av_book.specs.Machine.{AreNamed}
 use Rattle.av_judge.specs.Notes.{IsSlotted}
 use Rattle.av_judge.specs.Finds.{Gets, Reads, Stand}
 use Rattle.av_judge.specs.Flight.{IsEnd}
-use Rattle.av_judge.specs.Pass.{AreCleaned, AreFirst, AreWriteNotes, GoesTo, IsPut, IsTurn, IsTurnEnd, Unmaps}
+use Rattle.av_judge.specs.Pass.{AreCleaned, AreWriteNotes, GoesTo, IsPut, IsTurn, IsTurnEnd, Unmaps}
 use Rattle.av_judge.proofs.Finds.{InPartsBy, InPartsFrom, InPartsTo, TellsValue, first-one, from-no-first, from-then, parts-tell, text-cons}
 use Rattle.av_judge.proofs.Finds.{reads-as, reads-nothing, stand-none}
 use Rattle.av_judge.proofs.FlightLaws.{end-tells}
@@ -386,22 +386,11 @@ turn-stays m sp l l' f bytes rest h =
     let t = h.lawful in
     let notes = t.4 ∙ ap (λ e. unmap_notes l f t.0 ++ e) (write-failed t.0 (is_dirty l f t.0) t.1 t.3) in
     turn_order-same sp l l' (
-      subst (AreSame l) (sym (h.after ∙ ap (after_notes l) notes))
-      (turn-same l f t.0 (is_none (slot_of l f)) (not (map_count l f == 0)))
+    subst (AreSame l) (sym (h.after ∙ ap (after_notes l) notes))
+    (turn-same l f t.0 (is_none (slot_of l f)) (not (map_count l f == 0)))
     )
 
--- ---- the first frames of all
-
-pub get-first : (n i : ℕ) (fs : List ℕ) → i < n → slice_get (take n fs) i ≡ slice_get fs i
-get-first zero i fs h = absurd (omega (arith, h))
-get-first (suc n) i [] h = refl
-get-first (suc n) zero (f ∷ fs) h = refl
-get-first (suc n) (suc i) (f ∷ fs) h = get-first n i fs (omega (arith, h))
-
-pub get-listed : (frames fs : List ℕ) (i : ℕ) → AreFirst frames fs → i < length frames → slice_get frames i ≡ slice_get fs i
-get-listed frames fs i first h =
-    let size = ap length first.1 ∙ length-take first.0 fs in
-    ap (λ xs. slice_get xs i) first.1 ∙ get-first first.0 i fs (omega (arith, h, size))
+-- ---- a frame by its place
 
 pub get-next : (fs : List ℕ) (i f : ℕ) → slice_get fs i ≡ Some f → drop i fs ≡ f ∷ drop (i + 1) fs
 get-next fs i f e = by fs i e ∙ ap (λ n. f ∷ drop n fs) (sym (add-one i))
@@ -413,6 +402,13 @@ get-next fs i f e = by fs i e ∙ ap (λ n. f ∷ drop n fs) (sym (add-one i))
         inner : Some g ≡ Some f → g ≡ f
         inner e = cc
     by (g ∷ fs) (suc i) e = by fs i e
+
+-- the measure of a walk over frames
+pub get-less : (fs fs' : List ℕ) (i f : ℕ) → slice_get fs i ≡ Some f → fs' ≡ fs → length fs' - (i + 1) < length fs - i
+get-less fs fs' i f e same =
+    let within = slice_get_within fs i f e in
+    let size = ap length same in
+    omega (arith, within, size)
 
 pub get-none : (fs : List ℕ) (i : ℕ) → slice_get fs i ≡ None → drop i fs ≡ []
 get-none [] zero e = refl

@@ -199,6 +199,7 @@ pub fn turns(
     let mut listed = Vec::new(unit.alloc);
     let mut past = 0;
     while let Some(frame) = next_in_turn(unit.alloc, book, spared, &mut listed, past)? {
+        past += 1;
         if !book.is_stuck(machine, spared, frame) {
             match turn(book, unit, machine, spared, frame)? {
                 None => return Ok(false),
@@ -206,7 +207,6 @@ pub fn turns(
                 Some(true) => {}
             }
         }
-        past += 1;
     }
     Ok(true)
 }
