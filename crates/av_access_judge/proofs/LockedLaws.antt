@@ -1,5 +1,5 @@
 -- The frames of locked pages are those of the definitions.
-use Rattle.std.proofs.Common.{◌≡◌, inl, inr, ℕ, ◌<◌, ◌≤◌, Bool, true, false, cond, ◌&&◌, ◌||◌, ◌==◌, List, [], ◌∷◌, ◌++◌, map, filter, None, Some, nat_le, nat_lt, refl, sym, ap, subst, ◌∙◌, arith}
+use Rattle.std.proofs.Common.{◌≡◌, inl, inr, ℕ, ◌<◌, ◌≤◌, Bool, true, false, cond, ◌&&◌, ◌||◌, ◌==◌, List, [], ◌∷◌, map, filter, None, Some, nat_le, nat_lt, refl, sym, ap, subst, ◌∙◌, arith}
 use Rattle.std.specs.List.{list_any}
 use Rattle.std.specs.Ordering.{nat_cmp}
 use Rattle.std.specs.BTreeMap.{is_at}
@@ -8,7 +8,6 @@ use Rattle.std.specs.BTreeSet.{BTreeSet, contains}
 use Rattle.std.specs.declared.ops.Bound.TheVariants.{Included, Excluded}
 use Rattle.std.proofs.lemmas.Bool.{cases_lt, eqb-true}
 use Rattle.std.proofs.lemmas.Bool.Decides.{nat_tests}
-use Rattle.std.proofs.lemmas.List.Folds.{list_any-append}
 use Rattle.av_base.specs.Keys.{Key, key_cmp}
 use Rattle.av_base.specs.Words.{is_in}
 use Rattle.av_plain.specs.Fault.{is_locked}
@@ -24,6 +23,26 @@ use Rattle.av_world.specs.Memories.{IsWorld}
 use Rattle.av_world.specs.declared.memories.Memories.{Memories}
 use Rattle.av_world.proofs.KeptLaws.{same-key}
 use Rattle.av_access_judge.specs.Locked.{frames_of, has_frame, is_locked_at}
+
+-- ---- frames in a set
+
+at-same : (f g : ℕ) → is_at (nat_cmp g) f ≡ (f == g)
+at-same f g = grind (arith, nat_tests)
+
+-- a frame comes to the set, before others do
+pub frame-more : (f g : ℕ) (was now rest all : Bool) → now ≡ cond (is_at (nat_cmp g) f) true was → (was || (f == g || rest)) ≡ all
+    → (now || rest) ≡ all
+frame-more f g was now rest all more h = ap (λ b. b || rest) (more ∙ ap (λ b. cond b true was) (at-same f g)) ∙ by (f == g) was ∙ h
+  where
+    by : (same was : Bool) → (cond same true was || rest) ≡ (was || (same || rest))
+    by true true = refl
+    by true false = refl
+    by false was = refl
+
+-- no more comes
+pub frames-all : (was all : Bool) → (was || false) ≡ all → was ≡ all
+frames-all true all h = h
+frames-all false all h = h
 
 -- ---- entries by a test of their keys
 
@@ -101,8 +120,8 @@ abbrev pub below : World → ℕ → ℕ → Key → Bool
 below w p at k = k.0 == p && (nat_lt k.1 at && is_locked_at w k)
 
 -- below the first page is none
-pub none-below : (w : World) (p f : ℕ) (es : List (Key × Entry)) (old : List ℕ) → is_in f old ≡ (is_in f old || has_frame (below w p 0) f es)
-none-below w p f es old = sym (ap (λ x. is_in f old || x) ((λ i. has_frame (λ k. none k i) f es) ∙ nothing f es) ∙ or-false (is_in f old))
+pub none-below : (w : World) (p f : ℕ) (es : List (Key × Entry)) (old : Bool) → old ≡ (old || has_frame (below w p 0) f es)
+none-below w p f es old = sym (ap (λ x. old || x) ((λ i. has_frame (λ k. none k i) f es) ∙ nothing f es) ∙ or-false old)
   where
     or-false : (b : Bool) → (b || false) ≡ b
     or-false true = refl
@@ -175,13 +194,12 @@ module _ (w : World) (p at : ℕ) where
 
   -- a run more
   pub run-added : (start end : ℕ) → at ≤ start → start < end → IsFirstRun Test at (Some (start, end)) → (f : ℕ) (es range : List (Key × Entry))
-      (old was now : List ℕ) → range ≡ filter (λ (e : Key × Entry). range_contains key_cmp (Included (p, start)) (Excluded (p, end)) e.0) es
-      → now ≡ was ++ frames_of range → is_in f was ≡ (is_in f old || has_frame (below w p at) f es)
-      → is_in f now ≡ (is_in f old || has_frame (below w p end) f es)
+      (old was now : Bool) → range ≡ filter (λ (e : Key × Entry). range_contains key_cmp (Included (p, start)) (Excluded (p, end)) e.0) es
+      → now ≡ (was || is_in f (frames_of range)) → was ≡ (old || has_frame (below w p at) f es)
+      → now ≡ (old || has_frame (below w p end) f es)
   run-added start end low less run f es range old was now is more h =
-      added (below w p at) between (below w p end) f es (is_in f was) (is_in f now) (is_in f old) h
-      (ap (is_in f) more ∙ list_any-append (λ y. f == y) was (frames_of range)
-      ∙ ap (λ b. is_in f was || b) (ap (λ r. is_in f (frames_of r)) is ∙ frames-in between f es))
+      added (below w p at) between (below w p end) f es was now old h
+      (more ∙ ap (λ b. was || b) (ap (λ r. is_in f (frames_of r)) is ∙ frames-in between f es))
       (with-run start end low less run)
     where
       between : Key → Bool
@@ -209,10 +227,10 @@ module _ (w : World) (p at : ℕ) where
       ]
       by false e = refl
 
-  pub all-runs : IsFirstRun Test at None → (f : ℕ) (es : List (Key × Entry)) (old now : List ℕ)
-      → is_in f now ≡ (is_in f old || has_frame (below w p at) f es)
-      → is_in f now ≡ (is_in f old || has_frame (λ k. k.0 == p && is_locked_at w k) f es)
-  all-runs none f es old now h = h ∙ (λ i. is_in f old || has_frame (λ k. all-below none k i) f es)
+  pub all-runs : IsFirstRun Test at None → (f : ℕ) (es : List (Key × Entry)) (old now : Bool)
+      → now ≡ (old || has_frame (below w p at) f es)
+      → now ≡ (old || has_frame (λ k. k.0 == p && is_locked_at w k) f es)
+  all-runs none f es old now h = h ∙ (λ i. old || has_frame (λ k. all-below none k i) f es)
 
 -- ---- process by process
 
@@ -221,24 +239,24 @@ abbrev pub is_one : List ℕ → ℕ → Bool
 is_one ps p = list_any (λ q. is_at (nat_cmp p) q) ps
 
 -- those of which the frames are there, and the others with a locked page are left
-abbrev pub AreDone : Memories → List (Key × Entry) → List ℕ → List ℕ → Type 0
+abbrev pub AreDone : Memories → List (Key × Entry) → (ℕ → Bool) → List ℕ → Type 0
 AreDone memories es made rest = (done : ℕ → Bool)
     × ((w : World) → IsWorld memories w → (p page : ℕ) → is_locked_page (pages w p page) ≡ true → (is_one rest p || done p) ≡ true)
-    × ((w : World) → IsWorld memories w → (f : ℕ) → is_in f made ≡ has_frame (λ k. done k.0 && is_locked_at w k) f es)
+    × ((w : World) → IsWorld memories w → (f : ℕ) → made f ≡ has_frame (λ k. done k.0 && is_locked_at w k) f es)
 
-pub none-done : (memories : Memories) (es : List (Key × Entry)) (made rest : List ℕ) (locking : BTreeSet ℕ) → made ≡ [] → rest ≡ locking.keys
+pub none-done : (memories : Memories) (es : List (Key × Entry)) (made : BTreeSet ℕ) (rest : List ℕ) (locking : BTreeSet ℕ) → made.keys ≡ [] → rest ≡ locking.keys
     → ((w : World) → IsWorld memories w → (p page : ℕ) → is_locked_page (pages w p page) ≡ true → contains nat_cmp locking p ≡ true)
-    → AreDone memories es made rest
+    → AreDone memories es (contains nat_cmp made) rest
 none-done memories es made rest locking empty all noted = (
   λ p. false,
   λ w at p page locked. ap (λ rest. is_one rest p || false) all ∙ ap (λ b. b || false) (noted w at p page locked),
-  λ w at f. ap (is_in f) empty ∙ sym (nothing f es),
+  λ w at f. ap (list_any (is_at (nat_cmp f))) empty ∙ sym (nothing f es),
 )
 
-module _ (memories : Memories) (es : List (Key × Entry)) (was now rest later : List ℕ) (number : ℕ) where
+module _ (memories : Memories) (es : List (Key × Entry)) (was now : ℕ → Bool) (rest later : List ℕ) (number : ℕ) where
   pub one-done : AreDone memories es was rest → rest ≡ number ∷ later
       → ((w : World) → IsWorld memories w → (f : ℕ)
-      → is_in f now ≡ (is_in f was || has_frame (λ k. k.0 == number && is_locked_at w k) f es)) → AreDone memories es now later
+      → now f ≡ (was f || has_frame (λ k. k.0 == number && is_locked_at w k) f es)) → AreDone memories es now later
   one-done h is more = (
     λ p. h.0 p || p == number,
     λ w at p page locked. by p (is_at (nat_cmp p) number) refl (h.0 p)
@@ -270,8 +288,8 @@ module _ (memories : Memories) (es : List (Key × Entry)) (was now rest later : 
           front false false c h = cc
 
 -- all with a locked page are
-pub all-done : (memories : Memories) (book : Book) (made : List ℕ) → AreDone memories book.pages.entries made []
-    → (w : World) → IsWorld memories w → (f : ℕ) → is_in f made ≡ is_locked w (ledger_of book) f
+pub all-done : (memories : Memories) (book : Book) (made : ℕ → Bool) → AreDone memories book.pages.entries made []
+    → (w : World) → IsWorld memories w → (f : ℕ) → made f ≡ is_locked w (ledger_of book) f
 all-done memories book made h w at f = h.2 w at f ∙ (λ i. has_frame (λ k. each k i) f book.pages.entries) ∙ locked-are w book.pages.entries f
   where
     by : (done locked : Bool) → (locked ≡ true → done ≡ true) → (done && locked) ≡ locked

@@ -13,6 +13,7 @@ use crate::locked::locked_frames;
 use av_book::{Book, Machine, Spared};
 use av_world::Memories;
 use std::alloc::{AllocError, Global};
+use std::collections::BTreeSet;
 
 /// What a pass spares for a page of an access, beside the frame that is to be copied.
 pub fn sparing(
@@ -48,7 +49,7 @@ pub fn sparing_where_full(
     if book.has_free(machine) {
         return Ok(Spared {
             pinned,
-            locked: Vec::new(alloc),
+            locked: BTreeSet::new(alloc),
             closing: None,
         });
     }

@@ -2,4 +2,5 @@ pub mod AreaLaws
 pub mod MapLaws
 pub mod RangeLaws
 pub mod RemovalLaws
+pub mod ShortageLaws
 pub mod UseLaws

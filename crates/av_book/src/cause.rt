@@ -7,7 +7,6 @@ ghost use Rattle.av_book.specs.Machine.{setting_of};
 ghost use Rattle.av_book.specs.Spared.{spared_of};
 
 use crate::book::Book;
-use crate::lists::is_among;
 use crate::machine::Machine;
 use crate::spared::Spared;
 use av_base::Slot;
@@ -29,7 +28,7 @@ impl Book {
         ensures { result ≡ cause_of (setting_of machine.now) (spared_of spared.now)
             (ledger_of self.now) frame }
     {
-        if is_among(frame, spared.locked.as_slice()) {
+        if spared.is_locked(frame) {
             Some(Cause::Locked)
         } else if self.is_merged(frame) {
             Some(Cause::Ksm)

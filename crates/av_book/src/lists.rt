@@ -3,7 +3,6 @@
 ghost use Rattle.std.specs.Prelude.{◌≡◌, OnOk};
 ghost use Rattle.av_plain.specs.Event.{off_lists, to_active, to_inactive_head, to_inactive_tail};
 ghost use Rattle.av_plain.specs.Ledger.{is_merged};
-ghost use Rattle.av_base.specs.Words.{is_in};
 ghost use Rattle.av_book.specs.Book.{in_neither, ledger_of};
 
 use crate::book::Book;
@@ -56,18 +55,4 @@ impl Book {
         self.unlist(frame);
         self.active.push_front(frame)
     }
-}
-
-/// Whether a number is one of some.
-pub fn is_among(n: u32, numbers: &[u32]) -> bool
-    ensures { result ≡ is_in n numbers.now }
-{
-    let mut rest = numbers;
-    while let [first, others @ ..] = rest {
-        if n == *first {
-            return true;
-        }
-        rest = others;
-    }
-    false
 }

@@ -1,14 +1,15 @@
 //! Why no frame can be had, in numbers.
 
-ghost use Rattle.std.specs.Prelude.{◌≡◌};
-ghost use Rattle.av_plain.specs.Pass.{how_many_frames, out_of};
+ghost use Rattle.std.specs.Prelude.{◌≡◌, ℕ, false, true};
+ghost use Rattle.std.specs.List.{range_with_len};
+ghost use Rattle.av_base.specs.Words.{how_many};
+ghost use Rattle.av_plain.specs.Pass.{how_many_frames, is_pinned as is_pinned_by, out_of};
 ghost use Rattle.av_book.specs.Book.{ledger_of};
 ghost use Rattle.av_book.specs.Machine.{setting_of};
 ghost use Rattle.av_book.specs.Shortage.{is_held as is_held_for};
 ghost use Rattle.av_book.specs.Spared.{spared_of};
 
 use crate::book::Book;
-use crate::lists::is_among;
 use crate::machine::Machine;
 use crate::spared::{Spared, is_pinned};
 use av_trace::OutOf;
@@ -22,6 +23,16 @@ pub enum Hold {
     Ksm,
 }
 
+/// How many of the first n frames are pinned.
+fn pinned_below(pinned: Option<u32>, n: u32) -> u32
+    ensures { result ≡ how_many (is_pinned_by pinned) (range_with_len 0 n) }
+{
+    match pinned {
+        None => 0,
+        Some(frame) => { if frame < n { 1 } else { 0 } }
+    }
+}
+
 impl Book {
     /// Whether a frame is held for this cause.
     fn is_held(&self, spared: &Spared, hold: Hold, frame: u32) -> bool
@@ -30,10 +41,20 @@ impl Book {
         match hold {
             Hold::NoSlot => self.has_turn(spared, frame) && self.slot_of(frame).is_none(),
             Hold::Fault => self.has_turn(spared, frame) && self.slot_of(frame).is_some(),
-            Hold::Locked => {
-                !is_pinned(spared.pinned, frame) && is_among(frame, spared.locked.as_slice())
-            }
+            Hold::Locked => !is_pinned(spared.pinned, frame) && spared.is_locked(frame),
             Hold::Ksm => !spared.spares(frame) && self.is_merged(frame),
+        }
+    }
+
+    /// Whether no frame at all is held for this cause, as far as that is known at once.
+    fn holds_none(&self, spared: &Spared, hold: Hold) -> bool
+        ensures { result ≡ true → (f : ℕ)
+            → is_held_for (spared_of spared.now) (ledger_of self.now) hold f ≡ false }
+    {
+        match hold {
+            Hold::Locked => spared.locked.is_empty(),
+            Hold::Ksm => self.merged.len() == 0,
+            Hold::NoSlot | Hold::Fault => false,
         }
     }
 
@@ -42,6 +63,9 @@ impl Book {
         ensures { result ≡ how_many_frames (setting_of machine.now)
             (is_held_for (spared_of spared.now) (ledger_of self.now) hold) }
     {
+        if self.holds_none(spared, hold) {
+            return 0;
+        }
         let mut n = 0;
         for frame in 0..machine.frames {
             if self.is_held(spared, hold, frame) {
@@ -56,12 +80,16 @@ impl Book {
         ensures { result
             ≡ out_of (setting_of machine.now) (spared_of spared.now) (ledger_of self.now) }
     {
+        let pinned = pinned_below(spared.pinned, machine.frames);
+        let fault = self.held(machine, spared, Hold::Fault);
+        let locked = self.held(machine, spared, Hold::Locked);
+        let ksm = self.held(machine, spared, Hold::Ksm);
         OutOf {
             pinned: u32::from(spared.pinned.is_some()),
-            noslot: self.held(machine, spared, Hold::NoSlot),
-            fault: self.held(machine, spared, Hold::Fault),
-            locked: self.held(machine, spared, Hold::Locked),
-            ksm: self.held(machine, spared, Hold::Ksm),
+            noslot: machine.frames - pinned - locked - ksm - fault,
+            fault,
+            locked,
+            ksm,
         }
     }
 }

@@ -1,6 +1,6 @@
 //! What a pass and a reclaim leave alone, and which frames have a turn.
 
-ghost use Rattle.std.specs.Prelude.{◌≡◌, IfOk, reverse};
+ghost use Rattle.std.specs.Prelude.{◌≡◌, ◌≤◌, ◌++◌, filter, IfOk, length, OnOk, reverse, take};
 ghost use Rattle.av_plain.specs.Pass.{frames_in_turn, has_turn, is_pinned as is_pinned_by};
 ghost use Rattle.av_plain.specs.Pass.{is_spared, is_stuck};
 ghost use Rattle.av_book.specs.Book.{ledger_of};
@@ -8,26 +8,33 @@ ghost use Rattle.av_book.specs.Machine.{setting_of};
 ghost use Rattle.av_book.specs.Spared.{spared_of};
 
 use crate::book::Book;
-use crate::lists::is_among;
 use crate::machine::Machine;
 use av_queue::Queue;
 use std::alloc::{AllocError, Global};
+use std::collections::BTreeSet;
 
 /// What a pass leaves alone, beside merged frames: the frame that is about to be copied, those of
 /// locked pages, and the swap area that closes.
 #[derive(Drop)]
 pub struct Spared {
     pub pinned: Option<u32>,
-    pub locked: Vec<u32>,
+    pub locked: BTreeSet<u32>,
     pub closing: Option<u8>,
 }
 
 impl Spared {
+    /// Whether it is the frame of a locked page.
+    pub fn is_locked(&self, frame: u32) -> bool
+        ensures { result ≡ (spared_of self.now).locked frame }
+    {
+        self.locked.contains(&frame)
+    }
+
     /// Whether a frame is left alone.
     pub fn spares(&self, frame: u32) -> bool
         ensures { result ≡ is_spared (spared_of self.now) frame }
     {
-        is_pinned(self.pinned, frame) || is_among(frame, self.locked.as_slice())
+        is_pinned(self.pinned, frame) || self.is_locked(frame)
     }
 }
 
@@ -57,22 +64,40 @@ impl Book {
         !spared.spares(frame) && !self.is_merged(frame)
     }
 
-    /// The frames that have a turn: inactive from its tail, then active from its tail.
-    pub fn in_turn(&self, alloc: Global, spared: &Spared) -> Result<Vec<u32>, AllocError>
-        ensures { IfOk result (λ frames. frames.items
-            ≡ frames_in_turn (spared_of spared.now) (ledger_of self.now)) }
+    /// Frames of a list come to others: those that have a turn, from the list's end on, until
+    /// there are n.
+    fn add_in_turn(
+        &self,
+        frames: &mut Vec<u32>,
+        list: &Queue<u32>,
+        spared: &Spared,
+        n: usize,
+    ) -> Result<(), AllocError>
+        requires { length frames.old.items ≤ n }
+        ensures { OnOk result (frames.new.items ≡ take n (frames.old.items ++ filter
+            (has_turn (spared_of spared.now) (ledger_of self.now)) (reverse list.now))) }
     {
-        let mut frames = from_end(alloc, &self.inactive)?;
-        let active = from_end(alloc, &self.active)?;
-        frames.extend_from_slice(active.as_slice())?;
-        frames.retain(|frame| self.has_turn(spared, *frame));
+        let mut left = list.iter();
+        while frames.len() < n {
+            let Some(frame) = left.next_back() else {
+                return Ok(());
+            };
+            if self.has_turn(spared, *frame) {
+                frames.push(*frame)?;
+            }
+        }
+        Ok(())
+    }
+
+    /// The first frames that have a turn, n at most: inactive from its tail, then active from its
+    /// tail. Nothing behind them is looked at.
+    pub fn in_turn(&self, alloc: Global, spared: &Spared, n: usize) -> Result<Vec<u32>, AllocError>
+        ensures { IfOk result (λ frames. frames.items
+            ≡ take n (frames_in_turn (spared_of spared.now) (ledger_of self.now))) }
+    {
+        let mut frames = Vec::new(alloc);
+        self.add_in_turn(&mut frames, &self.inactive, spared, n)?;
+        self.add_in_turn(&mut frames, &self.active, spared, n)?;
         Ok(frames)
     }
-}
-
-/// A list from its end on.
-fn from_end(alloc: Global, frames: &Queue<u32>) -> Result<Vec<u32>, AllocError>
-    ensures { IfOk result (λ made. made.items ≡ reverse frames.now) }
-{
-    frames.iter().rev().copied().collect(alloc)
 }

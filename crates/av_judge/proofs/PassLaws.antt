@@ -1,13 +1,17 @@
 -- A frame's turn, part by part.
-use Rattle.std.proofs.Common.{◌≡◌, ℕ, ◌<◌, length, arith, Bool, true, false, not, ◌==◌, Option, Some, None, is_none, List, [], ◌∷◌, ◌++◌}
+use Rattle.std.proofs.Common.{◌≡◌, ℕ, zero, suc, ◌+◌, ◌-◌, ◌<◌, add-one, drop, reverse, length, arith, Bool, true, false, not, ◌==◌, Option, Some, None, is_none, List, [], ◌∷◌, ◌++◌}
 use Rattle.std.proofs.Common.{refl, sym, ap, subst, ◌∙◌, append-nil, append_assoc}
-use Rattle.std.specs.Prelude.{IsTrue, MatchBool, MatchOption, if◌then◌else◌, ◌&&◌, ◌||◌}
+use Rattle.std.specs.Prelude.{IsTrue, MatchBool, MatchOption, if◌then◌else◌, ◌&&◌, ◌||◌, filter}
+use Rattle.std.specs.List.{slice_get}
+use Rattle.std.proofs.lemmas.Option.{slice_get_within}
+use Rattle.av_base.specs.Words.{is_in}
 use Rattle.av_base.specs.declared.slot.Slot.{Slot}
 use Rattle.av_trace.specs.declared.note.Note.{Note}
 use Rattle.av_trace.specs.declared.note.Note.TheVariants.{Dropped, Failed, Put, Started, Unmapped, Written}
-use Rattle.av_plain.specs.Event.{after_notes, when}
+use Rattle.av_plain.specs.Event.{after_note, after_notes, change_entries, if_some, when}
 use Rattle.av_plain.specs.Ledger.{Ledger, Setting, is_stale, map_count, may_give, slot_of}
-use Rattle.av_plain.specs.Pass.{IsSlotFor, Spared, Turns, end_note, is_dirty, is_stuck, unmap_notes}
+use Rattle.av_plain.specs.Ledger.{InSlot}
+use Rattle.av_plain.specs.Pass.{IsSlotFor, Spared, Turns, end_note, frames_in_turn, is_dirty, is_spared, is_stuck, unmap_notes}
 use Rattle.std.proofs.lemmas.Bool.{and_parts, ltb-true}
 use Rattle.std.specs.List.{AllByRecursion}
 use Rattle.av_trace.specs.Note.{IsNote}
@@ -341,7 +345,73 @@ put-other m sp l f bytes more t fits is not_free s ns rest h st =
     differ : (b : Bool) → b ≡ true → b ≡ false → ⊥
     differ b h g = cc
 
-pub turns-over : (m : Setting) (sp : Spared) (l : Ledger) (bytes : List ℕ) (fs : List ℕ) → length fs < 1
+pub turns-over : (m : Setting) (sp : Spared) (l : Ledger) (bytes : List ℕ) (fs : List ℕ) → fs ≡ []
     → Reads (Turns m sp l fs) l bytes true l bytes
-turns-over m sp l bytes [] h = reads-nothing (Turns m sp l []) l bytes refl
-turns-over m sp l bytes (f ∷ fs) h = absurd (omega (arith, h))
+turns-over m sp l bytes fs none = subst (λ fs. Reads (Turns m sp l fs) l bytes true l bytes) (sym none)
+    (reads-nothing (Turns m sp l []) l bytes refl)
+
+-- ---- the frames that have a turn stay the same while none becomes free
+
+-- what no put, unmapping or write that fails changes
+abbrev AreSame : Ledger → Ledger → Type 0
+AreSame l l' = (l'.active ≡ l.active) × (l'.inactive ≡ l.inactive) × (l'.merged ≡ l.merged)
+
+unmapped-same : (l : Ledger) (f : ℕ) → AreSame l (after_notes l (Unmapped f ∷ []))
+unmapped-same l f = by (slot_of l f)
+  where
+    by : (o : Option Slot) → AreSame l (if_some o (λ s. change_entries f (λ _. InSlot s)) l)
+    by None = (refl, refl, refl)
+    by (Some s) = (refl, refl, refl)
+
+turn-same : (l : Ledger) (f : ℕ) (s : Slot) (put unmapped : Bool)
+    → AreSame l (after_notes l ((when put (Put f s) ++ when unmapped (Unmapped f)) ++ (Started s ∷ Failed s ∷ [])))
+turn-same l f s false false = (refl, refl, refl)
+turn-same l f s true false = (refl, refl, refl)
+turn-same l f s false true = unmapped-same l f
+turn-same l f s true true = unmapped-same (after_note (Put f s) l) f
+
+write-failed : (s : Slot) (dirty : Bool) (ended : List Note) → IsTurnEnd s dirty true ended → ended ≡ Started s ∷ Failed s ∷ []
+write-failed s true ended h = h.2 ∙ append-nil h.0 ∙ h.1
+write-failed s false ended h = absurd (differ h.1.0)
+  where
+    differ : true ≡ false → ⊥
+    differ e = cc
+
+turn_order-same : (sp : Spared) (l l' : Ledger) → AreSame l l' → frames_in_turn sp l' ≡ frames_in_turn sp l
+turn_order-same sp l l' h = λ i. filter (λ f. not (is_spared sp f) && not (is_in f (h.2 i))) (reverse (h.1 i) ++ reverse (h.0 i))
+
+pub turn-stays : (m : Setting) (sp : Spared) (l l' : Ledger) (f : ℕ) (bytes rest : List ℕ)
+    → Gets (IsTurn m sp l f) l bytes (Some true) l' rest → frames_in_turn sp l' ≡ frames_in_turn sp l
+turn-stays m sp l l' f bytes rest h =
+    let t = h.lawful in
+    let notes = t.4 ∙ ap (λ e. unmap_notes l f t.0 ++ e) (write-failed t.0 (is_dirty l f t.0) t.1 t.3) in
+    turn_order-same sp l l' (
+    subst (AreSame l) (sym (h.after ∙ ap (after_notes l) notes))
+    (turn-same l f t.0 (is_none (slot_of l f)) (not (map_count l f == 0)))
+    )
+
+-- ---- a frame by its place
+
+pub get-next : (fs : List ℕ) (i f : ℕ) → slice_get fs i ≡ Some f → drop i fs ≡ f ∷ drop (i + 1) fs
+get-next fs i f e = by fs i e ∙ ap (λ n. f ∷ drop n fs) (sym (add-one i))
+  where
+    by : (fs : List ℕ) (i : ℕ) → slice_get fs i ≡ Some f → drop i fs ≡ f ∷ drop (suc i) fs
+    by [] i e = cc
+    by (g ∷ fs) zero e = ap (λ x. x ∷ fs) (inner e)
+      where
+        inner : Some g ≡ Some f → g ≡ f
+        inner e = cc
+    by (g ∷ fs) (suc i) e = by fs i e
+
+-- the measure of a walk over frames
+pub get-less : (fs fs' : List ℕ) (i f : ℕ) → slice_get fs i ≡ Some f → fs' ≡ fs → length fs' - (i + 1) < length fs - i
+get-less fs fs' i f e same =
+    let within = slice_get_within fs i f e in
+    let size = ap length same in
+    omega (arith, within, size)
+
+pub get-none : (fs : List ℕ) (i : ℕ) → slice_get fs i ≡ None → drop i fs ≡ []
+get-none [] zero e = refl
+get-none [] (suc i) e = refl
+get-none (g ∷ fs) zero e = cc
+get-none (g ∷ fs) (suc i) e = get-none fs i e

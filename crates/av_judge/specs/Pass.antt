@@ -1,7 +1,7 @@
 -- What a frame's turn may be, part by part.
 use Rattle.std.specs.Prelude.{◌≡◌, ℕ, ◌<◌, Bool, true, false, not, List, [], ◌∷◌, ◌++◌}
 use Rattle.std.specs.Prelude.{IsTrue}
-use Rattle.std.specs.Prelude.{is_none, if◌then◌else◌}
+use Rattle.std.specs.Prelude.{is_none, if◌then◌else◌, take}
 use Rattle.av_base.specs.declared.slot.Slot.{Slot}
 use Rattle.av_trace.specs.declared.note.Note.{Note}
 use Rattle.av_trace.specs.declared.note.Note.TheVariants.{Dropped, Kept, Put, Started}
@@ -47,6 +47,10 @@ IsTurnEnd s dirty stays notes = (cleaned : List Note) × AreCleaned s dirty stay
 abbrev pub IsTurn : Setting → PlainSpared → Ledger → ℕ → Bool → List Note → Type 0
 IsTurn m spared l f stays notes = (s : Slot) × (ended : List Note) × IsSlotFor m spared l f s
     × IsTurnEnd s (is_dirty l f s) stays ended × (notes ≡ unmap_notes l f s ++ ended)
+
+-- these are the first frames of all
+abbrev pub AreFirst : List ℕ → List ℕ → Type 0
+AreFirst frames all = (n : ℕ) × (frames ≡ take n all)
 
 -- ---- reclaim
 

@@ -26,19 +26,18 @@ fn first(alloc: Global, slots: &Queue<Slot>, n: u16) -> Result<Vec<Slot>, AllocE
     slots.iter().take(usize::from(n)).copied().collect(alloc)
 }
 
-/// Frames from the last on.
-fn from_end(alloc: Global, frames: &Queue<u32>) -> Result<Vec<u32>, AllocError>
-    ensures { IfOk result (λ made. made.items ≡ reverse frames.now) }
-{
-    frames.iter().rev().copied().collect(alloc)
-}
-
 /// The last frames of some, n at most, from the end.
 fn last(alloc: Global, frames: &Queue<u32>, n: u16) -> Result<Vec<u32>, AllocError>
     ensures { IfOk result (λ made. made.items ≡ take n (reverse frames.now)) }
 {
-    let mut made = from_end(alloc, frames)?;
-    made.truncate(usize::from(n));
+    let mut made = Vec::new(alloc);
+    let mut left = frames.iter();
+    while made.len() < usize::from(n) {
+        let Some(frame) = left.next_back() else {
+            return Ok(made);
+        };
+        made.push(*frame)?;
+    }
     Ok(made)
 }
 

@@ -1,11 +1,12 @@
 //! The direct pass, as its notes tell.
 
-ghost use Rattle.std.specs.Prelude.{◌≡◌, IfOk};
-ghost use Rattle.av_plain.specs.Pass.{Turns};
+ghost use Rattle.std.specs.Prelude.{◌≡◌, ◌+◌, ◌<◌, ◌^◌, IfOk, IsSome, OnOk};
+ghost use Rattle.std.specs.List.{slice_get};
+ghost use Rattle.av_plain.specs.Pass.{Turns, frames_in_turn};
 ghost use Rattle.av_book.specs.Book.{ledger_of};
 ghost use Rattle.av_judge.specs.Finds.{Gets, Reads};
 ghost use Rattle.av_book.specs.Machine.{AreNamed, setting_of};
-ghost use Rattle.av_judge.specs.Pass.{AreCleaned, AreWriteNotes, GoesTo, IsPut};
+ghost use Rattle.av_judge.specs.Pass.{AreCleaned, AreFirst, AreWriteNotes, GoesTo, IsPut};
 ghost use Rattle.av_book.specs.Spared.{spared_of};
 ghost use Rattle.av_judge.specs.Pass.{IsTurn, IsTurnEnd, Unmaps};
 
@@ -15,7 +16,7 @@ use crate::unit::{Unit, reads, reads_when};
 use av_base::Slot;
 use av_book::{Book, Machine, Spared};
 use av_trace::Note;
-use std::alloc::AllocError;
+use std::alloc::{AllocError, Global};
 
 /// A frame that isn't cached is put at a slot that may be given.
 fn puts(
@@ -158,29 +159,54 @@ fn frees(
     }
 }
 
+/// The frame whose turn comes when `past` frames had theirs. Some of the first in turn are listed;
+/// where it isn't among these, some four times as many as had their turns are.
+fn next_in_turn(
+    alloc: Global,
+    book: &Book,
+    spared: &Spared,
+    listed: &mut Vec<u32>,
+    past: usize,
+) -> Result<Option<u32>, AllocError>
+    requires listed { AreFirst listed.old.items
+        (frames_in_turn (spared_of spared.now) (ledger_of book.now)) }
+    requires fits { past < 2 ^ 63 }
+    ensures value { IfOk result (λ frame. frame
+        ≡ slice_get (frames_in_turn (spared_of spared.now) (ledger_of book.now)) past) }
+    ensures listed { OnOk result (AreFirst listed.new.items
+        (frames_in_turn (spared_of spared.now) (ledger_of book.now))) }
+    ensures fits { IfOk result (λ frame. IsSome frame → past + 1 < 2 ^ 63) }
+{
+    if listed.len() <= past {
+        let n = past.saturating_mul(4).saturating_add(4);
+        *listed = book.in_turn(alloc, spared, n)?;
+    }
+    Ok(listed.get(past).copied())
+}
+
 /// The frames in turn, up to the first that becomes free.
 pub fn turns(
     book: &mut Book,
     unit: &mut Unit<'_>,
     machine: &Machine,
     spared: &Spared,
-    frames: &[u32],
 ) -> Result<bool, AllocError>
     requires fits { AreNamed (setting_of machine.now) }
     ensures { IfOk result (λ read. Reads (Turns (setting_of machine.now) (spared_of spared.now)
-        (ledger_of book.old) frames.now) (ledger_of book.old) unit.old.rest.now read
-        (ledger_of book.new) unit.new.rest.now) }
+        (ledger_of book.old) (frames_in_turn (spared_of spared.now) (ledger_of book.old)))
+        (ledger_of book.old) unit.old.rest.now read (ledger_of book.new) unit.new.rest.now) }
 {
-    let mut rest = frames;
-    while let [first, others @ ..] = rest {
-        if !book.is_stuck(machine, spared, *first) {
-            match turn(book, unit, machine, spared, *first)? {
+    let mut listed = Vec::new(unit.alloc);
+    let mut past = 0;
+    while let Some(frame) = next_in_turn(unit.alloc, book, spared, &mut listed, past)? {
+        past += 1;
+        if !book.is_stuck(machine, spared, frame) {
+            match turn(book, unit, machine, spared, frame)? {
                 None => return Ok(false),
                 Some(false) => return Ok(true),
                 Some(true) => {}
             }
         }
-        rest = others;
     }
     Ok(true)
 }

@@ -34,8 +34,7 @@ fn passes(
     if book.has_free(machine) {
         return Ok(true);
     }
-    let frames = book.in_turn(unit.alloc, spared)?;
-    turns(book, unit, machine, spared, frames.as_slice())
+    turns(book, unit, machine, spared)
 }
 
 /// What comes before a frame is taken: a pass exactly where none is free.

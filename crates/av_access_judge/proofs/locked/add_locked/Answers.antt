@@ -1,4 +1,6 @@
 use Rattle.std.proofs.Common.{filter, ap, ◌∙◌}
+use Rattle.std.specs.BTreeSet.{contains}
+use Rattle.std.specs.Ordering.{nat_cmp}
 use Rattle.std.specs.BTreeMap.Range.{range_contains}
 use Rattle.std.specs.declared.ops.Bound.TheVariants.{Excluded, Included}
 use Rattle.av_base.specs.Keys.{Key, key_cmp}
@@ -7,16 +9,16 @@ use Rattle.av_access_judge.proofs.LockedLaws.{all-runs, none-below, run-added}
 use Rattle.av_access_judge.proofs.locked.add_locked.Goals as goal
 
 pub loop-start-init : goal.loop-start-init
-loop-start-init c = λ w h f. none-below w c.args.process f c.args.book.now.pages.entries c.args.made.now.items
+loop-start-init c = λ w h f. none-below w c.args.process f c.args.book.now.pages.entries (contains nat_cmp c.args.made.now f)
 
 pub loop-start-preserved : goal.loop-start-preserved
 loop-start-preserved c = λ w h f.
     let between = λ (k : Key). range_contains key_cmp (Included (c.args.process, c.in-Some.start)) (Excluded (c.args.process, c.in-Some.end)) k in
     run-added w c.args.process c.loop-start.at c.in-Some.start c.in-Some.end c.in-Some.ensures.order.0 c.in-Some.ensures.order.1
-    (c.in-Some.ensures.pages w h) f c.args.book.now.pages.entries c.range.result c.args.made.now.items c.loop-start.made.items
-    c.add_frames.new.made.items (c.range.ensures.between tt ∙ ap (filter (λ (e : Key × Entry). between e.0)) c.entries.ensures)
-    c.in_ok-add_frames.ensures (c.loop-start.invariant w h f)
+    (c.in-Some.ensures.pages w h) f c.args.book.now.pages.entries c.range.result (contains nat_cmp c.args.made.now f)
+    (contains nat_cmp c.loop-start.made f) (contains nat_cmp c.add_frames.new.made f) (c.range.ensures.between tt ∙ ap (filter (λ (e : Key × Entry). between e.0)) c.entries.ensures)
+    (c.in_ok-add_frames.ensures f) (c.loop-start.invariant w h f)
 
 pub returns : goal.returns
 returns c = λ w h f. all-runs w c.args.process c.loop-start.at (c.in_default.ensures.pages w h) f c.args.book.now.pages.entries
-    c.args.made.now.items c.loop-start.made.items (c.loop-start.invariant w h f)
+    (contains nat_cmp c.args.made.now f) (contains nat_cmp c.loop-start.made f) (c.loop-start.invariant w h f)

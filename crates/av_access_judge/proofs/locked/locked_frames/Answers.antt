@@ -1,4 +1,6 @@
 use Rattle.std.proofs.Common.{subst, ◌∙◌}
+use Rattle.std.specs.BTreeSet.{contains}
+use Rattle.std.specs.Ordering.{nat_cmp}
 use Rattle.std.proofs.lemmas.Map.Iter.{rest_all, rest_more}
 use Rattle.std.specs.Map.Iter.{deref}
 use Rattle.av_access_judge.proofs.LockedLaws.{AreDone, all-done, none-done, one-done}
@@ -8,21 +10,21 @@ pub loop-process-init : goal.loop-process-init
 loop-process-init c = record {
   can_next = tt;
   is_finite = tt;
-  done = none-done c.args.memories.now c.args.book.now.pages.entries c.new-made.result.items c.into_iter-process-iterator.result c.locking.result.now
-      c.new-made.ensures.items (c.into_iter-process-iterator.ensures.into_iter_gives ∙ c.iter-process-items.ensures.rest) c.locking.ensures;
+  done = none-done c.args.memories.now c.args.book.now.pages.entries c.new-made.result c.into_iter-process-iterator.result c.locking.result.now
+      c.new-made.ensures.empty (c.into_iter-process-iterator.ensures.into_iter_gives ∙ c.iter-process-items.ensures.rest) c.locking.ensures;
 }
 
 pub loop-process-preserved : goal.loop-process-preserved
 loop-process-preserved c = record {
   can_next = tt;
   is_finite = tt;
-  done = one-done c.args.memories.now c.args.book.now.pages.entries c.loop-process.made.items c.add_locked.new.made.items
+  done = one-done c.args.memories.now c.args.book.now.pages.entries (contains nat_cmp c.loop-process.made) (contains nat_cmp c.add_locked.new.made)
       c.loop-process.process-iterator c.next.new.self c.in-Some.process.now c.loop-process.invariant.done
       (rest_more deref c.loop-process.process-iterator c.next.new.self c.next.result c.in-Some.process c.in-Some.is c.next.ensures.steps)
       c.in_ok-add_locked.ensures;
 }
 
 pub returns : goal.returns
-returns c = all-done c.args.memories.now c.args.book.now c.loop-process.made.items
-    (subst (AreDone c.args.memories.now c.args.book.now.pages.entries c.loop-process.made.items)
+returns c = all-done c.args.memories.now c.args.book.now (contains nat_cmp c.loop-process.made)
+    (subst (AreDone c.args.memories.now c.args.book.now.pages.entries (contains nat_cmp c.loop-process.made))
     (rest_all deref c.loop-process.process-iterator _ c.next.result c.in-None.is c.next.ensures.steps) c.loop-process.invariant.done)

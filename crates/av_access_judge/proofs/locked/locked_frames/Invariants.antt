@@ -1,3 +1,5 @@
+use Rattle.std.specs.BTreeSet.{contains}
+use Rattle.std.specs.Ordering.{nat_cmp}
 use Rattle.av_access_judge.proofs.LockedLaws.{AreDone}
 use Rattle.av_access_judge.proofs.locked.locked_frames.Given as goal
 
@@ -5,5 +7,5 @@ abbrev pub invariant-loop-process : goal.invariant-loop-process
 invariant-loop-process l = record {
   can_next : (goal.iterator-loop-process).can_next l.process-iterator;
   is_finite : (goal.iterator-loop-process).is_finite l.process-iterator;
-  done : AreDone l.memories l.book.pages.entries l.made.items l.process-iterator;
+  done : AreDone l.memories l.book.pages.entries (contains nat_cmp l.made) l.process-iterator;
 }

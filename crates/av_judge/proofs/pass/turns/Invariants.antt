@@ -1,19 +1,25 @@
-use Rattle.std.proofs.Common.{ℕ, Bool, List, length}
+use Rattle.std.proofs.Common.{◌≡◌, ◌<◌, ◌-◌, ◌^◌, ℕ, Bool, List, length, drop}
 use Rattle.av_plain.specs.Ledger.{Ledger}
-use Rattle.av_plain.specs.Pass.{Turns}
+use Rattle.av_plain.specs.Pass.{Turns, frames_in_turn}
 use Rattle.av_book.specs.Book.{ledger_of}
-use Rattle.av_judge.specs.Finds.{Reads}
 use Rattle.av_book.specs.Machine.{setting_of}
 use Rattle.av_book.specs.Spared.{spared_of}
+use Rattle.av_judge.specs.Finds.{Reads}
+use Rattle.av_judge.specs.Pass.{AreFirst}
 use Rattle.av_judge.proofs.pass.turns.Given as goal
 
 -- what is read from here on is what is read
-abbrev pub invariant-loop-rest : goal.invariant-loop-rest
-invariant-loop-rest l = (read : Bool) (l' : Ledger) (left : List ℕ)
-    → Reads (Turns (setting_of l.machine) (spared_of l.spared) (ledger_of l.book) l.rest) (ledger_of l.book)
-    l.unit.rest.now read l' left
-    → Reads (Turns (setting_of l.machine) (spared_of l.spared) (ledger_of l.fn.book) l.frames) (ledger_of l.fn.book)
-    l.fn.unit.rest.now read l' left
+abbrev pub invariant-loop-listed : goal.invariant-loop-listed
+invariant-loop-listed l = record {
+  fits : l.past < 2 ^ 63;
+  same : frames_in_turn (spared_of l.spared) (ledger_of l.book) ≡ frames_in_turn (spared_of l.spared) (ledger_of l.fn.book);
+  listed : AreFirst l.listed.items (frames_in_turn (spared_of l.spared) (ledger_of l.book));
+  later : (read : Bool) (l' : Ledger) (left : List ℕ)
+      → Reads (Turns (setting_of l.machine) (spared_of l.spared) (ledger_of l.book)
+      (drop l.past (frames_in_turn (spared_of l.spared) (ledger_of l.book)))) (ledger_of l.book) l.unit.rest.now read l' left
+      → Reads (Turns (setting_of l.machine) (spared_of l.spared) (ledger_of l.fn.book)
+      (frames_in_turn (spared_of l.spared) (ledger_of l.fn.book))) (ledger_of l.fn.book) l.fn.unit.rest.now read l' left;
+}
 
-abbrev pub decreases-loop-rest : goal.decreases-loop-rest
-decreases-loop-rest l = length l.rest
+abbrev pub decreases-loop-listed : goal.decreases-loop-listed
+decreases-loop-listed l = length (frames_in_turn (spared_of l.spared) (ledger_of l.book)) - l.past

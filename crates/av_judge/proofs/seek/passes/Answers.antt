@@ -1,7 +1,7 @@
 use Rattle.std.proofs.Common.{List, true, false, sym, subst, ◌∙◌}
 use Rattle.av_base.specs.declared.slot.Slot.{Slot}
 use Rattle.av_plain.specs.Event.{after_notes}
-use Rattle.av_plain.specs.Pass.{Completes, IsPass, Turns}
+use Rattle.av_plain.specs.Pass.{Completes, IsPass, Turns, frames_in_turn}
 use Rattle.av_book.specs.Book.{ledger_of}
 use Rattle.av_judge.specs.Finds.{Reads}
 use Rattle.av_book.specs.Machine.{setting_of}
@@ -30,15 +30,13 @@ returns c =
     let l1 = ledger_of c.completes.new.book in
     let l2 = ledger_of c.turns.new.book in
     let slots = c.as_slice.ensures.value ∙ c.in_ok-slots.ensures in
-    let frames = c.as_slice-2.ensures.value ∙ c.in_ok-frames.ensures in
     if-ok c.turns.result
-    (λ read. Reads (Turns m sp l1 c.as_slice-2.result.now) l1 c.completes.new.unit.rest.now read l2 c.turns.new.unit.rest.now)
+    (λ read. Reads (Turns m sp l1 (frames_in_turn sp l1)) l1 c.completes.new.unit.rest.now read l2 c.turns.new.unit.rest.now)
     (λ read. Reads (IsPass m sp l) l c.args.unit.now.rest.now read l2 c.turns.new.unit.rest.now)
     (λ read h. reads-then (IsPass m sp l) (Completes l l.flight) (λ a. AreTurnsAt m sp (after_notes l a)) l l1
     l2 c.args.unit.now.rest.now c.completes.new.unit.rest.now c.turns.new.unit.rest.now read (pass-parts m sp l)
     (subst (λ (ss : List Slot). Reads (Completes l ss) l c.args.unit.now.rest.now true l1 c.completes.new.unit.rest.now) slots
     (reads-is _ _ _ _ _ c.in_ok-completes.field-0 true c.if-not-branch.false c.in_ok-completes.ensures))
     (λ a g e. subst (λ n. Reads (AreTurnsAt m sp n) l1 c.completes.new.unit.rest.now read l2 c.turns.new.unit.rest.now) e
-    (some-turns m sp l1 l2 c.completes.new.unit.rest.now c.turns.new.unit.rest.now read (sym c.has_free.ensures ∙ c.if-has_free.false)
-    (subst (λ fs. Reads (Turns m sp l1 fs) l1 c.completes.new.unit.rest.now read l2 c.turns.new.unit.rest.now) frames h))))
+    (some-turns m sp l1 l2 c.completes.new.unit.rest.now c.turns.new.unit.rest.now read (sym c.has_free.ensures ∙ c.if-has_free.false) h)))
     c.turns.ensures
