@@ -85,24 +85,6 @@ one-passes p (x ∷ xs) = by (p x) (one-passes p xs)
     by true h = above (length (filter p xs))
     by false h = h
 
--- ---- nothing is cached
-
-pub no-pair : {B : Type 0} (g : Cached → B) (p : Cached → Bool) (cs : List Cached) → list_any p cs ≡ false → None ≡ option_map g (cached_by p cs)
-no-pair g p [] none = refl
-no-pair g p (c ∷ cs) none = by (p c) none (no-pair g p cs)
-  where
-    by : (b : Bool) → (b || list_any p cs) ≡ false → (list_any p cs ≡ false → None ≡ option_map g (cached_by p cs))
-        → None ≡ option_map g (cond b (Some c) (cached_by p cs))
-    by true none more = cc
-    by false none more = more none
-
--- none passes where none is counted
-pub no-use : (p : Cached → Bool) (cs : List Cached) → how_many p cs ≡ 0 → list_any p cs ≡ false
-no-use p cs none = sym (any-count p cs) ∙ zero (how_many p cs) none
-  where
-    zero : (h : ℕ) → h ≡ 0 → nat_lt 0 h ≡ false
-    zero h e = grind (arith, nat_tests, e)
-
 -- ---- the first of some pages
 
 pub no-first : (pages others : List ℕ) → None ≡ slice_get pages 0 → pages ≡ others → others ≡ []

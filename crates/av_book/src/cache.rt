@@ -18,37 +18,14 @@ impl Book {
     pub fn slot_of(&self, frame: u32) -> Option<Slot>
         ensures { result ≡ slot_of (ledger_of self.now) frame }
     {
-        if self.pages.cache().is_empty() {
-            return None;
-        }
-        if self.pages.frame_pairs(frame) == 0 {
-            return None;
-        }
-        let mut rest = self.pages.cache();
-        while let [first, others @ ..] = rest {
-            if frame == first.frame {
-                return Some(first.slot);
-            }
-            rest = others;
-        }
-        None
+        self.pages.slot_of(frame)
     }
 
     /// The frame that caches the slot, if one does.
     pub fn frame_at(&self, slot: Slot) -> Option<u32>
         ensures { result ≡ frame_at (ledger_of self.now) slot }
     {
-        if !self.is_cached(slot) {
-            return None;
-        }
-        let mut rest = self.pages.cache();
-        while let [first, others @ ..] = rest {
-            if slot == first.slot {
-                return Some(first.frame);
-            }
-            rest = others;
-        }
-        None
+        self.pages.frame_at(slot)
     }
 
     /// Whether the slot is cached.
@@ -62,14 +39,7 @@ impl Book {
     pub fn is_stale(&self, slot: Slot) -> bool
         ensures { result ≡ is_stale (ledger_of self.now) slot }
     {
-        let mut rest = self.pages.cache();
-        while let [first, others @ ..] = rest {
-            if slot == first.slot && first.stale {
-                return true;
-            }
-            rest = others;
-        }
-        false
+        self.pages.is_stale(slot)
     }
 
     /// Whether a write of the slot is in flight.

@@ -16,7 +16,7 @@ use std::marker::Model;
 type Name = ((u16, u64), bool);
 
 /// Up to two keys stand in place, the lesser first: most numbers have one, and two after a fork.
-/// Once there were more they stand in a tree, until none is left.
+/// Once there were more they stand in a tree, however few are left of them.
 #[derive(Drop)]
 enum Kept {
     Empty,

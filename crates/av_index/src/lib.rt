@@ -1,7 +1,7 @@
 //! What keeps counts and keys beside the entries of a ledger, so that a question costs what it
 //! touches: which keys name each number, how many of them are seen, and how many cached pairs have
-//! the number. Up to two keys of a number, which is what most have, take no memory of their own, and
-//! more stand in a tree. It knows no ledger.
+//! the number. Up to two keys of a number, which is what most have, take no memory of their own,
+//! and more stand in a tree. It knows no ledger.
 //!
 //! Proved: each call changes one key or one number, and nothing else; how many keys of a number
 //! are seen; how many numbers of a range are used, and which is the least; the keys of a number are

@@ -54,9 +54,9 @@ tells-all i j es fs key o tells looks others here k =
       slots = λ s. others.slots s k other ∙ (tells k).slots s;
     }
 
--- an entry that is there is some
-pub some-is : (e : Entry) (o : Option Entry) → Some e ≡ o → IsSome o
-some-is e o is = subst IsSome is (search rules)
+-- what is there is some
+pub is-there : {X : Type 0} (e : X) (o : Option X) → Some e ≡ o → IsSome o
+is-there e o is = subst IsSome is (search rules)
 
 -- what has gone is not there, whatever was put before
 pub gone-again : {X : Type 0} (b : Bool) (x y : Option X) → cond b None (cond b x y) ≡ cond b None y

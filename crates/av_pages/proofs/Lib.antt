@@ -2,7 +2,10 @@ pub mod AreaHolders
 pub mod ChangeLaws
 pub mod CountLaws
 pub mod EntryLaws
+pub mod FirstLaws
 pub mod IndexLaws
 pub mod KeyLaws
 pub mod PairLaws
-pub mod PrefixLaws
+pub mod PlacedLaws
+pub mod RankLaws
+pub mod TurnLaws

@@ -1,14 +1,18 @@
 -- The counts of cached pairs stay right as these change.
-use Prim.Native.Nat.{zero}
-use Rattle.std.proofs.Common.{◌≡◌, ℕ, suc, get_or, ◌+◌, ◌-◌, ◌<◌, ◌≤◌, List, [], ◌∷◌, map, filter, Bool}
-use Rattle.std.proofs.Common.{true, false, cond, not, ◌++◌, length, refl, ap, ◌∙◌, arith}
-use Rattle.std.specs.Prelude.{◌==◌, ◌^◌, set}
+use Rattle.std.proofs.Common.{◌≡◌, ℕ, suc, ◌+◌, ◌-◌, ◌<◌, ◌≤◌, List, [], ◌∷◌, map, Bool, Some}
+use Rattle.std.proofs.Common.{true, false, cond, length, refl, sym, ◌∙◌, arith}
+use Rattle.std.specs.Map.{values_of, remove_entry, set_value}
+use Rattle.std.specs.Prelude.{◌==◌, ◌^◌}
 use Rattle.av_base.specs.Words.{how_many}
 use Rattle.av_base.specs.declared.slot.Slot.{Slot}
 use Rattle.av_plain.specs.Ledger.{Cached as PlainCached, same_slot}
-use Rattle.av_pages.specs.Entries.{cached_of}
+use Rattle.av_queue.specs.Line.{member_at}
+use Rattle.av_queue.proofs.LineLaws.{is_rank}
+use Rattle.av_pages.proofs.RankLaws.{count-gone, count-put}
+use Rattle.av_pages.specs.Entries.{cached_of, changed_pair}
 use Rattle.av_pages.specs.Index.{AddsPair, CountsPairs, HasRoom, KeepsPairs, TakesPair}
 use Rattle.av_pages.specs.SlotHolders.{one}
+use Rattle.av_pages.specs.declared.changes.PairChange.TheVariants.{Stale}
 use Rattle.av_pages.specs.declared.entries.Cached.{Cached}
 use Rattle.av_pages.specs.declared.index.Index.{Index}
 
@@ -50,79 +54,63 @@ pub mapped-few : {X Y : Type 0} (f : X → Y) (xs : List X) → length (map f xs
 mapped-few f [] = omega arith
 mapped-few f (x ∷ xs) = let h = mapped-few f xs in omega (arith, h)
 
-pub room : (i : Index) (cs : List Cached) → CountsPairs i (map cached_of cs) → length cs < 2 ^ 63 → HasRoom i
-room i cs c h = record {
-  frames = λ f. small _ _ (c.frames f) (few (λ (c : PlainCached). f == c.frame) (map cached_of cs));
-  slots = λ s. small _ _ (c.slots s) (few (λ (c : PlainCached). same_slot s c.slot) (map cached_of cs));
+pub room : (i : Index) (es : List (ℕ × Cached)) → CountsPairs i (map cached_of (values_of es)) → length es < 2 ^ 63 → HasRoom i
+room i es c h = record {
+  frames = λ f. small _ _ (c.frames f) (few (λ (c : PlainCached). f == c.frame) (map cached_of (values_of es)));
+  slots = λ s. small _ _ (c.slots s) (few (λ (c : PlainCached). same_slot s c.slot) (map cached_of (values_of es)));
 }
   where
-    small : (a b : ℕ) → a ≡ b → b ≤ length (map cached_of cs) → a < 2 ^ 64 - 1
-    small a b e f = let k = mapped-few cached_of cs in omega (arith, e, f, k, h)
+    small : (a b : ℕ) → a ≡ b → b ≤ length (map cached_of (values_of es)) → a < 2 ^ 64 - 1
+    small a b e f =
+        let pairs = mapped-few cached_of (values_of es) in
+        let values = mapped-few (λ (e : ℕ × Cached). e.1) es in
+        omega (arith, e, f, pairs, values, h)
 
--- ---- a pair at another place of the list
+-- ---- a pair that goes, or stands in place of another
 
--- how many pass where one stands in place of another
-put-one : {X Y : Type 0} (g : X → Y) (p : Y → Bool) (xs : List X) (i : ℕ) (x y : X) → i < length xs → x ≡ get_or xs i x
-    → how_many p (map g (set xs i y)) + one (p (g x)) ≡ how_many p (map g xs) + one (p (g y))
-put-one g p [] i x y below is = absurd (omega (arith, below))
-put-one g p (z ∷ xs) zero x y below is = let e = ap (λ z. one (p (g z))) is in omega (arith, e)
-put-one g p (z ∷ xs) (suc i) x y below is =
-    let rest = put-one g p xs i x y (omega (arith, below)) is in omega (arith, rest)
+pub pair-gone : (i j : Index) (es : List (ℕ × Cached)) (rank : ℕ) (x : Cached) → CountsPairs i (map cached_of (values_of es)) → member_at es rank ≡ Some x
+    → TakesPair i j (cached_of x) → CountsPairs j (map cached_of (values_of (remove_entry (is_rank rank) es)))
+pair-gone i j es rank x is there t = record {
+  frames = λ f. minus _ _ _ _ (t.frames f) (is.frames f ∙ count-gone (λ (c : PlainCached). f == c.frame) cached_of es rank x there);
+  slots = λ s. minus _ _ _ _ (t.slots s) (is.slots s ∙ count-gone (λ (c : PlainCached). same_slot s c.slot) cached_of es rank x there);
+}
 
--- a pair takes the place of another, which was counted before it
-pub pair-put : (i j k : Index) (cs : List Cached) (n : ℕ) (x y : Cached) → CountsPairs i (map cached_of cs) → n < length cs → x ≡ get_or cs n x
-    → AddsPair i j (cached_of y) → TakesPair j k (cached_of x) → CountsPairs k (map cached_of (set cs n y))
-pair-put i j k cs n x y is below at a t = record {
+-- the other was counted before this one
+pub pair-put : (i j k : Index) (es : List (ℕ × Cached)) (rank : ℕ) (x y : Cached) → CountsPairs i (map cached_of (values_of es))
+    → member_at es rank ≡ Some x → AddsPair i j (cached_of y) → TakesPair j k (cached_of x)
+    → CountsPairs k (map cached_of (values_of (set_value (is_rank rank) es y)))
+pair-put i j k es rank x y is there a t = record {
   frames = λ f. both _ _ _ _ _ _ _ (t.frames f) (a.frames f) (is.frames f)
-      (put-one cached_of (λ (c : PlainCached). f == c.frame) cs n x y below at);
+      (count-put (λ (c : PlainCached). f == c.frame) cached_of es rank x y there);
   slots = λ s. both _ _ _ _ _ _ _ (t.slots s) (a.slots s) (is.slots s)
-      (put-one cached_of (λ (c : PlainCached). same_slot s c.slot) cs n x y below at);
+      (count-put (λ (c : PlainCached). same_slot s c.slot) cached_of es rank x y there);
 }
   where
     both : (a b d q r o w : ℕ) → a ≡ b - o → b ≡ d + w → d ≡ q → r + o ≡ q + w → a ≡ r
     both a b d q r o w f g h k = omega (arith, f, g, h, k)
 
--- ---- the pairs of a slot go
+-- one that was counted goes again
+pub pair-undone : (i j k : Index) (cs : List PlainCached) (c : PlainCached) → CountsPairs i cs → AddsPair i j c → TakesPair j k c → CountsPairs k cs
+pair-undone i j k cs c is a t = pair-less j k cs c (pair-more i j cs c is a) t
 
-kept-gone : (p q : PlainCached → Bool) (cs : List PlainCached)
-    → how_many p cs ≡ how_many p (filter (λ c. not (q c)) cs) + how_many p (filter q cs)
-kept-gone p q [] = refl
-kept-gone p q (c ∷ cs) = by (q c) (kept-gone p q cs)
-  where
-    by : (b : Bool) → how_many p cs ≡ how_many p (filter (λ c. not (q c)) cs) + how_many p (filter q cs)
-        → one (p c) + how_many p cs ≡ how_many p (cond (not b) (c ∷ filter (λ c. not (q c)) cs) (filter (λ c. not (q c)) cs))
-        + how_many p (cond b (c ∷ filter q cs) (filter q cs))
-    by true h = omega (arith, h)
-    by false h = omega (arith, h)
+-- ---- pairs of a slot that are stale, or are not
 
--- the pairs of a slot, and the others
-abbrev pub of_slot : Slot → List PlainCached → List PlainCached
-of_slot s cs = filter (λ (c : PlainCached). same_slot s c.slot) cs
-
-abbrev pub off_slot : Slot → List PlainCached → List PlainCached
-off_slot s cs = filter (λ (c : PlainCached). not (same_slot s c.slot)) cs
-
-more-many : (p : PlainCached → Bool) (xs ys : List PlainCached) → how_many p (xs ++ ys) ≡ how_many p xs + how_many p ys
-more-many p [] ys = omega arith
-more-many p (x ∷ xs) ys = let h = more-many p xs ys in omega (arith, h)
-
--- a pair is of the slot, or is another's
-pub split-counts : (i : Index) (cs : List PlainCached) (s : Slot) → CountsPairs i cs → CountsPairs i (of_slot s cs ++ off_slot s cs)
-split-counts i cs s c = record {
-  frames = λ f. same _ _ _ _ _ (c.frames f) (all (λ (c : PlainCached). f == c.frame))
-      (more-many (λ (c : PlainCached). f == c.frame) (of_slot s cs) (off_slot s cs));
-  slots = λ t. same _ _ _ _ _ (c.slots t) (all (λ (c : PlainCached). same_slot t c.slot))
-      (more-many (λ (c : PlainCached). same_slot t c.slot) (of_slot s cs) (off_slot s cs));
+pub stale-counts : (i : Index) (cs : List Cached) (s : Slot) (stale : Bool) → CountsPairs i (map cached_of cs)
+    → CountsPairs i (map cached_of (map (changed_pair (Stale s stale)) cs))
+stale-counts i cs s stale is = record {
+  frames = λ f. is.frames f ∙ sym (alike (λ (c : PlainCached). f == c.frame) (λ c. frame f c (same_slot s c.slot)) cs);
+  slots = λ t. is.slots t ∙ sym (alike (λ (c : PlainCached). same_slot t c.slot) (λ c. slot t c (same_slot s c.slot)) cs);
 }
   where
-    all : (p : PlainCached → Bool) → how_many p cs ≡ how_many p (off_slot s cs) + how_many p (of_slot s cs)
-    all p = kept-gone p (λ c. same_slot s c.slot) cs
+    frame : (f : ℕ) (c : Cached) (b : Bool) → (f == (cached_of (cond b (record c { stale = stale }) c)).frame) ≡ (f == c.frame)
+    frame f c true = refl
+    frame f c false = refl
 
-    same : (a d q r t : ℕ) → a ≡ d → d ≡ q + r → t ≡ r + q → a ≡ t
-    same a d q r t e f g = omega (arith, e, f, g)
+    slot : (t : Slot) (c : Cached) (b : Bool) → same_slot t (cached_of (cond b (record c { stale = stale }) c)).slot ≡ same_slot t c.slot
+    slot t c true = refl
+    slot t c false = refl
 
-pub of-slot-yes : (s : Slot) (c : PlainCached) (cs : List PlainCached) → same_slot s c.slot ≡ true → of_slot s (c ∷ cs) ≡ c ∷ of_slot s cs
-of-slot-yes s c cs is = ap (λ b. cond b (c ∷ of_slot s cs) (of_slot s cs)) is
-
-pub of-slot-no : (s : Slot) (c : PlainCached) (cs : List PlainCached) → same_slot s c.slot ≡ false → of_slot s (c ∷ cs) ≡ of_slot s cs
-of-slot-no s c cs is = ap (λ b. cond b (c ∷ of_slot s cs) (of_slot s cs)) is
+    alike : (p : PlainCached → Bool) → ((c : Cached) → p (cached_of (changed_pair (Stale s stale) c)) ≡ p (cached_of c)) → (cs : List Cached)
+        → how_many p (map cached_of (map (changed_pair (Stale s stale)) cs)) ≡ how_many p (map cached_of cs)
+    alike p same [] = refl
+    alike p same (c ∷ cs) = λ i. one (same c i) + alike p same cs i

@@ -1,12 +1,11 @@
 //! How entries and cached pairs change.
 
 ghost use Rattle.std.specs.Prelude.{◌≡◌};
-ghost use Rattle.std.specs.Option.{unwrap_or};
 ghost use Rattle.av_base.specs.Words.{renamed};
-ghost use Rattle.av_pages.specs.Entries.{changed_at, changed_pair, with_frame_at, with_slot};
+ghost use Rattle.av_pages.specs.Entries.{changed_at, with_frame_at, with_slot};
 ghost use Rattle.av_pages.specs.Entries.{without_seen_of};
 
-use crate::entries::{Cached, Entry};
+use crate::entries::Entry;
 use av_base::Slot;
 
 /// What becomes of the entries of a frame: they are unseen, or name a slot, or another frame.
@@ -83,27 +82,6 @@ impl Entry {
             Change::Unseen => self.without_seen(frame),
             Change::ToSlot(slot) => self.with_slot(frame, slot),
             Change::ToFrame(to) => self.with_frame_at(frame, to),
-        }
-    }
-}
-
-impl Cached {
-    /// The pair that stands in place of this one, if it changes.
-    pub(crate) fn changed(self, change: PairChange) -> Option<Cached>
-        ensures { unwrap_or result self ≡ changed_pair change self }
-    {
-        match change {
-            PairChange::Stale { slot, stale } if slot == self.slot => Some(Cached {
-                slot: self.slot,
-                frame: self.frame,
-                stale,
-            }),
-            PairChange::Frame { from, to } if self.frame == from => Some(Cached {
-                slot: self.slot,
-                frame: to,
-                stale: self.stale,
-            }),
-            _ => None,
         }
     }
 }

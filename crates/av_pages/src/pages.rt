@@ -1,24 +1,26 @@
 //! The entries of pages and the cached pairs, with what is kept beside them.
 
-ghost use Rattle.std.specs.Prelude.{◌≡◌, ◌+◌, ◌-◌, ◌^◌, ◌<◌, ◌==◌, [], ◌∷◌};
-ghost use Rattle.std.specs.Prelude.{IfOk, OnOk, None, Some, if◌then◌else◌, filter, length};
-ghost use Rattle.std.specs.Prelude.{map, nat_lt, not, option_map, set, slice_get};
+ghost use Rattle.std.specs.Prelude.{◌≡◌, ◌+◌, ◌-◌, ◌^◌, ◌<◌, ◌==◌, ◌&&◌, [], ◌∷◌};
+ghost use Rattle.std.specs.Prelude.{IfOk, OnErr, OnOk, None, Some, false, if◌then◌else◌, filter};
+ghost use Rattle.std.specs.Prelude.{length, map, nat_lt, not, option_map, slice_get};
+ghost use Rattle.std.specs.Bool.{OnFalse, OnTrue};
 ghost use Rattle.std.specs.BTreeMap.{insert_entry, is_at};
 ghost use Rattle.std.specs.List.{list_any, range_with_len};
 ghost use Rattle.std.specs.List.Sorted.{IsStrictlySortedBy};
 ghost use Rattle.std.specs.Map.{keys_of, lookup, remove_entry};
 ghost use Rattle.av_base.specs.Keys.{Key, key_cmp, same_key};
 ghost use Rattle.av_base.specs.Words.{how_many};
-ghost use Rattle.av_plain.specs.Ledger.{names_frame, names_slot, same_slot};
+ghost use Rattle.av_plain.specs.Ledger.{cached_by, names_frame, names_slot, same_slot};
 ghost use Rattle.av_plain.specs.Reclaim.{names_seen};
 ghost use Rattle.av_pages.specs.Entries.{cached_of, changed_at, changed_pair, entries_of, entry_of};
 ghost use Rattle.av_pages.specs.Entries.{without_seen_of};
-ghost use Rattle.av_pages.specs.Index.{CountsPairs, KeepsKeys};
 ghost use Rattle.av_pages.specs.Pages.{used_pages};
+ghost use Rattle.av_pages.specs.declared.changes.PairChange.TheVariants.{Frame};
 
 use crate::changes::{Change, PairChange};
 use crate::entries::{Cached, Entry};
 use crate::index::Index;
+use crate::pairs::Pairs;
 use av_base::Slot;
 use std::alloc::{AllocError, Global};
 use std::collections::BTreeMap;
@@ -28,20 +30,21 @@ use std::marker::Model;
 #[derive(Drop)]
 pub struct Pages {
     entries: BTreeMap<(u16, u64), Entry>,
-    cache: Vec<Cached>,
+    cache: Pairs,
     index: Index,
 }
 
 impl Model for Pages {
     ghost use Rattle.av_pages.specs.Pages.{Content};
+    ghost use Rattle.std.specs.Map.{values_of};
 
     ghost Value = { Content };
 
     ghost use Rattle.av_pages.specs.Pages.{IsIndexed};
 
-    ghost view = { λ a. record { entries = a.entries.entries; cache = a.cache.items } };
+    ghost view = { λ a. record { entries = a.entries.entries; cache = values_of a.cache } };
 
-    ghost invariant = { λ a. IsIndexed a.index a.entries.entries a.cache.items };
+    ghost invariant = { λ a. IsIndexed a.index a.entries.entries (values_of a.cache) };
 }
 
 impl Pages {
@@ -52,7 +55,7 @@ impl Pages {
     {
         Pages {
             entries: BTreeMap::new(alloc),
-            cache: Vec::new(alloc),
+            cache: Pairs::new(alloc),
             index: Index::new(alloc),
         }
     }
@@ -62,13 +65,6 @@ impl Pages {
         ensures { result.now.entries ≡ self.now.entries }
     {
         &self.entries
-    }
-
-    /// The cached pairs.
-    pub fn cache(&self) -> &[Cached]
-        ensures { result.now ≡ self.now.cache }
-    {
-        self.cache.as_slice()
     }
 
     /// The entry of a page goes, if it has one.
@@ -84,13 +80,17 @@ impl Pages {
         entry
     }
 
-    /// The page has this entry now. Without memory it may have lost the one that it had.
+    /// The page has this entry now. Without memory it may have lost the one that it had. The entries
+    /// of others stay.
     pub fn set(&mut self, process: u16, page: u64, entry: Entry) -> Result<(), AllocError>
         ensures entries { OnOk result (self.new.entries
             ≡ insert_entry key_cmp self.old.entries (process, page) entry) }
         ensures at { OnOk result ((q : Key) → lookup (is_at (key_cmp q)) self.new.entries
             ≡ if same_key (process, page) q then Some entry
             else lookup (is_at (key_cmp q)) self.old.entries) }
+        ensures others { (q : Key) → same_key (process, page) q ≡ false
+            → lookup (is_at (key_cmp q)) self.new.entries
+            ≡ lookup (is_at (key_cmp q)) self.old.entries }
         ensures rising { IsStrictlySortedBy key_cmp (keys_of self.new.entries) }
         ensures cache { self.new.cache ≡ self.old.cache }
     {
@@ -141,6 +141,42 @@ impl Pages {
         ensures { result ≡ how_many (λ c. same_slot slot c.slot) (map cached_of self.now.cache) }
     {
         self.index.slots().pairs(slot)
+    }
+
+    /// The slot of the first pair at a frame.
+    pub fn slot_of(&self, frame: u32) -> Option<Slot>
+        ensures { result ≡ option_map (λ c. c.slot)
+            (cached_by (λ c. frame == c.frame) (map cached_of self.now.cache)) }
+    {
+        // Most frames are in no pair, and often there is none at all.
+        if self.cache.len() == 0 {
+            return None;
+        }
+        if self.frame_pairs(frame) == 0 {
+            return None;
+        }
+        let (_, pair) = self.cache.first_at(frame)?;
+        Some(pair.slot)
+    }
+
+    /// The frame of the first pair of a slot.
+    pub fn frame_at(&self, slot: Slot) -> Option<u32>
+        ensures { result ≡ option_map (λ c. c.frame)
+            (cached_by (λ c. same_slot slot c.slot) (map cached_of self.now.cache)) }
+    {
+        if self.slot_pairs(slot) == 0 {
+            return None;
+        }
+        let (_, pair) = self.cache.first_of(slot)?;
+        Some(pair.frame)
+    }
+
+    /// Whether a pair of a slot is stale.
+    pub fn is_stale(&self, slot: Slot) -> bool
+        ensures { result
+            ≡ list_any (λ c. same_slot slot c.slot && c.stale) (map cached_of self.now.cache) }
+    {
+        self.cache.is_stale(slot)
     }
 
     /// How many of the first frames are used.
@@ -246,16 +282,35 @@ impl Pages {
     pub fn into_cache(&mut self, pair: Cached) -> Result<(), AllocError>
         ensures cache { OnOk result (self.new.cache ≡ pair ∷ self.old.cache) }
         ensures entries { self.new.entries ≡ self.old.entries }
+        ensures err { OnErr result (self.new ≡ self.old) }
     {
-        are_few(self.cache.as_slice());
+        // There are fewer than 2^63 of them.
+        let _ = self.cache.len();
         self.index.hold(pair)?;
-        match self.cache.insert(0, pair) {
+        match self.cache.push_front(pair) {
             Ok(()) => Ok(()),
             Err(error) => {
                 self.index.drop_pair(pair);
-                Err(error.into())
+                Err(error)
             }
         }
+    }
+
+    /// The first pair of a slot goes. Answers whether there was one.
+    fn drop_first(&mut self, slot: Slot) -> bool
+        ensures others { filter (λ c. not (same_slot slot c.slot)) self.new.cache
+            ≡ filter (λ c. not (same_slot slot c.slot)) self.old.cache }
+        ensures fewer { OnTrue result (length self.new.cache < length self.old.cache) }
+        ensures last { OnFalse result (filter (λ c. not (same_slot slot c.slot)) self.new.cache
+            ≡ self.new.cache) }
+        ensures entries { self.new.entries ≡ self.old.entries }
+    {
+        let Some((rank, pair)) = self.cache.first_of(slot) else {
+            return false;
+        };
+        self.cache.take(rank, pair);
+        self.index.drop_pair(pair);
+        true
     }
 
     /// The slot is cached no longer.
@@ -264,20 +319,55 @@ impl Pages {
             ≡ filter (λ c. not (same_slot slot c.slot)) self.old.cache }
         ensures entries { self.new.entries ≡ self.old.entries }
     {
-        drop_pairs(&mut self.index, self.cache.as_slice(), slot);
-        self.cache.retain(|c| slot != c.slot);
+        while self.drop_first(slot) {}
     }
 
-    /// Another pair stands at a place. Without memory all stays.
-    fn put_pair(&mut self, place: usize, pair: Cached) -> Result<(), AllocError>
-        requires { place < length self.old.cache }
-        ensures cache { OnOk result (self.new.cache ≡ set self.old.cache place pair) }
+    /// The first pair at a frame is at another. Answers whether there was one. Without memory all
+    /// stays.
+    fn rename_first(&mut self, from: u32, to: u32) -> Result<bool, AllocError>
+        requires { from ≡ to → ⊥ }
+        ensures rest { OnOk result (map (changed_pair (Frame from to)) self.new.cache
+            ≡ map (changed_pair (Frame from to)) self.old.cache) }
+        ensures fewer { IfOk result (λ more. OnTrue more
+            (how_many (λ c. from == c.frame) self.new.cache
+            < how_many (λ c. from == c.frame) self.old.cache)) }
+        ensures last { IfOk result (λ more. OnFalse more
+            (map (changed_pair (Frame from to)) self.new.cache ≡ self.new.cache)) }
         ensures entries { self.new.entries ≡ self.old.entries }
     {
-        are_few(self.cache.as_slice());
-        self.index.hold(pair)?;
-        self.index.drop_pair(self.cache[place]);
-        self.cache[place] = pair;
+        let Some((rank, pair)) = self.cache.first_at(from) else {
+            return Ok(false);
+        };
+        let renamed = Cached {
+            slot: pair.slot,
+            frame: to,
+            stale: pair.stale,
+        };
+        // There are fewer than 2^63 of them.
+        let _ = self.cache.len();
+        self.index.hold(renamed)?;
+        match self.cache.set_frame(rank, pair, to) {
+            Ok(()) => {
+                self.index.drop_pair(pair);
+                Ok(true)
+            }
+            Err(error) => {
+                self.index.drop_pair(renamed);
+                Err(error)
+            }
+        }
+    }
+
+    /// The pairs at a frame are at another. Without memory some may be.
+    fn rename(&mut self, from: u32, to: u32) -> Result<(), AllocError>
+        ensures cache { OnOk result (self.new.cache
+            ≡ map (changed_pair (Frame from to)) self.old.cache) }
+        ensures entries { self.new.entries ≡ self.old.entries }
+    {
+        if from == to {
+            return Ok(());
+        }
+        while self.rename_first(from, to)? {}
         Ok(())
     }
 
@@ -286,31 +376,12 @@ impl Pages {
         ensures cache { OnOk result (self.new.cache ≡ map (changed_pair change) self.old.cache) }
         ensures entries { self.new.entries ≡ self.old.entries }
     {
-        for place in 0..self.cache().len() {
-            if let Some(pair) = self.cache()[place].changed(change) {
-                self.put_pair(place, pair)?;
+        match change {
+            PairChange::Stale { slot, stale } => {
+                self.cache.set_stale(slot, stale);
+                Ok(())
             }
-        }
-        Ok(())
-    }
-}
-
-/// There is memory for fewer pairs than these.
-fn are_few(cache: &[Cached])
-    ensures { length cache.now < 2 ^ 63 }
-{
-    let _ = cache.len();
-}
-
-/// The pairs of a slot go.
-fn drop_pairs(index: &mut Index, cache: &[Cached], slot: Slot)
-    ensures keys { KeepsKeys index.old index.new }
-    ensures pairs { CountsPairs index.old (map cached_of cache.now) → CountsPairs index.new
-        (map cached_of (filter (λ c. not (same_slot slot c.slot)) cache.now)) }
-{
-    for pair in cache {
-        if slot == pair.slot {
-            index.drop_pair(*pair);
+            PairChange::Frame { from, to } => self.rename(from, to),
         }
     }
 }

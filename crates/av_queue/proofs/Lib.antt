@@ -1,2 +1,3 @@
 pub mod LineLaws
+pub mod PlacesLaws
 pub mod QueueLaws

@@ -1,7 +1,6 @@
 -- Places are those of the members, whoever comes or goes.
-use Rattle.std.proofs.Common.{◌≡◌, ℕ, Bool, true, false, cond, ◌&&◌, not, List, [], ◌∷◌, Option, Some, None, refl, sym, ap, subst, nat_eq, ◌∙◌, arith}
+use Rattle.std.proofs.Common.{◌≡◌, ℕ, ◌<◌, Bool, true, false, cond, ◌&&◌, List, [], ◌∷◌, Option, Some, None, refl, sym, ap, subst, nat_eq, ◌∙◌, arith}
 use Rattle.std.specs.BTreeMap.{insert_entry, is_at}
-use Rattle.std.specs.BTreeSet.{BTreeSet, contains}
 use Rattle.std.specs.Cmp.{nat_cmp_total}
 use Rattle.std.specs.List.{slice_get}
 use Rattle.std.specs.List.Sorted.{IsStrictlySortedBy}
@@ -18,7 +17,8 @@ use Rattle.std.proofs.lemmas.Map.Lookups.{exact_unsigned}
 use Rattle.std.proofs.lemmas.Map.Views.{tells_apart}
 use Rattle.av_base.specs.Keys.{Key, same_key}
 use Rattle.av_base.proofs.Keys.{same_key-is}
-use Rattle.av_queue.specs.Line.{IsLine, Place, has_at, member_at, place_cmp}
+use Rattle.av_queue.specs.Line.{IsLine, has_at, member_at}
+use Rattle.av_queue.specs.Places.{IsLeastFrom, Place, Sets, place_cmp, stands}
 
 -- whether a query is at a rank
 abbrev pub is_rank : ℕ → ℕ → Bool
@@ -33,21 +33,6 @@ both-at key k rank r = grind (arith, nat_tests)
 
 pub rank-is : (rank r : ℕ) → is_rank rank r ≡ true → rank ≡ r
 rank-is rank r h = tells_apart exact_unsigned rank r h
-
-pub when-none : {A : Type 0} (o : Option A) (P : Type 0) → P → IfNone o P
-when-none None P p = p
-when-none (Some x) P p = tt
-
-pub first-is : {A : Type 0} (P : A → Type 0) (xs : List A) (x : A) (rest : List A) → xs ≡ x ∷ rest → IfSome (slice_get xs 0) P → P x
-first-is P xs x rest is h = subst (λ ys. IfSome (slice_get ys 0) P) is h
-
-pub from-zero : (key : Key) (r : ℕ) → is_gt (place_cmp (key, 0) (key, r)) ≡ false
-from-zero key r = grind (arith, nat_tests)
-
--- what comes first from a name on, and is not of that name, comes after all places of it
-pub past-name : (key k : Key) (rank r : ℕ) → is_gt (place_cmp (key, 0) (k, rank)) ≡ false → is_gt (place_cmp (k, rank) (key, r)) ≡ false
-    → same_key key k ≡ false → ⊥
-past-name key k rank r from to other = grind (arith, nat_tests)
 
 module _ {T : Type 0} (name : T → Key) where
   -- whether what stands at a rank has the name
@@ -146,9 +131,6 @@ module _ {T : Type 0} (name : T → Key) where
   abbrev pub Puts : ℕ → Option T → List (ℕ × T) → List (ℕ × T) → Type 0
   Puts rank o es fs = (r : ℕ) → member_at fs r ≡ cond (is_rank rank r) o (member_at es r)
 
-  abbrev pub Sets : Key → ℕ → Bool → BTreeSet Place → BTreeSet Place → Type 0
-  Sets key rank b ps qs = (p : Place) → contains place_cmp qs p ≡ cond (is_at (place_cmp (key, rank)) p) b (contains place_cmp ps p)
-
   free-at : (es : List (ℕ × T)) (rank r : ℕ) → member_at es rank ≡ None → is_rank rank r ≡ true → member_at es r ≡ None
   free-at es rank r free h = ap (member_at es) (sym (rank-is rank r h)) ∙ free
 
@@ -156,45 +138,57 @@ module _ {T : Type 0} (name : T → Key) where
       → told key (member_at es r) ≡ true
   there-at es key rank r there h = ap (λ q. told key (member_at es q)) (sym (rank-is rank r h)) ∙ there
 
-  pub add-line : (es now fs : List (ℕ × T)) (ps qs : BTreeSet Place) (x : T) (key : Key) (rank : ℕ) → es ≡ now → IsLine name es ps → key ≡ name x
+  pub add-line : (es now fs : List (ℕ × T)) (ps qs : List Place) (x : T) (key : Key) (rank : ℕ) → es ≡ now → IsLine name es ps → key ≡ name x
       → IsStrictlySortedBy nat_cmp (keys_of fs) → Puts rank (Some x) es fs → Sets key rank true ps qs → member_at now rank ≡ None → IsLine name fs qs
   add-line es now fs ps qs x key rank seen line named rising put puts free = record {
     rising = rising;
-    placed = λ k r. added x key k rank r (member_at es r) (member_at fs r) (contains place_cmp ps (k, r)) (contains place_cmp qs (k, r)) named
-        (put r) (puts (k, r)) (line.placed k r) (free-at es rank r (ap (λ e. member_at e rank) seen ∙ free));
+    placed = λ k r. added x key k rank r (member_at es r) (member_at fs r) (stands ps k r) (stands qs k r) named
+        (put r) (puts k r) (line.placed k r) (free-at es rank r (ap (λ e. member_at e rank) seen ∙ free));
   }
 
-  pub undo-line : (es now fs : List (ℕ × T)) (ps ms qs : BTreeSet Place) (key : Key) (rank : ℕ) → es ≡ now → IsLine name es ps → fs ≡ es
+  pub undo-line : (es now fs : List (ℕ × T)) (ps ms qs : List Place) (key : Key) (rank : ℕ) → es ≡ now → IsLine name es ps → fs ≡ es
       → Sets key rank true ps ms → Sets key rank false ms qs → member_at now rank ≡ None → IsLine name fs qs
   undo-line es now fs ps ms qs key rank seen line same puts cuts free = subst (λ gs. IsLine name gs qs) (sym same) (record {
     rising = line.rising;
-    placed = λ k r. undone key k rank r (member_at es r) (contains place_cmp ps (k, r)) (contains place_cmp ms (k, r)) (contains place_cmp qs (k, r))
-        (puts (k, r)) (cuts (k, r)) (line.placed k r) (free-at es rank r (ap (λ e. member_at e rank) seen ∙ free));
+    placed = λ k r. undone key k rank r (member_at es r) (stands ps k r) (stands ms k r) (stands qs k r)
+        (puts k r) (cuts k r) (line.placed k r) (free-at es rank r (ap (λ e. member_at e rank) seen ∙ free));
   })
 
-  pub take-line : (es now fs : List (ℕ × T)) (ps qs : BTreeSet Place) (key : Key) (rank : ℕ) → es ≡ now → IsLine name es ps
+  pub take-line : (es now fs : List (ℕ × T)) (ps qs : List Place) (key : Key) (rank : ℕ) → es ≡ now → IsLine name es ps
       → IsStrictlySortedBy nat_cmp (keys_of fs) → Puts rank None es fs → Sets key rank false ps qs → has_at name now key rank ≡ true → IsLine name fs qs
   take-line es now fs ps qs key rank seen line rising cut cuts there = record {
     rising = rising;
-    placed = λ k r. taken key k rank r (member_at es r) (member_at fs r) (contains place_cmp ps (k, r)) (contains place_cmp qs (k, r))
-        (cut r) (cuts (k, r)) (line.placed k r) (there-at es key rank r (ap (λ e. has_at name e key rank) seen ∙ there));
+    placed = λ k r. taken key k rank r (member_at es r) (member_at fs r) (stands ps k r) (stands qs k r)
+        (cut r) (cuts k r) (line.placed k r) (there-at es key rank r (ap (λ e. has_at name e key rank) seen ∙ there));
   }
 
-  pub set-line : (es now fs : List (ℕ × T)) (ps ms qs : BTreeSet Place) (x : T) (key new : Key) (rank : ℕ) → es ≡ now → IsLine name es ps
+  pub set-line : (es now fs : List (ℕ × T)) (ps ms qs : List Place) (x : T) (key new : Key) (rank : ℕ) → es ≡ now → IsLine name es ps
       → new ≡ name x → (name x ≡ key → ⊥) → IsStrictlySortedBy nat_cmp (keys_of fs) → Puts rank (Some x) es fs
       → Sets new rank true ps ms → Sets key rank false ms qs → has_at name now key rank ≡ true → IsLine name fs qs
   set-line es now fs ps ms qs x key new rank seen line named other rising put puts cuts there = record {
     rising = rising;
-    placed = λ k r. changed x key new k rank r (member_at es r) (member_at fs r) (contains place_cmp ps (k, r)) (contains place_cmp ms (k, r))
-        (contains place_cmp qs (k, r)) named other (put r) (puts (k, r)) (cuts (k, r)) (line.placed k r)
+    placed = λ k r. changed x key new k rank r (member_at es r) (member_at fs r) (stands ps k r) (stands ms k r)
+        (stands qs k r) named other (put r) (puts k r) (cuts k r) (line.placed k r)
         (there-at es key rank r (ap (λ e. has_at name e key rank) seen ∙ there));
   }
 
-  -- ---- who is found
+  -- ---- the least rank of a name
 
-  pub seen-at : (es now : List (ℕ × T)) (ps : BTreeSet Place) → es ≡ now → IsLine name es ps → (key : Key) (r : ℕ)
-      → contains place_cmp ps (key, r) ≡ has_at name now key r
-  seen-at es now ps seen line key r = line.placed key r ∙ ap (λ e. has_at name e key r) seen
+  module _ (es now : List (ℕ × T)) (ps : List Place) (seen : es ≡ now) (line : IsLine name es ps) (key : Key) where
+    pub seen-at : (r : ℕ) → stands ps key r ≡ has_at name now key r
+    seen-at r = line.placed key r ∙ ap (λ e. has_at name e key r) seen
+
+    pub least-there : (o : Option ℕ) → IsLeastFrom ps key 0 o → IfSome o (λ rank. has_at name now key rank ≡ true)
+    least-there None least = tt
+    least-there (Some rank) least = sym (seen-at rank) ∙ least.there
+
+    pub least-before : (o : Option ℕ) → IsLeastFrom ps key 0 o → IfSome o (λ rank. (r : ℕ) → r < rank → has_at name now key r ≡ false)
+    least-before None least = tt
+    least-before (Some rank) least = λ r below. sym (seen-at r) ∙ least.before r (omega arith) below
+
+    pub least-none : (o : Option ℕ) → IsLeastFrom ps key 0 o → IfNone o ((r : ℕ) → has_at name now key r ≡ false)
+    least-none None least = λ r. sym (seen-at r) ∙ least.none r (omega arith)
+    least-none (Some rank) least = tt
 
 -- ---- what a member changes that stands where another did
 
@@ -227,18 +221,3 @@ insert-is {T} name es now fs key rank x seen rising there is =
   where
     clash : false ≡ true → ⊥
     clash h = cc
-
--- ---- answers
-
-pub is-not : (b : Bool) → (b ≡ true → ⊥) → b ≡ false
-is-not true h = absurd (h refl)
-is-not false h = refl
-
-pub apart-by : (a b : Key) (r : Bool) → r ≡ not (nat_eq a.0 b.0 && nat_eq a.1 b.1) → r ≡ true → same_key b a ≡ false
-apart-by a b r is h = grind (arith, nat_tests)
-
-pub same-by : (a b : Key) (r : Bool) → r ≡ not (nat_eq a.0 b.0 && nat_eq a.1 b.1) → r ≡ false → a ≡ b
-same-by a b r is h = same_key-is a b (so a b r is h)
-  where
-    so : (a b : Key) (r : Bool) → r ≡ not (nat_eq a.0 b.0 && nat_eq a.1 b.1) → r ≡ false → same_key a b ≡ true
-    so a b r is h = grind (arith, nat_tests)

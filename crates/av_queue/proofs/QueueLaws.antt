@@ -1,12 +1,12 @@
 -- What becomes of a list of members when the line changes.
 use Rattle.std.proofs.Common.{◌≡◌, ℕ, ◌+◌, ◌<◌, ◌≤◌, Bool, true, false, cond, ◌||◌, ◌&&◌, not, List, [], ◌∷◌, ◌++◌, length, filter, map}
-use Rattle.std.proofs.Common.{Option, Some, None, refl, sym, ap, nat_eq, ◌∙◌, arith}
+use Rattle.std.proofs.Common.{Option, Some, None, refl, sym, ap, subst, nat_eq, ◌∙◌, arith}
 use Rattle.std.specs.BTreeMap.{insert_entry}
 use Rattle.std.specs.Cmp.{eq_by_cmp_equiv, nat_cmp_total}
 use Rattle.std.specs.List.{list_any}
 use Rattle.std.specs.List.Sorted.{IsStrictlySortedBy}
 use Rattle.std.specs.Map.{keys_of, values_of, remove_entry, set_value}
-use Rattle.std.specs.Option.{IfNone, IfSome, is_some}
+use Rattle.std.specs.Option.{IfNone, IfSome, is_some, option_map_or}
 use Rattle.std.specs.Ordering.{match_ordering, nat_cmp}
 use Rattle.std.specs.declared.cmp.Ordering.TheVariants.{Less, Greater}
 use Rattle.std.proofs.lemmas.Bool.Decides.{nat_tests}
@@ -22,7 +22,7 @@ use Rattle.av_queue.proofs.LineLaws.{is_rank, told}
 
 -- ---- at the ends
 
-member-itself : {T : Type 0} (e : ℕ × T) (es : List (ℕ × T)) → member_at (e ∷ es) e.0 ≡ Some e.1
+pub member-itself : {T : Type 0} (e : ℕ × T) (es : List (ℕ × T)) → member_at (e ∷ es) e.0 ≡ Some e.1
 member-itself e es = ap (λ b. cond b (Some e.1) (member_at es e.0)) (itself e.0)
   where
     itself : (k : ℕ) → is_rank k k ≡ true
@@ -65,43 +65,60 @@ back (e ∷ es) rank x free =
     rest true r h = absurd (clash h)
     rest false r h = h
 
+-- ---- those that pass a test, by their ranks
+
+module _ {T : Type 0} where
+  -- what holds at each rank of a line holds at each rank of its rest
+  pub in-rest : (P : ℕ → Option T → Type 0) → ((r : ℕ) → P r None) → (e : ℕ × T) (es : List (ℕ × T)) → IsStrictlySortedBy nat_cmp (keys_of (e ∷ es))
+      → ((r : ℕ) → P r (member_at (e ∷ es) r)) → (r : ℕ) → P r (member_at es r)
+  in-rest P at-none e es rising all r = by (is_rank r e.0) refl
+    where
+      by : (b : Bool) → is_rank r e.0 ≡ b → P r (member_at es r)
+      by true same = subst (P r) (sym (lookup-none (is_rank r) es
+          (none_past_head (eq_by_cmp_equiv nat_cmp_total) r e es (IsDistinct-from_sorted nat_cmp (keys_of (e ∷ es)) rising) same))) (at-none r)
+      by false same = subst (P r) (ap (λ b. cond b (Some e.1) (member_at es r)) same) (all r)
+
+  module _ (p : T → Bool) where
+    -- whether the member at a rank passes
+    abbrev pub passes : Option T → Bool
+    passes o = option_map_or p o false
+
+    pub some-passes : (es : List (ℕ × T)) (rank : ℕ) → passes (member_at es rank) ≡ true → list_any p (values_of es) ≡ true
+    some-passes [] rank h = cc
+    some-passes (e ∷ es) rank h = by (is_rank rank e.0) (some-passes es rank) h
+      where
+        here : (b c : Bool) → b ≡ true → (b || c) ≡ true
+        here true c h = refl
+        here false c h = cc
+
+        later : (b c : Bool) → c ≡ true → (b || c) ≡ true
+        later true c h = refl
+        later false c h = h
+
+        by : (b : Bool) → (passes (member_at es rank) ≡ true → list_any p (values_of es) ≡ true)
+            → passes (cond b (Some e.1) (member_at es rank)) ≡ true → (p e.1 || list_any p (values_of es)) ≡ true
+        by true more h = here (p e.1) _ h
+        by false more h = later (p e.1) _ (more h)
+
+    pub none-passes : (es : List (ℕ × T)) → IsStrictlySortedBy nat_cmp (keys_of es) → ((r : ℕ) → passes (member_at es r) ≡ false)
+        → list_any p (values_of es) ≡ false
+    none-passes [] rising none = refl
+    none-passes (e ∷ es) rising none =
+        or (p e.1) _ (sym (ap passes (member-itself e es)) ∙ none e.0)
+        (none-passes es (sorted_tail nat_cmp e.0 (keys_of es) rising) (in-rest (λ r o. passes o ≡ false) (λ r. refl) e es rising none))
+      where
+        or : (b c : Bool) → b ≡ false → c ≡ false → (b || c) ≡ false
+        or b c h i = cc
+
 -- ---- those that are the same
 
 module _ {T : Type 0} (name : T → Key) (key : Key) (p : T → Bool) (is : (y : T) → p y ≡ same_key key (name y)) where
   pub some-same : (es : List (ℕ × T)) (rank : ℕ) → has_at name es key rank ≡ true → list_any p (values_of es) ≡ true
-  some-same [] rank h = cc
-  some-same (e ∷ es) rank h = by (is_rank rank e.0) (some-same es rank) h
-    where
-      here : (b c : Bool) → b ≡ true → (b || c) ≡ true
-      here true c h = refl
-      here false c h = cc
-
-      later : (b c : Bool) → c ≡ true → (b || c) ≡ true
-      later true c h = refl
-      later false c h = h
-
-      by : (b : Bool) → (has_at name es key rank ≡ true → list_any p (values_of es) ≡ true)
-          → told name key (cond b (Some e.1) (member_at es rank)) ≡ true → (p e.1 || list_any p (values_of es)) ≡ true
-      by true more h = here (p e.1) _ (is e.1 ∙ h)
-      by false more h = later (p e.1) _ (more h)
+  some-same es rank there = (λ i. list_any (λ y. is y i) (values_of es)) ∙ some-passes (λ y. same_key key (name y)) es rank there
 
   pub none-same : (es : List (ℕ × T)) → IsStrictlySortedBy nat_cmp (keys_of es) → ((r : ℕ) → has_at name es key r ≡ false)
       → list_any p (values_of es) ≡ false
-  none-same [] rising none = refl
-  none-same (e ∷ es) rising none =
-      or (p e.1) _ (is e.1 ∙ sym (ap (told name key) (member-itself e es)) ∙ none e.0)
-      (none-same es (sorted_tail nat_cmp e.0 (keys_of es) rising) (λ r. rest r (is_rank r e.0) refl))
-    where
-      or : (b c : Bool) → b ≡ false → c ≡ false → (b || c) ≡ false
-      or b c h i = cc
-
-      gone : (r : ℕ) → is_rank r e.0 ≡ true → member_at es r ≡ None
-      gone r same = lookup-none (is_rank r) es
-          (none_past_head (eq_by_cmp_equiv nat_cmp_total) r e es (IsDistinct-from_sorted nat_cmp (keys_of (e ∷ es)) rising) same)
-
-      rest : (r : ℕ) (b : Bool) → is_rank r e.0 ≡ b → told name key (member_at es r) ≡ false
-      rest r true same = ap (told name key) (gone r same)
-      rest r false same = sym (ap (λ b. told name key (cond b (Some e.1) (member_at es r))) same) ∙ none r
+  none-same es rising none = (λ i. list_any (λ y. is y i) (values_of es)) ∙ none-passes (λ y. same_key key (name y)) es rising none
 
   -- one that is the same goes
   pub same-goes : (es : List (ℕ × T)) (rank : ℕ) → has_at name es key rank ≡ true

@@ -1,3 +1,4 @@
 pub mod Line
 pub mod Name
+pub mod Places
 pub mod Queue

@@ -1,21 +1,12 @@
 -- Members by rank, and the ranks by name.
 use Rattle.std.specs.Prelude.{◌≡◌, ℕ, Bool, false, List, Option}
 use Rattle.std.specs.BTreeMap.{is_at}
-use Rattle.std.specs.BTreeSet.{BTreeSet, contains}
 use Rattle.std.specs.List.Sorted.{IsStrictlySortedBy}
 use Rattle.std.specs.Map.{keys_of, lookup}
 use Rattle.std.specs.Option.{option_map_or}
-use Rattle.std.specs.Ordering.{nat_cmp, ordering_then}
-use Rattle.std.specs.declared.cmp.Ordering.{Ordering}
-use Rattle.av_base.specs.Keys.{Key, key_cmp, same_key}
-
--- a name and a rank
-abbrev pub Place : Type 0
-Place = Key × ℕ
-
--- by name, then rank
-abbrev pub place_cmp : Place → Place → Ordering
-place_cmp a b = ordering_then (key_cmp a.0 b.0) (nat_cmp a.1 b.1)
+use Rattle.std.specs.Ordering.{nat_cmp}
+use Rattle.av_base.specs.Keys.{Key, same_key}
+use Rattle.av_queue.specs.Places.{Place, stands}
 
 -- the member at a rank
 abbrev pub member_at : {T : Type 0} → List (ℕ × T) → ℕ → Option T
@@ -27,8 +18,7 @@ has_at name members key rank =
     option_map_or (λ x. same_key key (name x)) (member_at members rank) false
 
 -- the ranks rise, and the places are those of the members
-pub record IsLine {T : Type 0} (name : T → Key) (members : List (ℕ × T)) (places : BTreeSet Place)
+pub record IsLine {T : Type 0} (name : T → Key) (members : List (ℕ × T)) (places : List Place)
     : Type 0 where
   pub rising : IsStrictlySortedBy nat_cmp (keys_of members)
-  pub placed : (key : Key) (rank : ℕ)
-      → contains place_cmp places (key, rank) ≡ has_at name members key rank
+  pub placed : (key : Key) (rank : ℕ) → stands places key rank ≡ has_at name members key rank

@@ -10,16 +10,17 @@ ghost use Rattle.std.specs.Ordering.{nat_cmp};
 ghost use Rattle.av_queue.specs.Line.{has_at, member_at};
 
 use crate::member::Member;
+use crate::places::Places;
 use std::alloc::{AllocError, Global};
+use std::collections::BTreeMap;
 use std::collections::btree_map::Values;
-use std::collections::{BTreeMap, BTreeSet};
 use std::marker::Model;
 
 /// Members, each at a rank of its own, which are found by their names as well.
 #[derive(Drop)]
 pub(crate) struct Line<T: Member> {
     members: BTreeMap<u64, T>,
-    places: BTreeSet<((u8, u32), u64)>,
+    places: Places,
 }
 
 impl<T: Member> Model for Line<T> {
@@ -40,7 +41,7 @@ impl<T: Member> Line<T> {
     {
         Line {
             members: BTreeMap::new(alloc),
-            places: BTreeSet::new(alloc),
+            places: Places::new(alloc),
         }
     }
 
@@ -82,6 +83,8 @@ impl<T: Member> Line<T> {
     /// The least rank of a member with this name.
     pub(crate) fn find(&self, name: (u8, u32)) -> Option<u64>
         ensures some { IfSome result (λ rank. has_at T.name self.now name rank ≡ true) }
+        ensures least { IfSome result
+            (λ rank. (r : ℕ) → r < rank → has_at T.name self.now name r ≡ false) }
         ensures none { IfNone result ((r : ℕ) → has_at T.name self.now name r ≡ false) }
         ensures rising { IsStrictlySortedBy nat_cmp (keys_of self.now) }
     {
@@ -89,11 +92,7 @@ impl<T: Member> Line<T> {
         if self.members.is_empty() {
             return None;
         }
-        let (next, rank) = self.places.range((name, 0)..).next()?;
-        if *next != name {
-            return None;
-        }
-        Some(*rank)
+        self.places.first(name)
     }
 
     /// A member comes to a rank at which there is none. Without memory all stays.
@@ -102,12 +101,12 @@ impl<T: Member> Line<T> {
         ensures ok { OnOk result (self.new ≡ insert_entry nat_cmp self.old rank member) }
         ensures err { OnErr result (self.new ≡ self.old) }
     {
-        let place = (member.name(), rank);
-        self.places.insert(place)?;
+        let name = member.name();
+        self.places.add(name, rank)?;
         match self.members.insert(rank, member) {
             Ok(_) => Ok(()),
             Err(_) => {
-                self.places.remove(&place);
+                self.places.take(name, rank);
                 Err(AllocError)
             }
         }
@@ -118,7 +117,7 @@ impl<T: Member> Line<T> {
         requires there { has_at T.name self.old name rank ≡ true }
         ensures { self.new ≡ remove_entry (is_at (nat_cmp rank)) self.old }
     {
-        self.places.remove(&(name, rank));
+        self.places.take(name, rank);
         self.members.remove(&rank);
     }
 
@@ -131,8 +130,8 @@ impl<T: Member> Line<T> {
             ≡ set_value (is_at (nat_cmp rank)) self.old member) }
         ensures err { OnErr result (self.new ≡ self.old) }
     {
-        self.places.insert((member.name(), rank))?;
-        self.places.remove(&(name, rank));
+        self.places.add(member.name(), rank)?;
+        self.places.take(name, rank);
         // The rank is in use, so that no memory is asked for.
         self.members.insert(rank, member)?;
         Ok(())

@@ -62,8 +62,7 @@ impl<T: Member> Queue<T> {
         self.line.find(member.name()).is_some()
     }
 
-    /// A member comes to the front. Without memory all stays, and where no rank is left there, too:
-    /// not before 2^63 have come to the front.
+    /// A member comes to the front. Without memory all stays, and where no rank is left there, too.
     pub fn push_front(&mut self, member: T) -> Result<(), AllocError>
         ensures ok { OnOk result (self.new ≡ member ∷ self.old) }
         ensures err { OnErr result (self.new ≡ self.old) }
@@ -77,8 +76,7 @@ impl<T: Member> Queue<T> {
         self.line.add(first - 1, member)
     }
 
-    /// A member comes to the back. Without memory all stays, and where no rank is left there, too:
-    /// not before 2^63 have come to the back.
+    /// A member comes to the back. Without memory all stays, and where no rank is left there, too.
     pub fn push_back(&mut self, member: T) -> Result<(), AllocError>
         ensures ok { OnOk result (self.new ≡ self.old ++ member ∷ []) }
         ensures err { OnErr result (self.new ≡ self.old) }

@@ -7,7 +7,7 @@ use Rattle.av_pages.specs.Entries.{changed_at, entry_of}
 use Rattle.av_pages.specs.Index.{Tells}
 use Rattle.av_pages.specs.Pages.{Content}
 use Rattle.av_pages.proofs.ChangeLaws.{put-changed}
-use Rattle.av_pages.proofs.IndexLaws.{gone-again, some-is, tells-all}
+use Rattle.av_pages.proofs.IndexLaws.{gone-again, is-there, tells-all}
 use Rattle.av_pages.proofs.PairLaws.{pairs-kept}
 use Rattle.av_pages.proofs.pages.Pages.change_at.Goals as goal
 
@@ -21,7 +21,7 @@ invariant_of-self-in-Ok c =
     record {
       rising = w.4;
       tells = tells-all _ _ c.self.inside.entries.entries _ c.args.key (Some c.changed_at-entry.result) c.self.invariant.tells
-          (w.3 (some-is _ _ c.in-Some.ensures.value)).0 c.put.ensures.others c.in-Ok.ensures.ok;
+          (w.3 (is-there _ _ c.in-Some.ensures.value)).0 c.put.ensures.others c.in-Ok.ensures.ok;
       pairs = pairs-kept _ _ _ c.self.invariant.pairs c.put.ensures.pairs;
     }
 
@@ -33,7 +33,7 @@ invariant_of-self-in-Err c =
     record {
       rising = c.remove.ensures.ordered;
       tells = tells-all _ _ es c.remove.new.self.entries key None c.self.invariant.tells
-          (λ k. c.remove.ensures.updates.0 k ∙ ap (cond (same_key key k) None) ((w.3 (some-is _ _ c.in-Some.ensures.value)).0 k)
+          (λ k. c.remove.ensures.updates.0 k ∙ ap (cond (same_key key k) None) ((w.3 (is-there _ _ c.in-Some.ensures.value)).0 k)
           ∙ gone-again (same_key key k) (Some c.changed_at-entry.result) (lookup (is_at (key_cmp k)) es))
           c.put.ensures.others c.in-Err.ensures.err;
       pairs = pairs-kept _ _ _ c.self.invariant.pairs c.put.ensures.pairs;
@@ -44,7 +44,7 @@ returns-in-Ok-clause-at c = λ q.
     let w = c.get_mut.follows.holds c.changed_at-entry.result in
     let es = c.self.inside.entries.entries in
     let k = c.args.key in
-    (w.3 (some-is _ _ c.in-Some.ensures.value)).0 q
+    (w.3 (is-there _ _ c.in-Some.ensures.value)).0 q
     ∙ ap (λ e. cond (same_key k q) (Some e) (lookup (is_at (key_cmp q)) es)) c.changed_at-entry.ensures
     ∙ put-changed c.args.frame c.args.change es k q c.in-Some.place.now (lookup (is_at (key_cmp q)) es) c.in-Some.ensures.value
     ∙ ap (λ (p : Content). cond (same_key k q) (option_map (changed_at c.args.frame c.args.change) (lookup (is_at (key_cmp q)) p.entries))

@@ -39,3 +39,12 @@ pub returns-in-Ok-clause-at : goal.returns-in-Ok-clause-at
 returns-in-Ok-clause-at c = λ q.
     c.in_ok-old.ensures.updates.0 q
     ∙ ap (λ (p : Content). cond (same_key (c.args.process, c.args.page) q) (Some c.args.entry) (lookup (is_at (key_cmp q)) p.entries)) c.self.view_is
+
+pub returns-in-Ok-clause-others : goal.returns-in-Ok-clause-others
+returns-in-Ok-clause-others c = λ q other.
+    c.in_ok-old.ensures.updates.2 q other ∙ ap (λ (p : Content). lookup (is_at (key_cmp q)) p.entries) c.self.view_is
+
+pub returns-in-Err-clause-others : goal.returns-in-Err-clause-others
+returns-in-Err-clause-others c = λ q other.
+    c.remove.ensures.updates.2 q other ∙ c.in_ok-old.ensures.updates.2 q other
+    ∙ ap (λ (p : Content). lookup (is_at (key_cmp q)) p.entries) c.self.view_is

@@ -3,7 +3,7 @@ use Rattle.std.specs.Map.{values_of}
 use Rattle.av_base.specs.Words.{how_many}
 use Rattle.av_base.proofs.Keys.{same_key-is}
 use Rattle.av_queue.specs.Queue.{is_same, with_place}
-use Rattle.av_queue.proofs.LineLaws.{is-not}
+use Rattle.av_queue.proofs.PlacesLaws.{is-not}
 use Rattle.av_queue.proofs.QueueLaws.{less-by, like, names-are, none-changes, none-same, one-stays, place-goes, places-fewer}
 use Rattle.av_queue.proofs.queue.Queue.replace.Goals as goal
 
