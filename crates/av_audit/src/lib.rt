@@ -18,7 +18,6 @@ mod leaving;
 mod lengths;
 mod locking;
 mod mapping;
-mod neighbours;
 mod remapping;
 mod reporting;
 mod spawn;

@@ -144,17 +144,19 @@ pub fn audits_mlock(
     let from = address / PAGE_SIZE;
     let n = pages_met(address, length);
     let mapped = memories.before_hole(process, from, n);
-    let pages = accesses_of(alloc, memories, process, from, n)?;
     let edit = Edit::Mark {
         from,
         n: mapped,
         flag: Flag::Locked,
         set: true,
     };
-    memories.edit(process, edit)?;
     if mapped < n {
+        memories.edit(process, edit)?;
         return is_answer(alloc, &Answer::Refused(Errno::Enomem), unit);
     }
+    // Not before: where a page isn't mapped, none is listed.
+    let pages = accesses_of(alloc, memories, process, from, n)?;
+    memories.edit(process, edit)?;
     comes_in(
         alloc,
         machine,

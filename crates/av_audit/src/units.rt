@@ -17,7 +17,6 @@ use crate::forking::audits_fork;
 use crate::leaving::{audits_exit, audits_munmap};
 use crate::locking::audits_mlock;
 use crate::mapping::{audits_mmap, audits_mprotect};
-use crate::neighbours::{audits_compact, audits_merge};
 use crate::remapping::audits_mremap;
 use crate::reporting::{
     audits_areas, audits_entry, audits_maps, audits_rmap, audits_slot, audits_stat,
@@ -26,6 +25,7 @@ use crate::spawn::audits_spawn;
 use crate::swapping::{audits_reclaim, audits_swapoff, audits_swapon};
 use av_book::{Book, Machine};
 use av_judge::{judges_age, judges_complete};
+use av_neighbour_judge::{judges_compact, judges_merge};
 use av_trace::Command;
 use av_world::Memories;
 use std::alloc::{AllocError, Global};
@@ -242,8 +242,8 @@ fn is_legal_for_frames(
             audits_swapon(alloc, machine, memories, book, *area, *priority, unit)
         }
         Command::Swapoff { area } => audits_swapoff(alloc, machine, memories, book, *area, unit),
-        Command::Merge => audits_merge(alloc, machine, memories, book, unit),
-        Command::Compact => audits_compact(alloc, machine, memories, book, unit),
+        Command::Merge => judges_merge(book, machine, memories, alloc, unit),
+        Command::Compact => judges_compact(book, machine, alloc, unit),
         _ => unreachable!(),
     }
 }

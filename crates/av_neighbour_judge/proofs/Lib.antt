@@ -3,3 +3,5 @@ pub mod HeldLaws
 pub mod FirstLaws
 pub mod CandidateLaws
 pub mod MergeLaws
+pub mod Knowing
+pub mod ContentsLaws

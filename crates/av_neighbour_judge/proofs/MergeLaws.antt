@@ -1,6 +1,6 @@
 -- The pages merge in turn; and what a merge may answer.
 use Rattle.std.proofs.Common.{◌≡◌, ℕ, ◌<◌, List, [], ◌∷◌, ◌++◌, map, Option, Some, None, true, refl, sym, ap, subst, ◌∙◌, append_assoc, is_some}
-use Rattle.std.specs.Prelude.{IfSome, MatchOption}
+use Rattle.std.specs.Prelude.{Err, IfSome, MatchOption, Ok, OnOk, Result}
 use Rattle.av_base.specs.Keys.{Key}
 use Rattle.av_base.specs.Page.{page_size}
 use Rattle.av_trace.specs.declared.command.Command.TheVariants.{Merge}
@@ -8,20 +8,25 @@ use Rattle.av_trace.specs.declared.note.Note.{Note}
 use Rattle.av_trace.specs.declared.reply.Reply.{Reply}
 use Rattle.av_plain.specs.Event.{Event, after_all, after_notes, note_events}
 use Rattle.av_plain.specs.Ledger.{Ledger, Setting}
-use Rattle.av_plain.specs.Merge.{FrameBytes, HoldClaims, candidate, join_notes, merge_notes, merged_like, merges, other_like, with_candidate}
+use Rattle.av_plain.specs.Merge.{FrameBytes, HoldClaims, candidate, merge_notes, merges, with_candidate}
 use Rattle.av_plain.specs.Sound.{AllSound}
 use Rattle.av_plain.specs.Step.{IsLegal}
 use Rattle.av_plain.specs.World.{Page, World, pages}
 use Rattle.av_plain.proofs.Access.{after_notes-append, note_events-all, notes_of-note_events}
 use Rattle.av_plain.proofs.OneMerge.{ClaimAll, merges-one}
+use Rattle.av_plain.proofs.Sound.Frames.{candidate-is}
 use Rattle.av_judge.proofs.KnownLaws.{AnswersOnly}
 use Rattle.av_judge.proofs.VerdictLaws.{said}
 use Rattle.av_world.specs.Memories.{IsWorld}
 use Rattle.av_world.specs.declared.memories.Memories.{Memories}
 use Rattle.av_neighbour_judge.specs.First.{FramePages}
 use Rattle.av_neighbour_judge.specs.Held.{held_by}
-use Rattle.av_neighbour_judge.specs.Merging.{HasMerged}
+use Rattle.av_neighbour_judge.specs.Contents.{AreKept}
+use Rattle.av_neighbour_judge.specs.Known.{AreInRange, Knows, first_like, turn_notes}
+use Rattle.av_neighbour_judge.specs.Merging.{HasMerged, HasTurned, IsAware}
+use Rattle.av_neighbour_judge.specs.declared.contents.Contents.{Contents}
 use Rattle.av_neighbour_judge.proofs.HeldLaws.{page-claims}
+use Rattle.av_neighbour_judge.proofs.Knowing.{turn-new, turn-taken}
 
 -- ---- one after the other
 
@@ -53,16 +58,6 @@ merging-next m held w l keys before l' l'' now more earlier earlier' k rest whol
     turn = λ i. merge_notes m held l' earlier k (found i)
         ++ merges m held w (after_notes l' (merge_notes m held l' earlier k (found i))) (with_candidate earlier (found i)) rest
 
-pub merging-join : (m : Setting) (held : FrameBytes) (w : World) (l : Ledger) (keys : List Key) (before : List Note) (l' l'' : Ledger) (now more : List Note)
-    (earlier earlier' : List ℕ) (k : Key) (rest whole : List Key) (f : ℕ) (merged other : Option ℕ) → k ∷ rest ≡ whole → candidate w l' k ≡ Some f
-    → Merging m held w l keys before l' now earlier whole → earlier' ≡ earlier ++ f ∷ []
-    → merged ≡ merged_like m held l' f → other ≡ other_like held earlier f
-    → more ≡ now ++ join_notes k merged other → l'' ≡ after_notes l' (join_notes k merged other)
-    → Merging m held w l keys before l'' more earlier' rest
-merging-join m held w l keys before l' l'' now more earlier earlier' k rest whole f merged other is found h behind a b noted after =
-    merging-next m held w l keys before l' l'' now more earlier earlier' k rest whole (Some f) is found h behind
-    (noted ∙ (λ i. now ++ join_notes k (a i) (b i))) (after ∙ (λ i. after_notes l' (join_notes k (a i) (b i))))
-
 pub merging-end : (m : Setting) (held : FrameBytes) (w : World) (l : Ledger) (keys : List Key) (before : List Note) (l' : Ledger) (now : List Note)
     (earlier : List ℕ) (rest : List Key) → rest ≡ [] → Merging m held w l keys before l' now earlier rest → HasMerged m held w l keys before l' now
 merging-end m held w l keys before l' now earlier rest none h = record {
@@ -73,6 +68,60 @@ merging-end m held w l keys before l' now earlier rest none h = record {
     nil : (xs : List Note) → xs ++ [] ≡ xs
     nil [] = refl
     nil (x ∷ xs) = ap (λ t. x ∷ t) (nil xs)
+
+-- ---- a turn
+
+pub on_ok-both : {X E A B C : Type 0} (r : Result X E) → (A → B → C) → OnOk r A → OnOk r B → OnOk r C
+on_ok-both (Ok x) f a b = f a b
+on_ok-both (Err e) f a b = b
+
+nothing-more : (xs : List Note) → xs ++ [] ≡ xs
+nothing-more [] = refl
+nothing-more (x ∷ xs) = ap (λ t. x ∷ t) (nothing-more xs)
+
+module _ (m : Setting) (held : FrameBytes) (w : World) (l : Ledger) (earlier : List ℕ) (k : Key) (before : List Note) where
+  -- it is no candidate
+  pub turned-other : (c : Contents) → candidate w l k ≡ None → IsAware m held l earlier c → HasTurned m held w l earlier k before l before c
+  turned-other c none aware = record {
+    notes = sym (nothing-more before) ∙ ap (λ o. before ++ merge_notes m held l earlier k o) (sym none);
+    after = ap (λ o. after_notes l (merge_notes m held l earlier k o)) (sym none);
+    aware = subst (λ o. IsAware m held l (with_candidate earlier o) c) (sym none) aware;
+  }
+
+  module _ (f : ℕ) (is : candidate w l k ≡ Some f) where
+    here : merge_notes m held l earlier k (candidate w l k) ≡ merge_notes m held l earlier k (Some f)
+    here = ap (merge_notes m held l earlier k) is
+
+    -- nothing like its frame is known: it is from now on
+    pub turned-new : (c c' : Contents) (aware : IsAware m held l earlier c) → first_like held aware.known f ≡ None
+        → AreKept held (aware.known ++ f ∷ []) c' → HasTurned m held w l earlier k before l before c'
+    turned-new c c' aware new kept =
+        let t = turn-new m held w l earlier aware.known aware.knows aware.in_range k f (candidate-is w l k f is) new in record {
+          notes = sym (nothing-more before) ∙ ap (λ ns. before ++ ns) (sym (here ∙ t.0));
+          after = ap (after_notes l) (sym (here ∙ t.0));
+          aware = subst (λ o. IsAware m held l (with_candidate earlier o) c') (sym is) (record {
+            known = aware.known ++ f ∷ [];
+            kept = kept;
+            knows = t.1;
+            in_range = aware.in_range;
+          });
+        }
+
+    -- a frame is known that holds the same
+    pub turned-known : (c : Contents) (aware : IsAware m held l earlier c) (x : ℕ) → first_like held aware.known f ≡ Some x
+        → (l' : Ledger) (now : List Note) → now ≡ before ++ turn_notes l k f x → l' ≡ after_notes l (turn_notes l k f x)
+        → HasTurned m held w l earlier k before l' now c
+    turned-known c aware x first l' now noted after =
+        let t = turn-taken m held w l earlier aware.known aware.knows aware.in_range k f (candidate-is w l k f is) x first in record {
+          notes = noted ∙ ap (λ ns. before ++ ns) (sym (here ∙ t.0));
+          after = after ∙ ap (after_notes l) (sym (here ∙ t.0));
+          aware = subst (λ o. IsAware m held l' (with_candidate earlier o) c) (sym is) (record {
+            known = aware.known;
+            kept = aware.kept;
+            knows = subst (λ z. Knows m held z (earlier ++ f ∷ []) aware.known) (sym after) t.1;
+            in_range = subst (AreInRange m) (sym after) t.2;
+          });
+        }
 
 -- ---- the command
 

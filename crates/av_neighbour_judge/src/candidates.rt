@@ -1,19 +1,16 @@
-//! Which pages are candidates, and what they join.
+//! Which pages are candidates.
 
 ghost use Rattle.std.specs.Prelude.{◌≡◌, ◌<◌, IfOk, IfSome, map, true};
 ghost use Rattle.av_base.specs.Limits.{top_page};
 ghost use Rattle.av_plain.specs.Fault.{is_locked as is_locked_in};
 ghost use Rattle.av_plain.specs.Merge.{candidate as candidate_in, may_merge as may_merge_by};
-ghost use Rattle.av_plain.specs.Merge.{merged_like as merged_like_in, other_like as other_like_in};
 ghost use Rattle.av_plain.specs.World.{World, pages};
 ghost use Rattle.av_book.specs.Book.{ledger_of};
-ghost use Rattle.av_book.specs.Machine.{setting_of};
 ghost use Rattle.av_world.specs.Memories.{IsWorld};
-ghost use Rattle.av_neighbour_judge.specs.Held.{held_by};
 
-use crate::held::{FramePages, holds_same, page_marks};
+use crate::held::page_marks;
 use av_base::TOP_PAGE;
-use av_book::{Book, Entry, Machine};
+use av_book::{Book, Entry};
 use av_world::Memories;
 use std::alloc::{AllocError, Global};
 
@@ -83,42 +80,4 @@ pub fn candidate(
         }
         _ => Ok(None),
     }
-}
-
-/// The least merged frame that holds the same.
-pub fn merged_like(
-    book: &Book,
-    machine: &Machine,
-    memories: &Memories,
-    pages: &FramePages,
-    frame: u32,
-) -> Option<u32>
-    ensures { result ≡ merged_like_in (setting_of machine.now) (held_by memories.now pages.now)
-        (ledger_of book.now) frame }
-{
-    for other in 0..machine.frames {
-        if book.is_merged(other) && holds_same(memories, pages, other, frame) {
-            return Some(other);
-        }
-    }
-    None
-}
-
-/// The first of some frames that is another and holds the same.
-pub fn other_like(
-    memories: &Memories,
-    pages: &FramePages,
-    frames: &[u32],
-    frame: u32,
-) -> Option<u32>
-    ensures { result ≡ other_like_in (held_by memories.now pages.now) frames.now frame }
-{
-    let mut rest = frames;
-    while let [first, others @ ..] = rest {
-        if *first != frame && holds_same(memories, pages, *first, frame) {
-            return Some(*first);
-        }
-        rest = others;
-    }
-    None
 }

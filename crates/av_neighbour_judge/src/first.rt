@@ -9,7 +9,8 @@ ghost use Rattle.av_world.specs.Memories.{IsWorld};
 ghost use Rattle.av_neighbour_judge.specs.First.{IsTold, TellsFrame};
 ghost use Rattle.av_neighbour_judge.specs.Held.{held_by};
 
-use crate::held::{FramePages, page_bytes, page_marks, same_bytes};
+use crate::contents::up_to_last;
+use crate::held::{FramePages, page_bytes, page_marks};
 use av_book::{Book, Entry};
 use av_world::Memories;
 use std::alloc::{AllocError, Global};
@@ -34,7 +35,7 @@ fn tells_frame(
         }
         Some(first) => {
             let (one, other) = (page_bytes(memories, first), page_bytes(memories, key));
-            Ok(same_bytes(one, other, 4096))
+            Ok(up_to_last(one) == up_to_last(other))
         }
     }
 }

@@ -6,14 +6,16 @@
 //! them differ no merge is legal, and the answer is no. A merge asks that memories and ledger are
 //! sound: else a merged frame that no entry names could hold anything. A compaction asks nothing.
 //!
-//! A compaction looks at each frame once or twice. A merge goes over all entries once. For each
-//! page that may be merged it looks at the entries of its frame and at all frames, and compares the
-//! bytes of those that are merged or were candidates.
+//! A compaction looks at each frame once or twice. A merge goes over all frames once and over all
+//! entries twice. It compares the bytes that are kept of each page with those of its frame. For
+//! each page that may be merged it looks at the entries of its frame, and seeks its bytes among
+//! those of the frames that are merged or were candidates, which stand in order.
 //!
 //! Only tested: nothing.
 #![tactic(auto)]
 
 mod candidates;
+mod contents;
 mod first;
 mod held;
 mod merging;

@@ -1,10 +1,10 @@
 //! Units of `merge`.
 
-ghost use Rattle.std.specs.Prelude.{◌≡◌, ◌<◌, ◌++◌, ◌∷◌, [], IfOk, OnOk};
+ghost use Rattle.std.specs.Prelude.{◌≡◌, ◌<◌, ◌++◌, ◌∷◌, ℕ, [], IfOk, List, OnOk};
 ghost use Rattle.av_base.specs.Limits.{top_page};
 ghost use Rattle.av_trace.specs.declared.command.Command.TheVariants as commands;
 ghost use Rattle.av_plain.specs.Event.{after_note, after_notes};
-ghost use Rattle.av_plain.specs.Merge.{join_notes, merges as merges_in};
+ghost use Rattle.av_plain.specs.Ledger.{Setting};
 ghost use Rattle.av_plain.specs.Sound.{AllSound};
 ghost use Rattle.av_plain.specs.World.{World};
 ghost use Rattle.av_book.specs.Book.{ledger_of};
@@ -12,9 +12,11 @@ ghost use Rattle.av_book.specs.Machine.{setting_of};
 ghost use Rattle.av_judge.specs.Verdict.{IsVerdict};
 ghost use Rattle.av_world.specs.Memories.{IsWorld};
 ghost use Rattle.av_neighbour_judge.specs.Held.{held_by};
-ghost use Rattle.av_neighbour_judge.specs.Merging.{HasMerged};
+ghost use Rattle.av_neighbour_judge.specs.Known.{AreInRange, turn_notes};
+ghost use Rattle.av_neighbour_judge.specs.Merging.{HasMerged, HasTurned, IsAware};
 
-use crate::candidates::{all_keys, candidate, merged_like, other_like};
+use crate::candidates::{all_keys, candidate};
+use crate::contents::{Contents, content, merged_contents};
 use crate::first::first_pages;
 use crate::held::FramePages;
 use av_base::PAGE_SIZE;
@@ -34,40 +36,58 @@ fn adds(book: &mut Book, notes: &mut Notes, note: Note) -> Result<(), AllocError
     Ok(())
 }
 
-/// A page joins a merged frame, or else an earlier candidate's, which is merged then; the notes are
-/// added. Without memory a part may be done.
+/// A page whose frame is its own joins the first known frame that holds the same, which is merged
+/// then; the notes are added. It joins nothing where that is its own. Without memory a part may be
+/// done.
 fn joins(
     book: &mut Book,
     notes: &mut Notes,
     key: (u16, u64),
-    merged: Option<u32>,
-    other: Option<u32>,
+    own: u32,
+    first: u32,
 ) -> Result<(), AllocError>
     requires { key.1 < top_page }
-    ensures notes { OnOk result (notes.new ≡ notes.old ++ join_notes key merged other) }
+    ensures notes { OnOk result (notes.new
+        ≡ notes.old ++ turn_notes (ledger_of book.old) key own first) }
     ensures ledger { OnOk result (ledger_of book.new
-        ≡ after_notes (ledger_of book.old) (join_notes key merged other)) }
+        ≡ after_notes (ledger_of book.old) (turn_notes (ledger_of book.old) key own first)) }
 {
-    let (process, address) = (key.0, key.1 * PAGE_SIZE);
-    match (merged, other) {
-        (Some(frame), _) => {
-            let note = Note::Joined {
-                process,
-                address,
-                frame,
-            };
-            adds(book, notes, note)
+    if !book.is_merged(first) {
+        if first == own {
+            return Ok(());
         }
-        (None, Some(frame)) => {
-            adds(book, notes, Note::Shared(frame))?;
-            let note = Note::Joined {
-                process,
-                address,
-                frame,
-            };
-            adds(book, notes, note)
-        }
-        (None, None) => Ok(()),
+        adds(book, notes, Note::Shared(first))?;
+    }
+    let note = Note::Joined {
+        process: key.0,
+        address: key.1 * PAGE_SIZE,
+        frame: first,
+    };
+    adds(book, notes, note)
+}
+
+/// A page in its turn: if it is a candidate, it joins a known frame that holds the same, or its own
+/// is known from now on; the notes are added. Without memory a part may be done.
+fn takes_turn<'a>(
+    book: &mut Book,
+    memories: &'a Memories,
+    pages: &FramePages,
+    contents: &mut Contents<'a>,
+    key: (u16, u64),
+    notes: &mut Notes,
+) -> Result<(), AllocError>
+    ensures { OnOk result ((m : Setting) (w : World) (earlier : List ℕ) → IsWorld memories.now w
+        → IsAware m (held_by memories.now pages.now) (ledger_of book.old) earlier contents.old
+        → HasTurned m (held_by memories.now pages.now) w (ledger_of book.old) earlier key notes.old
+        (ledger_of book.new) notes.new contents.new) }
+{
+    let Some(own) = candidate(book, memories, key)? else {
+        return Ok(());
+    };
+    let bytes = content(memories, pages, own);
+    match contents.find(bytes) {
+        None => contents.add(bytes, own),
+        Some(first) => joins(book, notes, key, own, first),
     }
 }
 
@@ -82,19 +102,14 @@ fn merges(
     notes: &mut Notes,
 ) -> Result<(), AllocError>
     ensures { OnOk result ((w : World) → IsWorld memories.now w
+        → AreInRange (setting_of machine.now) (ledger_of book.old)
         → HasMerged (setting_of machine.now) (held_by memories.now pages.now) w
         (ledger_of book.old) keys.now notes.old (ledger_of book.new) notes.new) }
 {
-    let mut earlier = Vec::new(book.alloc);
+    let mut contents = merged_contents(book, machine, memories, pages)?;
     let mut rest = keys;
     while let [key, others @ ..] = rest {
-        let found = candidate(book, memories, *key)?;
-        if let Some(frame) = found {
-            let merged = merged_like(book, machine, memories, pages, frame);
-            let other = other_like(memories, pages, earlier.as_slice(), frame);
-            joins(book, notes, *key, merged, other)?;
-            earlier.push(frame)?;
-        }
+        takes_turn(book, memories, pages, &mut contents, *key, notes)?;
         rest = others;
     }
     Ok(())

@@ -30,7 +30,13 @@ pub returns-in-Swapoff : goal.returns-in-Swapoff
 returns-in-Swapoff c = IfOk-weaker c.audits_swapoff.result _ _ (λ legal h w at sound. left-is _ _ _ _ _ _ _ c.in-Swapoff.is (h w at)) c.audits_swapoff.ensures
 
 pub returns-in-Merge : goal.returns-in-Merge
-returns-in-Merge c = IfOk-weaker c.audits_merge.result _ _ (λ legal h w at sound. left-is _ _ _ _ _ _ _ c.in-Merge.is (h w at sound)) c.audits_merge.ensures
+returns-in-Merge c = IfOk-weaker c.judges_merge.result _ _
+    (λ legal h w at sound. left-is _ _ _ _ _ _ _ c.in-Merge.is (book-left (setting_of c.args.machine.now) w (ledger_of c.args.book.now)
+    commands.Merge c.args.unit.now legal c.args.memories.now c.judges_merge.new.book refl (λ v answer. refl) (h w at sound) at))
+    c.judges_merge.ensures
 
 pub returns-in-Compact : goal.returns-in-Compact
-returns-in-Compact c = IfOk-weaker c.audits_compact.result _ _ (λ legal h w at sound. left-is _ _ _ _ _ _ _ c.in-Compact.is (h w at)) c.audits_compact.ensures
+returns-in-Compact c = IfOk-weaker c.judges_compact.result _ _
+    (λ legal h w at sound. left-is _ _ _ _ _ _ _ c.in-Compact.is (book-left (setting_of c.args.machine.now) w (ledger_of c.args.book.now)
+    commands.Compact c.args.unit.now legal c.args.memories.now c.judges_compact.new.book refl (λ v answer. refl) (h w) at))
+    c.judges_compact.ensures

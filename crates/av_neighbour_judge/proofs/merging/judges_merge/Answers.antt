@@ -13,6 +13,7 @@ use Rattle.av_judge.specs.Says.{SaysReply}
 use Rattle.av_judge.proofs.KnownLaws.{known-verdict}
 use Rattle.av_judge.proofs.VerdictLaws.{said}
 use Rattle.av_neighbour_judge.specs.Held.{held_by}
+use Rattle.av_neighbour_judge.proofs.Knowing.{range-sound}
 use Rattle.av_neighbour_judge.proofs.MergeLaws.{all-claimed, found-pages, merge-after, merge-only}
 use Rattle.av_neighbour_judge.proofs.merging.judges_merge.Goals as goal
 
@@ -26,7 +27,7 @@ returns c =
     let are = c.as_slice-in-Some.ensures.value ∙ c.in_ok-keys.ensures in
     IfOk-weaker c.is_reply.result _ _ (λ legal says w at sound.
     let merged : List Note = merges m (held_by memories pages) w l [] keys in
-    let done = c.in_ok-merges-in-Some.ensures w at in
+    let done = c.in_ok-merges-in-Some.ensures w at (range-sound m w l sound) in
     let holds = found-pages w l memories c.in_ok-first_pages.field-0 pages
     (c.in_ok-first_pages.ensures w at (c.as_slice.ensures.value ∙ c.in_ok-keys.ensures)) c.in-Some.is in
     let notes = done.notes ∙ ap (λ (r : Reply). r.notes ++ merged) c.new-reply.ensures in

@@ -1,15 +1,19 @@
-use Rattle.std.proofs.Common.{length}
+use Rattle.std.proofs.Common.{ℕ, List, length}
 use Rattle.av_plain.specs.World.{World}
 use Rattle.av_book.specs.Book.{ledger_of}
 use Rattle.av_book.specs.Machine.{setting_of}
 use Rattle.av_world.specs.Memories.{IsWorld}
 use Rattle.av_neighbour_judge.specs.Held.{held_by}
+use Rattle.av_neighbour_judge.specs.Known.{AreInRange}
+use Rattle.av_neighbour_judge.specs.Merging.{IsAware}
 use Rattle.av_neighbour_judge.proofs.MergeLaws.{Merging}
 use Rattle.av_neighbour_judge.proofs.merging.merges.Given as goal
 
 abbrev pub invariant-loop-rest : goal.invariant-loop-rest
-invariant-loop-rest l = (w : World) → IsWorld l.memories w → Merging (setting_of l.machine) (held_by l.memories l.pages) w
-    (ledger_of l.fn.book) l.keys l.fn.notes (ledger_of l.book) l.notes l.earlier.items l.rest
+invariant-loop-rest l = (w : World) → IsWorld l.memories w → AreInRange (setting_of l.machine) (ledger_of l.fn.book)
+    → (earlier : List ℕ)
+    × Merging (setting_of l.machine) (held_by l.memories l.pages) w (ledger_of l.fn.book) l.keys l.fn.notes (ledger_of l.book) l.notes earlier l.rest
+    × IsAware (setting_of l.machine) (held_by l.memories l.pages) (ledger_of l.book) earlier l.contents
 
 abbrev pub decreases-loop-rest : goal.decreases-loop-rest
 decreases-loop-rest l = length l.rest
