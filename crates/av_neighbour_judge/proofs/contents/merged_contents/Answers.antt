@@ -27,3 +27,6 @@ returns c =
     let all : c.loop-frame.frame ≡ c.args.machine.now.frames = omega (arith, over, most) in
     subst (λ n. AreKept (held_by c.args.memories.now c.args.pages.now) (filter (is_merged (ledger_of c.args.book.now)) (range_with_len 0 n))
     c.loop-frame.contents) all c.loop-frame.invariant
+
+pub loop-frame-init : goal.loop-frame-init
+loop-frame-init c = c.new-contents.ensures (held_by c.args.memories.now c.args.pages.now)
