@@ -101,7 +101,8 @@ pub fn close<T: Entry>(
 }
 
 /// A node, whose left side is two levels too high: one rotation, or two.
-#[inline(always)]
+// Apart, since few nodes lean, and `balance` is put in line only where it is short.
+#[inline(never)]
 fn lean_left<T: Entry>(
     arena: &mut Arena<T, T::Sum>,
     number: u32,
@@ -144,7 +145,8 @@ fn lean_left<T: Entry>(
 }
 
 /// A node, whose right side is two levels too high: one rotation, or two.
-#[inline(always)]
+// Apart, since few nodes lean, and `balance` is put in line only where it is short.
+#[inline(never)]
 fn lean_right<T: Entry>(
     arena: &mut Arena<T, T::Sum>,
     number: u32,

@@ -84,26 +84,36 @@ fn processes_come_and_go(rt: HostRuntime) -> Result<(), AllocError> {
     Ok(())
 }
 
-/// The entry of a frame.
-fn here(frame: u32, seen: bool) -> Pte {
-    Pte::Here {
-        frame,
-        write: true,
-        seen,
-    }
-}
+/// An entry of frame 3 that isn't seen, the same seen, and one of another frame.
+const UNSEEN: Pte = Pte::Here {
+    frame: 3,
+    write: true,
+    seen: false,
+};
+
+const SEEN: Pte = Pte::Here {
+    frame: 3,
+    write: true,
+    seen: true,
+};
+
+const OTHER: Pte = Pte::Here {
+    frame: 2,
+    write: true,
+    seen: true,
+};
 
 #[test]
 fn a_mark_goes_with_an_entry_that_is_seen(rt: HostRuntime) -> Result<(), AllocError> {
     let mut tables: Tables<PageTable> = Tables::new(rt.alloc());
-    tables.spawn(rt.alloc(), 4)?;
     assert!(rt; tables.may_be_seen(3));
     tables.mark_unseen(3);
     assert!(rt; !tables.may_be_seen(3) && tables.may_be_seen(2) && tables.may_be_seen(4));
-    tables.set(4, 16, here(3, false))?;
-    tables.set(4, 20, here(2, true))?;
+    tables.spawn(rt.alloc(), 4)?;
+    tables.set(4, 16, UNSEEN)?;
+    tables.set(4, 20, OTHER)?;
     assert!(rt; !tables.may_be_seen(3));
-    tables.change(4, 16, here(3, true));
+    tables.change(4, 16, SEEN);
     assert!(rt; tables.may_be_seen(3));
     Ok(())
 }

@@ -6,3 +6,6 @@ spawn-requires-2 g c = (λ i. c.in_ok-spawn.ensures.processes i 4) ∙ c.new-tab
 
 pub exit-requires : goal.exit-requires
 exit-requires g c = (λ i. c.in_ok-spawn-2.ensures.processes i 9) ∙ (λ i. c.in_ok-spawn.ensures.processes i 9)
+
+pub set-requires-clause-there : goal.set-requires-clause-there
+set-requires-clause-there g c = (λ i. c.exit.ensures.processes i 4) ∙ (λ i. c.in_ok-spawn-2.ensures.processes i 4)
