@@ -1,9 +1,7 @@
-use Rattle.std.proofs.Common.{map, subst, sym, List, ap, ◌∙◌}
+use Rattle.std.proofs.Common.{map, subst, sym, List}
 use Rattle.std.specs.Map.{values_of}
-use Rattle.av_pages.specs.Entries.{cached_of, changed_pair}
+use Rattle.av_pages.specs.Entries.{cached_of}
 use Rattle.av_pages.specs.Index.{CountsPairs}
-use Rattle.av_pages.specs.Pages.{Content}
-use Rattle.av_pages.specs.declared.changes.PairChange.TheVariants.{Stale}
 use Rattle.av_pages.specs.declared.entries.Cached.{Cached}
 use Rattle.av_pages.proofs.PairLaws.{stale-counts}
 use Rattle.av_pages.proofs.pages.Pages.change_pairs.Goals as goal

@@ -3,7 +3,6 @@ use Rattle.std.specs.Prelude.{option_map}
 use Rattle.av_plain.specs.Ledger.{Cached as PlainCached, cached_by, same_slot}
 use Rattle.av_pages.specs.Entries.{cached_of}
 use Rattle.av_pages.specs.Pages.{Content}
-use Rattle.av_pages.specs.declared.entries.Cached.{Cached}
 use Rattle.av_pages.proofs.FirstLaws.{first-cached, none-counted}
 use Rattle.av_pages.proofs.pages.Pages.frame_at.Goals as goal
 

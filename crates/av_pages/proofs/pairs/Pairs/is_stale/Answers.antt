@@ -1,5 +1,4 @@
-use Rattle.std.proofs.Common.{◌≡◌, ◌+◌, ◌&&◌, ℕ, Some, true, false, arith, refl, subst, sym, ◌∙◌}
-use Rattle.std.specs.Map.{values_of}
+use Rattle.std.proofs.Common.{◌≡◌, ◌+◌, ◌&&◌, ℕ, Some, true, false, arith, refl, subst, sym}
 use Rattle.av_plain.specs.Ledger.{same_slot}
 use Rattle.av_queue.specs.Line.{member_at}
 use Rattle.av_queue.proofs.QueueLaws.{none-passes}
