@@ -81,7 +81,7 @@ impl Level for Pte {
     }
 
     fn write_protect(&mut self) {
-        *self = self.read_only();
+        self.protect();
     }
 
     fn held(&self) -> u64 {

@@ -48,6 +48,6 @@ returns c =
     let f = c.held-fault.ensures in
     let one : c.from.result ≡ cond (is_some c.args.spared.now.pinned) 1 0 = search rules in
     let rest : c.args.machine.now.frames - c.pinned_below-pinned.result - c.held-locked.result - c.held-ksm.result - c.held-fault.result
-        ≡ how_many (is_held (spared_of c.args.spared.now) (ledger_of c.args.self.now) NoSlot) (range_with_len 0 c.args.machine.now.frames) =
-        omega (arith, all, p, k, m, f) in
+    ≡ how_many (is_held (spared_of c.args.spared.now) (ledger_of c.args.self.now) NoSlot) (range_with_len 0 c.args.machine.now.frames) =
+    omega (arith, all, p, k, m, f) in
     λ i. record { pinned = one i; noslot = rest i; fault = f i; locked = k i; ksm = m i }
