@@ -33,17 +33,17 @@ meets-as Goes Goes' Stops Stops' l l' bytes rest (Some (inr s)) to from stops ba
 abbrev pub AreOne : Setting → Ledger → Spared → Spared → Type 0
 AreOne m l a b = has_free m l ≡ false → a ≡ b
 
-turned : (m : Setting) (l : Ledger) (a b : Spared) → AreOne m l a b → AreOne m l b a
+pub turned : (m : Setting) (l : Ledger) (a b : Spared) → AreOne m l a b → AreOne m l b a
 turned m l a b one = λ full. sym (one full)
 
-seeks-as : (m : Setting) (l : Ledger) (a b : Spared) → AreOne m l a b → (ns : List Note) → Seeks m a l ns → Seeks m b l ns
+pub seeks-as : (m : Setting) (l : Ledger) (a b : Spared) → AreOne m l a b → (ns : List Note) → Seeks m a l ns → Seeks m b l ns
 seeks-as m l a b one ns h = by (has_free m l) refl h
   where
     by : (free : Bool) → has_free m l ≡ free → MatchBool free (ns ≡ []) (IsPass m a l ns) → MatchBool free (ns ≡ []) (IsPass m b l ns)
     by true e h = h
     by false e h = subst (λ s. IsPass m s l ns) (one e) h
 
-takes-as : (m : Setting) (l : Ledger) (a b : Spared) → AreOne m l a b → (ns : List Note) (note : ℕ → Note) → TakesFor m a l ns note
+pub takes-as : (m : Setting) (l : Ledger) (a b : Spared) → AreOne m l a b → (ns : List Note) (note : ℕ → Note) → TakesFor m a l ns note
     → TakesFor m b l ns note
 takes-as m l a b one ns note h = record {
   sought = h.sought;
@@ -55,7 +55,7 @@ takes-as m l a b one ns note h = record {
 }
 
 -- where none is free behind it, one comes
-out-as : (m : Setting) (l : Ledger) (a b : Spared) → AreOne m l a b → (ns : List Note) → Seeks m a l ns
+pub out-as : (m : Setting) (l : Ledger) (a b : Spared) → AreOne m l a b → (ns : List Note) → Seeks m a l ns
     → has_free m (after_notes l ns) ≡ false → out_of m a (after_notes l ns) ≡ out_of m b (after_notes l ns)
 out-as m l a b one ns h none = ap (λ s. out_of m s (after_notes l ns)) (one (by (has_free m l) refl h))
   where

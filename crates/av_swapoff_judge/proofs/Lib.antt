@@ -1,4 +1,5 @@
 pub mod StageLaws
 pub mod UserLaws
 pub mod EmptyLaws
+pub mod SparedLaws
 pub mod CloseLaws

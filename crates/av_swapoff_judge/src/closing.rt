@@ -1,6 +1,7 @@
 //! The slots of an area that is turned off are emptied, as notes tell.
 
-ghost use Rattle.std.specs.Prelude.{◌≡◌, ◌<◌, IfOk, option_map};
+ghost use Rattle.std.specs.Prelude.{◌≡◌, ◌<◌, IfOk, None, false, option_map};
+ghost use Rattle.av_plain.specs.Ledger.{frame_at, has_free};
 ghost use Rattle.av_plain.specs.Swapoff.{sparing_area};
 ghost use Rattle.av_plain.specs.World.{World};
 ghost use Rattle.av_book.specs.Book.{ledger_of};
@@ -10,12 +11,14 @@ ghost use Rattle.av_world.specs.Memories.{IsWorld};
 ghost use Rattle.av_swapoff_judge.specs.Close.{AreEmptied, Closes, IsWhole, close_of};
 
 use crate::emptying::{Emptying, empties};
-use av_access_judge::sparing;
+use av_access_judge::sparing_where_full;
+use av_base::Slot;
 use av_book::{Book, Machine, Spared};
 use av_judge::{Unit, completes};
 use av_trace::OutOf;
 use av_world::Memories;
 use std::alloc::{AllocError, Global};
+use std::collections::BTreeSet;
 
 /// How a swapoff ends: no slot of the area is in use any more; or there is no frame for the next
 /// one, or the device didn't give its page.
@@ -26,17 +29,29 @@ pub enum Close {
     Unread,
 }
 
-/// What a pass spares while an area closes.
+/// What a pass spares before a slot of an area that closes is emptied. Where the slot is cached or
+/// a frame is free no pass comes, and the answer says nothing: so no page is looked at.
 fn sparing_closing(
     alloc: Global,
     book: &Book,
+    machine: &Machine,
     memories: &Memories,
     area: u8,
+    slot: Slot,
 ) -> Result<Spared, AllocError>
     ensures { IfOk result (λ spared. (w : World) → IsWorld memories.now w
+        → frame_at (ledger_of book.now) slot ≡ None
+        → has_free (setting_of machine.now) (ledger_of book.now) ≡ false
         → spared_of spared ≡ sparing_area w area (ledger_of book.now)) }
 {
-    let mut spared = sparing(alloc, book, memories, None)?;
+    if book.frame_at(slot).is_some() {
+        return Ok(Spared {
+            pinned: None,
+            locked: BTreeSet::new(alloc),
+            closing: None,
+        });
+    }
+    let mut spared = sparing_where_full(alloc, book, machine, memories, None)?;
     spared.closing = Some(area);
     Ok(spared)
 }
@@ -57,7 +72,7 @@ fn empties_all(
         (ledger_of book.new)) }
 {
     while let Some(slot) = book.least_in_use(machine, area) {
-        let spared = sparing_closing(unit.alloc, book, memories, area)?;
+        let spared = sparing_closing(unit.alloc, book, machine, memories, area, slot)?;
         match empties(book, unit, machine, &spared, slot)? {
             None => return Ok(None),
             Some(Emptying::Starved) => {
