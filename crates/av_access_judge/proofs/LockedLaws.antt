@@ -1,5 +1,5 @@
 -- The frames of locked pages are those of the definitions.
-use Rattle.std.proofs.Common.{◌≡◌, inl, inr, ℕ, ◌<◌, ◌≤◌, Bool, true, false, cond, ◌&&◌, ◌||◌, ◌==◌, List, [], ◌∷◌, map, filter, None, Some, nat_le, nat_lt, refl, sym, ap, subst, ◌∙◌, arith}
+use Rattle.std.proofs.Common.{◌≡◌, inl, inr, ℕ, ◌<◌, ◌≤◌, Bool, true, false, cond, ◌&&◌, ◌||◌, ◌==◌, List, [], ◌∷◌, length, map, filter, None, Some, nat_le, nat_lt, refl, sym, ap, subst, ◌∙◌, arith}
 use Rattle.std.specs.List.{list_any}
 use Rattle.std.specs.Ordering.{nat_cmp}
 use Rattle.std.specs.BTreeMap.{is_at}
@@ -299,3 +299,48 @@ all-done memories book made h w at f = h.2 w at f ∙ (λ i. has_frame (λ k. ea
 
     each : (k : Key) → (h.0 k.0 && is_locked_at w k) ≡ is_locked_at w k
     each k = by (h.0 k.0) (is_locked_at w k) (λ locked. h.1 w at k.0 k.1 locked)
+
+-- ---- some frames
+
+-- a frame comes where it is of a locked page
+pub comes-locked : (test : ℕ → Bool) (f g : ℕ) (was now : Bool) → test g ≡ true → now ≡ cond (is_at (nat_cmp g) f) true was
+    → now ≡ (was || f == g && test f)
+comes-locked test f g was now locked more = more ∙ ap (λ b. cond b true was) (at-same f g) ∙ by (f == g) refl was
+  where
+    by : (same : Bool) → (f == g) ≡ same → (was : Bool) → cond same true was ≡ (was || same && test f)
+    by true e true = refl
+    by true e false = sym (ap test (eqb-true f g e) ∙ locked)
+    by false e true = refl
+    by false e false = refl
+
+pub stays-out : (test : ℕ → Bool) (f g : ℕ) (was : Bool) → test g ≡ false → was ≡ (was || f == g && test f)
+stays-out test f g was unlocked = by (f == g) refl was
+  where
+    by : (same : Bool) → (f == g) ≡ same → (was : Bool) → was ≡ (was || same && test f)
+    by true e true = refl
+    by true e false = sym (ap test (eqb-true f g e) ∙ unlocked)
+    by false e true = refl
+    by false e false = refl
+
+-- one of them more is asked
+pub among-more : (was now same rest locked all : Bool) → now ≡ (was || same && locked) → (was || (same || rest) && locked) ≡ all
+    → (now || rest && locked) ≡ all
+among-more was now same rest locked all more h = ap (λ b. b || rest && locked) more ∙ by was same rest locked ∙ h
+  where
+    by : (was same rest locked : Bool) → ((was || same && locked) || rest && locked) ≡ (was || (same || rest) && locked)
+    by true same rest locked = refl
+    by false true true true = refl
+    by false true true false = refl
+    by false true false true = refl
+    by false true false false = refl
+    by false false rest locked = refl
+
+-- all are
+pub among-all : (f : ℕ) (rest : List ℕ) (was locked all : Bool) → length rest < 1 → (was || is_in f rest && locked) ≡ all → was ≡ all
+among-all f [] was locked all none h = frames-all was all h
+among-all f (g ∷ gs) was locked all none h = absurd (omega (arith, none))
+
+-- of a frame that is one of them
+pub locked-listed : (f : ℕ) (xs fs : List ℕ) (made locked : Bool) → xs ≡ fs → is_in f fs ≡ true → made ≡ (is_in f xs && locked) → made ≡ locked
+locked-listed f xs fs made locked same listed h =
+    h ∙ ap (λ (ys : List ℕ). is_in f ys && locked) same ∙ ap (λ b. b && locked) listed

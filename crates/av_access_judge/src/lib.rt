@@ -7,8 +7,9 @@
 //! is here gets what it needs, or no frame can be had for it; its slot is dropped where that is
 //! needed no more. What a pass spares is what the definitions say (`sparing`): that costs a look at
 //! the ranges of the processes with a locked page, and at the entries of these pages. In an access
-//! it is looked for only where no frame is free, so that a pass comes. Which bytes a page holds is
-//! not asked here, nor what the answer says.
+//! it is looked for only where no frame is free, so that a pass comes. What a reclaim spares is
+//! looked for among its own frames, by the entries of each (`sparing_last`). Which bytes a page
+//! holds is not asked here, nor what the answer says.
 //!
 //! Only tested: nothing.
 #![tactic(auto)]
@@ -24,4 +25,5 @@ mod touching;
 
 pub use accessing::{End, accesses};
 pub use coming::Stop;
-pub use spared::sparing;
+pub use locked::is_locked;
+pub use spared::{sparing, sparing_last, sparing_where_full};

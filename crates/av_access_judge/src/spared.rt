@@ -1,16 +1,19 @@
-//! What a pass spares in an access.
+//! What a pass or a reclaim spares.
 
-ghost use Rattle.std.specs.Prelude.{◌≡◌, IfOk, false};
+ghost use Rattle.std.specs.Prelude.{◌≡◌, IfOk, None, false};
 ghost use Rattle.av_plain.specs.Fault.{sparing as sparing_of};
 ghost use Rattle.av_plain.specs.Ledger.{has_free};
+ghost use Rattle.av_plain.specs.Reclaim.{from_tail};
 ghost use Rattle.av_plain.specs.World.{World};
 ghost use Rattle.av_book.specs.Book.{ledger_of};
 ghost use Rattle.av_book.specs.Machine.{setting_of};
 ghost use Rattle.av_book.specs.Spared.{spared_of};
+ghost use Rattle.av_judge.specs.Pass.{SparesSame};
 ghost use Rattle.av_world.specs.Memories.{IsWorld};
 
-use crate::locked::locked_frames;
+use crate::locked::{locked_among, locked_frames};
 use av_book::{Book, Machine, Spared};
+use av_judge::last;
 use av_world::Memories;
 use std::alloc::{AllocError, Global};
 use std::collections::BTreeSet;
@@ -54,4 +57,25 @@ pub fn sparing_where_full(
         });
     }
     sparing(alloc, book, memories, pinned)
+}
+
+/// What a reclaim of the last n frames of inactive spares. Each of these frames is asked for by its
+/// own entries, and of others the answer says nothing.
+pub fn sparing_last(
+    alloc: Global,
+    book: &Book,
+    memories: &Memories,
+    n: u16,
+) -> Result<Spared, AllocError>
+    ensures { IfOk result (λ spared. (w : World) → IsWorld memories.now w
+        → SparesSame (from_tail n (ledger_of book.now).inactive) (spared_of spared)
+        (sparing_of w (ledger_of book.now) None)) }
+{
+    let frames = last(alloc, &book.inactive, n)?;
+    let locked = locked_among(alloc, book, memories, frames.as_slice())?;
+    Ok(Spared {
+        pinned: None,
+        locked,
+        closing: None,
+    })
 }

@@ -1,8 +1,9 @@
 -- Commands that answer `ok` and tell the rest by notes.
-use Rattle.std.proofs.Common.{◌≡◌, ℕ, Bool, true, false, Some, None, List, [], ◌∷◌, ◌++◌, length, map, take, refl, sym, ap, subst, ◌∙◌, append-nil, arith}
-use Rattle.std.specs.Prelude.{MatchOption, ◌==◌}
+use Rattle.std.proofs.Common.{◌≡◌, ℕ, Bool, true, false, Option, Some, None, List, [], ◌∷◌, ◌++◌, length, map, take, refl, sym, ap, subst, ◌∙◌, append-nil, arith}
+use Rattle.std.specs.Prelude.{MatchOption, ◌||◌, ◌==◌}
 use Rattle.std.specs.List.{AllByRecursion}
-use Rattle.std.proofs.lemmas.Bool.{eqb-true}
+use Rattle.std.proofs.lemmas.Bool.{eq-eqb, eqb-true}
+use Rattle.av_base.specs.Words.{is_in}
 use Rattle.av_text.specs.Word.{after}
 use Rattle.av_trace.specs.declared.command.Command.{Command}
 use Rattle.av_trace.specs.declared.command.Command.TheVariants.{Age, Complete, Reclaim}
@@ -15,16 +16,17 @@ use Rattle.av_trace.specs.declared.row.Row.{Row}
 use Rattle.av_trace.specs.Note.{IsNote}
 use Rattle.av_trace.specs.Print.{notes_text, text_of}
 use Rattle.av_trace.specs.Reply.{IsReply}
-use Rattle.av_plain.specs.Event.{Event, note_events, notes_of}
+use Rattle.av_plain.specs.Event.{Event, after_notes, note_events, notes_of}
 use Rattle.av_plain.specs.Fault.{sparing}
 use Rattle.av_plain.specs.Ledger.{Ledger, Setting}
 use Rattle.av_plain.specs.Pass.{Completes, Spared}
-use Rattle.av_plain.specs.Reclaim.{Outcomes, from_tail}
+use Rattle.av_plain.specs.Reclaim.{Outcome, Outcomes, from_tail}
 use Rattle.av_plain.specs.Refusal.{Refuses, refusal, tests}
 use Rattle.av_plain.specs.Step.{Follows, IsLegal}
 use Rattle.av_plain.specs.World.{World}
 use Rattle.av_plain.proofs.Access.{note_events-all, notes_of-note_events}
 use Rattle.av_judge.specs.Finds.{Reads, Stand}
+use Rattle.av_judge.specs.Pass.{SparesSame}
 use Rattle.av_judge.specs.Verdict.{IsVerdict}
 use Rattle.av_judge.proofs.Finds.{Told, stand-one}
 use Rattle.av_judge.proofs.NoteLaws.{off-none, off-some}
@@ -115,14 +117,43 @@ complete-ok m w l n = record {
   told = completes-told l (take n l.flight);
 }
 
-pub reclaim-ok : (m : Setting) (w : World) (l : Ledger) (n : ℕ) (sp : Spared) → sp ≡ sparing w l None
+-- what becomes of frames, by what is spared of them
+outcome-as : (m : Setting) (a b : Spared) (l : Ledger) (f : ℕ) (ns : List Note) → a.locked f ≡ b.locked f → a.closing ≡ b.closing
+    → Outcome m a l f ns → Outcome m b l f ns
+outcome-as m a b l f ns locked closing h =
+    subst (λ (held : Bool). Outcome m (record { pinned = None; locked = λ g. held; closing = b.closing }) l f ns) locked
+    (subst (λ (k : Option ℕ). Outcome m (record { pinned = None; locked = λ g. a.locked f; closing = k }) l f ns) closing h)
+
+outcomes-as : (m : Setting) (a b : Spared) (l : Ledger) (fs : List ℕ) (ns : List Note) → SparesSame fs a b → Outcomes m a l fs ns
+    → Outcomes m b l fs ns
+outcomes-as m a b l [] ns same h = h
+outcomes-as m a b l (f ∷ fs) ns same h = (
+  h.0,
+  h.1,
+  h.2,
+  outcome-as m a b l f h.0 (same.locked f (ap (λ x. x || is_in f fs) (eq-eqb f f refl))) same.closing h.3,
+  outcomes-as m a b (after_notes l h.0) fs h.1
+  (record { locked = λ g e. same.locked g (or-second (g == f) (is_in g fs) e); closing = same.closing }) h.4,
+)
+  where
+    or-second : (x y : Bool) → y ≡ true → (x || y) ≡ true
+    or-second true y e = refl
+    or-second false y e = e
+
+turned-same : (fs : List ℕ) (a b : Spared) → SparesSame fs a b → SparesSame fs b a
+turned-same fs a b same = record { locked = λ f e. sym (same.locked f e); closing = sym same.closing }
+
+pub reclaim-ok : (m : Setting) (w : World) (l : Ledger) (n : ℕ) (sp : Spared) → SparesSame (from_tail n l.inactive) sp (sparing w l None)
     → AnswersOk m w l (Reclaim n) (Outcomes m sp l (from_tail n l.inactive))
-reclaim-ok m w l n sp e = subst (λ sp. AnswersOk m w l (Reclaim n) (Outcomes m sp l (from_tail n l.inactive))) (sym e) (record {
+reclaim-ok m w l n sp same = record {
   no_test = refl;
-  does = λ es answer rows h. h;
-  is_done = λ notes h. (notes, h, refl, refl, refl);
-  told = outcomes-told m (sparing w l None) l (from_tail n l.inactive);
-})
+  does = λ es answer rows h. (h.0, outcomes-as m (sparing w l None) sp l fs h.0 (turned-same fs sp (sparing w l None) same) h.1, h.2, h.3, h.4);
+  is_done = λ notes h. (notes, outcomes-as m sp (sparing w l None) l fs notes same h, refl, refl, refl);
+  told = outcomes-told m sp l fs;
+}
+  where
+    fs : List ℕ
+    fs = from_tail n l.inactive
 
 pub age-ok : (m : Setting) (w : World) (l : Ledger) (n : ℕ) → AnswersOk m w l (Age n) (λ ns. ns ≡ map Aged (from_tail n l.active))
 age-ok m w l n = record {

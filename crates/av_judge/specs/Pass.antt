@@ -2,6 +2,7 @@
 use Rattle.std.specs.Prelude.{◌≡◌, ℕ, ◌<◌, Bool, true, false, not, List, [], ◌∷◌, ◌++◌}
 use Rattle.std.specs.Prelude.{IsTrue}
 use Rattle.std.specs.Prelude.{is_none, if◌then◌else◌, take}
+use Rattle.av_base.specs.Words.{is_in}
 use Rattle.av_base.specs.declared.slot.Slot.{Slot}
 use Rattle.av_trace.specs.declared.note.Note.{Note}
 use Rattle.av_trace.specs.declared.note.Note.TheVariants.{Dropped, Kept, Put, Started}
@@ -53,6 +54,11 @@ abbrev pub AreFirst : List ℕ → List ℕ → Type 0
 AreFirst frames all = (n : ℕ) × (frames ≡ take n all)
 
 -- ---- reclaim
+
+-- both spare the same of these frames, and close the same area: a reclaim of them asks no more
+pub record SparesSame (frames : List ℕ) (a b : PlainSpared) : Type 0 where
+  pub locked : (f : ℕ) → is_in f frames ≡ true → a.locked f ≡ b.locked f
+  pub closing : a.closing ≡ b.closing
 
 -- what ends a frame's way to its slot: a write begins where it is dirty, else the slot is dropped
 abbrev pub behind_of : ℕ → Slot → Bool → List Note

@@ -8,6 +8,8 @@ ghost use Rattle.av_plain.specs.Fault.{sparing};
 ghost use Rattle.av_book.specs.Spared.{spared_of};
 ghost use Rattle.av_book.specs.Book.{ledger_of};
 ghost use Rattle.av_book.specs.Machine.{AreNamed, setting_of};
+ghost use Rattle.av_plain.specs.Reclaim.{from_tail};
+ghost use Rattle.av_judge.specs.Pass.{SparesSame};
 ghost use Rattle.av_judge.specs.Verdict.{IsVerdict};
 
 use crate::flight::completes;
@@ -27,7 +29,7 @@ fn first(alloc: Global, slots: &Queue<Slot>, n: u16) -> Result<Vec<Slot>, AllocE
 }
 
 /// The last frames of some, n at most, from the end.
-fn last(alloc: Global, frames: &Queue<u32>, n: u16) -> Result<Vec<u32>, AllocError>
+pub fn last(alloc: Global, frames: &Queue<u32>, n: u16) -> Result<Vec<u32>, AllocError>
     ensures { IfOk result (λ made. made.items ≡ take n (reverse frames.now)) }
 {
     let mut made = Vec::new(alloc);
@@ -82,7 +84,8 @@ pub fn judges_age(book: &mut Book, alloc: Global, n: u16, text: &[u8]) -> Result
     }
 }
 
-/// Whether a unit is legal for `reclaim`, where frames of locked pages are spared.
+/// Whether a unit is legal for `reclaim`, where frames of locked pages are spared. Of these only
+/// the last n frames of inactive are asked for.
 pub fn judges_reclaim(
     book: &mut Book,
     machine: &Machine,
@@ -93,7 +96,8 @@ pub fn judges_reclaim(
 ) -> Result<bool, AllocError>
     requires { AreNamed (setting_of machine.now) }
     ensures { IfOk result (λ legal. (w : World)
-        → spared_of spared.now ≡ sparing w (ledger_of book.old) None
+        → SparesSame (from_tail n (ledger_of book.old).inactive) (spared_of spared.now)
+        (sparing w (ledger_of book.old) None)
         → IsVerdict (setting_of machine.now) w (ledger_of book.old) (commands.Reclaim n) text.now
         legal (ledger_of book.new)) }
 {

@@ -30,7 +30,7 @@ mod unit;
 mod zaps;
 
 pub use come::{Come, swaps_in};
-pub use commands::{judges_age, judges_complete, judges_reclaim};
+pub use commands::{judges_age, judges_complete, judges_reclaim, last};
 pub use fetch::{Fetch, fetches};
 pub use flight::completes;
 pub use notes::{Taking, cut};
