@@ -133,7 +133,7 @@ outcomes-as m a b l (f ∷ fs) ns same h = (
   h.2,
   outcome-as m a b l f h.0 (same.locked f (ap (λ x. x || is_in f fs) (eq-eqb f f refl))) same.closing h.3,
   outcomes-as m a b (after_notes l h.0) fs h.1
-  (record { locked = λ g e. same.locked g (or-second (g == f) (is_in g fs) e); closing = same.closing }) h.4,
+      (record { locked = λ g e. same.locked g (or-second (g == f) (is_in g fs) e); closing = same.closing }) h.4,
 )
   where
     or-second : (x y : Bool) → y ≡ true → (x || y) ≡ true

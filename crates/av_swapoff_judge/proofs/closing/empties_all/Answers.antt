@@ -1,6 +1,5 @@
 use Rattle.std.proofs.Common.{inl, inr, true, false, Option, Some, None, sym, ap, subst, ◌∙◌}
 use Rattle.av_plain.specs.Ledger.{slots_in_use}
-use Rattle.av_plain.specs.Pass.{Spared}
 use Rattle.av_plain.specs.Swapoff.{Closed, NoRoom, Unread, sparing_area}
 use Rattle.av_book.specs.Book.{ledger_of}
 use Rattle.av_book.specs.Machine.{setting_of}
