@@ -72,30 +72,3 @@ locked-is w f (e ∷ es) = by (names_frame f (entry_of e.1)) (locked-is w f es)
 pub lock-here : (w : World) (f : ℕ) (all : List (Key × Entry)) (e : Key × Entry) (es : List (Key × Entry)) → all ≡ e ∷ es
     → names_frame f (entry_of e.1) ≡ true → is_locked_page (pages w e.0.0 e.0.1) ≡ true → locks_one w f all ≡ true
 lock-here w f all e es is a b = ap (locks_one w f) is ∙ (λ i. (a i && b i) || locks_one w f es)
-
--- ---- frames that hold the same
-
-pub first-false : (a b : Bool) → a ≡ false → (a && b) ≡ false
-first-false a b e = ap (λ a. a && b) e
-
-pub second-false : (a b : Bool) → b ≡ false → (a && b) ≡ false
-second-false true b e = e
-second-false false b e = refl
-
-pub both-true : (a b : Bool) → a ≡ true → b ≡ true → (a && b) ≡ true
-both-true a b e f = λ i. e i && f i
-
-pub other-here : (held : FrameBytes) (x : ℕ) (xs whole : List ℕ) (f : ℕ) → x ∷ xs ≡ whole → (x ≡ f → ⊥) → hold_same held x f ≡ true
-    → other_like held whole f ≡ Some x
-other-here held x xs whole f is apart same = ap (λ ys. other_like held ys f) (sym is)
-    ∙ ap (λ b. cond b (Some x) (other_like held xs f)) (both-true (not (x == f)) (hold_same held x f) (ap not (ne_eqb x f apart)) same)
-
-pub other-skip : (held : FrameBytes) (x : ℕ) (xs whole : List ℕ) (f : ℕ) → x ∷ xs ≡ whole → (not (x == f) && hold_same held x f) ≡ false
-    → other_like held whole f ≡ other_like held xs f
-other-skip held x xs whole f is none = ap (λ ys. other_like held ys f) (sym is) ∙ ap (λ b. cond b (Some x) (other_like held xs f)) none
-
-pub same-skip : (held : FrameBytes) (x f : ℕ) → x ≡ f → (not (x == f) && hold_same held x f) ≡ false
-same-skip held x f e = first-false (not (x == f)) (hold_same held x f) (ap not (equal x f e))
-  where
-    equal : (x f : ℕ) → x ≡ f → (x == f) ≡ true
-    equal x f e = grind (arith, nat_tests, e)

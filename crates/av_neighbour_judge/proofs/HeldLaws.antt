@@ -123,11 +123,3 @@ bytes-hold memories w k at h same = by (pages w k.0 k.1) refl
     by : (o : Option Page) → pages w k.0 k.1 ≡ o → Holds o at
     by None e = tt
     by (Some p) e = λ i low. of_byte i (p.bytes i) _ (page-claims memories w k h p e i low) (same i low)
-
--- ---- two that are compared
-
-pub differs : (a b x y : ℕ) → a ≡ x → b ≡ y → (a ≡ b → ⊥) → (x == y) ≡ false
-differs a b x y e f h = ne_eqb x y (λ s. h (e ∙ s ∙ sym f))
-
-pub is-same : (a b x y : ℕ) → a ≡ x → b ≡ y → a ≡ b → (x == y) ≡ true
-is-same a b x y e f h = grind (arith, nat_tests, e, f, h)

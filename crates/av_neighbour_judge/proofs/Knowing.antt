@@ -341,8 +341,7 @@ module _ (m : Setting) (held : FrameBytes) (w : World) (l : Ledger) (earlier kno
     )
     turn-waits wait false apart =
         let mid = after_note (Shared x) l in
-        let unmerged : is_merged mid f ≡ false = merged-more l x f ∙ (λ n. own-unmerged n || (sym (same-turned x f) ∙ apart) n) in
-        (
+        let unmerged : is_merged mid f ≡ false = merged-more l x f ∙ (λ n. own-unmerged n || (sym (same-turned x f) ∙ apart) n) in (
           (λ n. join_notes k (wait.merged n) ((wait.other ∙ ap (λ b. cond b None (Some x)) apart) n)),
           subst (λ l'. Knows m held l' (earlier ++ f ∷ []) known) (sym (at-key mid))
               (knows-shared m held l earlier known h f x is (change_frame k x mid)

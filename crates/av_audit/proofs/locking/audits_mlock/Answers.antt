@@ -62,12 +62,12 @@ returns c = if-ok c.comes_in.result _ _
     let size = c.pages_met-n.ensures.pages in
     let mapped = c.before_hole-mapped.ensures.pages w h ∙ ap (pages_to_hole q from) size in
     let none = sym (c.refuses_mlock.ensures.tests m w l h) ∙ c.in_default.is in
-    let at = subst (λ k. IsWorld c.edit.new.self (set_process w p (with_change_on q from k (with_page_flag Locked true)))) mapped
-    (c.in_ok-edit.ensures w h (lock-lives m w (ledger_of c.args.book.now) p c.args.address c.args.length none)) in
+    let at = subst (λ k. IsWorld c.edit-2.new.self (set_process w p (with_change_on q from k (with_page_flag Locked true)))) mapped
+    (c.in_ok-edit-2.ensures w h (lock-lives m w (ledger_of c.args.book.now) p c.args.address c.args.length none)) in
     let now = with_lock true w p from met in
     let turns = c.as_slice.ensures.value ∙ c.in_ok-pages.ensures.pages w h ∙ ap (accesses_of q from) size in
     let over = c.if-mapped-n.false in
-    lock-left m w p c.args.address c.args.length c.args.unit.now refl c.edit.new.self c.comes_in.new.book b at l none
+    lock-left m w p c.args.address c.args.length c.args.unit.now refl c.edit-2.new.self c.comes_in.new.book b at l none
     (all-is c.before_hole-mapped.result c.pages_met-n.result met (pages_to_hole q from met) (omega (arith, over)) c.before_hole-mapped.ensures.most
     mapped size)
     (subst (λ ps. Tells (λ end es. Accesses m now l p ps es end) (WritesTo (address_of from)) l c.args.unit.now b l') turns (says now at)))
