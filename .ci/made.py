@@ -56,7 +56,7 @@ CARRIERS = {
     "av_area_judge": "judges_areas",
     "av_ranges": "Ranges Marks Change Range",
     "av_world": "Memories Space Edit",
-    "av_access_judge": "accesses sparing",
+    "av_access_judge": "accesses sparing_last sparing_where_full",
     "av_swapoff_judge": "Close closes",
     "av_neighbour_judge": "judges_merge judges_compact",
     "av_machine": "read_machine",
