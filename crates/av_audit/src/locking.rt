@@ -154,7 +154,6 @@ pub fn audits_mlock(
         memories.edit(process, edit)?;
         return is_answer(alloc, &Answer::Refused(Errno::Enomem), unit);
     }
-    // Not before: where a page isn't mapped, none is listed.
     let pages = accesses_of(alloc, memories, process, from, n)?;
     memories.edit(process, edit)?;
     comes_in(

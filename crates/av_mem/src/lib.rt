@@ -31,9 +31,9 @@
 //! with the number of its steps. It is one call of av_rmap's `walk_frame` or `walk_merged`, which
 //! look through the trait `Look` alone, no more often than they take steps. Not proved: that
 //! nothing which holds a `Mem`, `walk` among it, asks the tables past that trait; and how often
-//! `unmap`, `unsee`, `is_locked` and `namers` look, whose steps nobody counts. `unsee` does not look
-//! where the tables have a mark that no entry of the frame is seen, and leaves one: that there ever
-//! is one is not proved either.
+//! `unmap`, `unsee`, `is_locked` and `namers` look, whose steps nobody counts. `unsee` does not
+//! look where the tables have a mark that no entry of the frame is seen, and leaves one: that there
+//! ever is one is not proved either.
 #![tactic(auto)]
 
 mod cache;

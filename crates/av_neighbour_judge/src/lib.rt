@@ -6,10 +6,11 @@
 //! them differ no merge is legal, and the answer is no. A merge asks that memories and ledger are
 //! sound: else a merged frame that no entry names could hold anything. A compaction asks nothing.
 //!
-//! A compaction looks at each frame once or twice. A merge goes over all frames once and over all
-//! entries twice. It compares the bytes that are kept of each page with those of its frame. For
-//! each page that may be merged it looks at the entries of its frame, and seeks its bytes among
-//! those of the frames that are merged or were candidates, which stand in order.
+//! A compaction looks at each frame once or twice. A merge goes over all frames once, lists all
+//! pages that have an entry, and goes over these twice. It compares the bytes that are kept of each
+//! page with those of its frame. For each page that may be merged it looks at the entries of its
+//! frame, and seeks its bytes among those of the frames that are merged or were candidates, which
+//! stand in order.
 //!
 //! Only tested: nothing.
 #![tactic(auto)]

@@ -25,7 +25,7 @@ pub record ArePlaced (pairs : List (ℕ × Cached)) (slots frames : List Place) 
 abbrev pub passes_at : (Cached → Bool) → List (ℕ × Cached) → ℕ → Bool
 passes_at test pairs rank = option_map_or test (member_at pairs rank) false
 
--- of the pairs that pass a test the first at a rank or behind it, with its own rank, if there is one
+-- of the pairs that pass a test the first at a rank or behind it, with its own rank
 pub record IsFirstFrom (test : Cached → Bool) (pairs : List (ℕ × Cached)) (from : ℕ)
     (first : Option (ℕ × Cached)) : Type 0 where
   pub there : IfSome first (λ e. member_at pairs e.0 ≡ Some e.1)

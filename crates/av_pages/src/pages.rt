@@ -80,8 +80,8 @@ impl Pages {
         entry
     }
 
-    /// The page has this entry now. Without memory it may have lost the one that it had. The entries
-    /// of others stay.
+    /// The page has this entry now. Without memory it may have lost its old one. Those of others
+    /// stay.
     pub fn set(&mut self, process: u16, page: u64, entry: Entry) -> Result<(), AllocError>
         ensures entries { OnOk result (self.new.entries
             ≡ insert_entry key_cmp self.old.entries (process, page) entry) }
@@ -278,7 +278,8 @@ impl Pages {
         }
     }
 
-    /// One pair more is cached, before the others. Without memory all stays.
+    /// One pair more is cached, before the others. Without memory all stays, and after 2^64 pairs,
+    /// too.
     pub fn into_cache(&mut self, pair: Cached) -> Result<(), AllocError>
         ensures cache { OnOk result (self.new.cache ≡ pair ∷ self.old.cache) }
         ensures entries { self.new.entries ≡ self.old.entries }

@@ -1,6 +1,6 @@
 //! A list whose members are found at once: to put one in at either end and to look for one costs a
 //! few look-ups, however long the list is. To take out all that are the same as one, or to give
-//! another their place, costs a few for each of these. A member may stand in the list more than once.
+//! another their place, costs a few for each of these. A member may stand in it more than once.
 //!
 //! Each member has a rank, which rises from the front to the back. A tree has the members by rank,
 //! another the ranks by member. `Places`, the second, serves others too who find by a name what
