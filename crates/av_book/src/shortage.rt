@@ -14,8 +14,8 @@ use crate::machine::Machine;
 use crate::spared::{Spared, is_pinned};
 use av_trace::OutOf;
 
-/// A cause for which a frame can't be had, beside that it is pinned. That there is no slot is what is
-/// left: nobody counts it.
+/// A cause for which a frame can't be had, beside that it is pinned. That there is no slot is what
+/// is left: nobody counts it.
 #[derive(Clone, Copy, Drop)]
 pub enum Hold {
     NoSlot,
