@@ -98,7 +98,7 @@ def cut_in_two(pick: Pick, them: list[str], at: int) -> list[str]:
 
 
 def made_one(_pick: Pick, them: list[str], at: int) -> list[str]:
-    one = re.sub(r"-\w+ .*\n .*-", "-", "".join(them[at : at + 2]))
+    one = re.sub(r"-\w+ .*\n \w+-", "-", "".join(them[at : at + 2]))
     return [*them[:at], one, *them[at + 2 :]]
 
 
