@@ -13,6 +13,11 @@
 //! they keep answers it; that it is what the definitions say is one equation
 //! (`proofs/SparedLaws.antt`).
 //!
+//! The numbers of an out-of-memory are had by counts (`Book::out_of`): the entries of locked pages
+//! and the cached pairs are gone over, and neither all frames nor all entries. Merged frames are
+//! kept as a set beside their list, so that how many are below a number is known at once where all
+//! are (`MergedFrames`). This is read off the code, and no clause says it.
+//!
 //! Only tested: nothing.
 #![tactic(auto)]
 
@@ -22,7 +27,9 @@ mod cause;
 mod entries;
 mod follow;
 mod lists;
+mod locked;
 mod machine;
+mod merged;
 mod moves;
 mod need;
 mod shortage;
@@ -33,5 +40,6 @@ mod totals;
 pub use av_pages::{Cached, Entry};
 pub use book::{Area, Book};
 pub use machine::{Head, Layout, Machine};
+pub use merged::MergedFrames;
 pub use need::Need;
 pub use spared::Spared;
