@@ -3,4 +3,5 @@ pub mod MapLaws
 pub mod RangeLaws
 pub mod RemovalLaws
 pub mod ShortageLaws
+pub mod SparedLaws
 pub mod UseLaws

@@ -143,6 +143,13 @@ impl Pages {
         self.index.slots().pairs(slot)
     }
 
+    /// Whether a pair is cached.
+    pub fn has_pairs(&self) -> bool
+        ensures { result ≡ nat_lt 0 (length self.now.cache) }
+    {
+        self.cache.len() > 0
+    }
+
     /// The slot of the first pair at a frame.
     pub fn slot_of(&self, frame: u32) -> Option<Slot>
         ensures { result ≡ option_map (λ c. c.slot)

@@ -2,28 +2,22 @@ use Rattle.std.proofs.Common.{sym, ◌∙◌, arith}
 use Rattle.av_book.specs.Book.{ledger_of}
 use Rattle.av_book.specs.Shortage.{is_held}
 use Rattle.av_book.specs.Spared.{spared_of}
-use Rattle.std.specs.List.{range_with_len}
 use Rattle.av_book.proofs.RangeLaws.{count-else, count-then}
-use Rattle.av_book.proofs.ShortageLaws.{count-none}
 use Rattle.av_book.proofs.book.Book.held.Goals.{else-is_held, then-is_held}
 use Rattle.av_book.proofs.book.Book.held.Goals as goal
 
-pub returns-then-holds_none : goal.returns-then-holds_none
-returns-then-holds_none c = sym (count-none (is_held (spared_of c.args.spared.now) (ledger_of c.args.self.now) c.args.hold)
-    (c.holds_none.ensures c.if-holds_none.true) (range_with_len 0 c.args.machine.now.frames))
-
 pub loop-frame-preserved : goal.loop-frame-preserved
 loop-frame-preserved c =
-    let p = is_held (spared_of c.args.spared.now) (ledger_of c.args.self.now) c.args.hold in
+    let p = is_held (spared_of c.args.spared.now (ledger_of c.args.self.now)) (ledger_of c.args.self.now) c.args.hold in
     elim c.if-is_held.branch [
       | then-is_held w ↦ record {
         few = (let a = c.loop-frame.invariant.few in let e = w.n-is in omega (arith, a, e));
         left = count-then p c.loop-frame.n c.if-is_held.n c.loop-frame.frame c.args.machine.now.frames _ c.loop-frame-test.true
-            (sym c.is_held.ensures ∙ w.if-is_held.true) w.n-is c.loop-frame.invariant.left;
+            (sym c.in_ok-is_held.ensures ∙ w.if-is_held.true) w.n-is c.loop-frame.invariant.left;
       }
       | else-is_held w ↦ record {
         few = (let a = c.loop-frame.invariant.few in let e = w.n-is in omega (arith, a, e));
         left = count-else p c.loop-frame.n c.if-is_held.n c.loop-frame.frame c.args.machine.now.frames _ c.loop-frame-test.true
-            (sym c.is_held.ensures ∙ w.if-is_held.false) w.n-is c.loop-frame.invariant.left;
+            (sym c.in_ok-is_held.ensures ∙ w.if-is_held.false) w.n-is c.loop-frame.invariant.left;
       }
     ]

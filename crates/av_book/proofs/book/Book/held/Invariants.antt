@@ -9,6 +9,6 @@ use Rattle.av_book.proofs.book.Book.held.Given as goal
 abbrev pub invariant-loop-frame : goal.invariant-loop-frame
 invariant-loop-frame l = record {
   few : l.n ≤ l.frame;
-  left : l.n + how_many (is_held (spared_of l.spared) (ledger_of l.self) l.hold) (range_with_len l.frame (l.machine.frames - l.frame))
-      ≡ how_many (is_held (spared_of l.spared) (ledger_of l.self) l.hold) (range_with_len 0 l.machine.frames);
+  left : l.n + how_many (is_held (spared_of l.spared (ledger_of l.self)) (ledger_of l.self) l.hold) (range_with_len l.frame (l.machine.frames - l.frame))
+      ≡ how_many (is_held (spared_of l.spared (ledger_of l.self)) (ledger_of l.self) l.hold) (range_with_len 0 l.machine.frames);
 }

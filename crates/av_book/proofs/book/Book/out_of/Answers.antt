@@ -11,43 +11,43 @@ use Rattle.av_book.proofs.book.Book.out_of.Goals as goal
 
 pub overflow_sub-result : goal.overflow_sub-result
 overflow_sub-result c =
-    let all = held-all (spared_of c.args.spared.now) (ledger_of c.args.self.now) c.args.machine.now.frames in
+    let all = held-all (spared_of c.args.spared.now (ledger_of c.args.self.now)) (ledger_of c.args.self.now) c.args.machine.now.frames in
     let p = c.pinned_below-pinned.ensures in
     omega (arith, all, p)
 
 pub overflow_sub-result-2 : goal.overflow_sub-result-2
 overflow_sub-result-2 c =
-    let all = held-all (spared_of c.args.spared.now) (ledger_of c.args.self.now) c.args.machine.now.frames in
+    let all = held-all (spared_of c.args.spared.now (ledger_of c.args.self.now)) (ledger_of c.args.self.now) c.args.machine.now.frames in
     let p = c.pinned_below-pinned.ensures in
-    let k = c.held-locked.ensures in
+    let k = c.in_ok-locked.ensures in
     omega (arith, all, p, k)
 
 pub overflow_sub-result-3 : goal.overflow_sub-result-3
 overflow_sub-result-3 c =
-    let all = held-all (spared_of c.args.spared.now) (ledger_of c.args.self.now) c.args.machine.now.frames in
+    let all = held-all (spared_of c.args.spared.now (ledger_of c.args.self.now)) (ledger_of c.args.self.now) c.args.machine.now.frames in
     let p = c.pinned_below-pinned.ensures in
-    let k = c.held-locked.ensures in
-    let m = c.held-ksm.ensures in
+    let k = c.in_ok-locked.ensures in
+    let m = c.in_ok-ksm.ensures in
     omega (arith, all, p, k, m)
 
 pub overflow_sub-result-4 : goal.overflow_sub-result-4
 overflow_sub-result-4 c =
-    let all = held-all (spared_of c.args.spared.now) (ledger_of c.args.self.now) c.args.machine.now.frames in
+    let all = held-all (spared_of c.args.spared.now (ledger_of c.args.self.now)) (ledger_of c.args.self.now) c.args.machine.now.frames in
     let p = c.pinned_below-pinned.ensures in
-    let k = c.held-locked.ensures in
-    let m = c.held-ksm.ensures in
-    let f = c.held-fault.ensures in
+    let k = c.in_ok-locked.ensures in
+    let m = c.in_ok-ksm.ensures in
+    let f = c.in_ok-fault.ensures in
     omega (arith, all, p, k, m, f)
 
 pub returns : goal.returns
 returns c =
-    let all = held-all (spared_of c.args.spared.now) (ledger_of c.args.self.now) c.args.machine.now.frames in
+    let all = held-all (spared_of c.args.spared.now (ledger_of c.args.self.now)) (ledger_of c.args.self.now) c.args.machine.now.frames in
     let p = c.pinned_below-pinned.ensures in
-    let k = c.held-locked.ensures in
-    let m = c.held-ksm.ensures in
-    let f = c.held-fault.ensures in
+    let k = c.in_ok-locked.ensures in
+    let m = c.in_ok-ksm.ensures in
+    let f = c.in_ok-fault.ensures in
     let one : c.from.result ≡ cond (is_some c.args.spared.now.pinned) 1 0 = search rules in
-    let rest : c.args.machine.now.frames - c.pinned_below-pinned.result - c.held-locked.result - c.held-ksm.result - c.held-fault.result
-    ≡ how_many (is_held (spared_of c.args.spared.now) (ledger_of c.args.self.now) NoSlot) (range_with_len 0 c.args.machine.now.frames) =
+    let rest : c.args.machine.now.frames - c.pinned_below-pinned.result - c.in_ok-locked.locked - c.in_ok-ksm.ksm - c.in_ok-fault.fault
+    ≡ how_many (is_held (spared_of c.args.spared.now (ledger_of c.args.self.now)) (ledger_of c.args.self.now) NoSlot) (range_with_len 0 c.args.machine.now.frames) =
     omega (arith, all, p, k, m, f) in
     λ i. record { pinned = one i; noslot = rest i; fault = f i; locked = k i; ksm = m i }
