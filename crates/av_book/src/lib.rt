@@ -8,6 +8,11 @@
 //! Nothing asks that the ledger is sound. After want of memory a book may have followed a part of
 //! a note.
 //!
+//! Whether a frame is of a locked page is asked of the processes (`av_world`) when it matters, by
+//! the frame's entries, and of none where no process has a locked page (`Book::is_locked`). What
+//! they keep answers it; that it is what the definitions say is one equation
+//! (`proofs/SparedLaws.antt`).
+//!
 //! Only tested: nothing.
 #![tactic(auto)]
 

@@ -1,6 +1,7 @@
 //! What a pass and a reclaim leave alone, and which frames have a turn.
 
-ghost use Rattle.std.specs.Prelude.{◌≡◌, ◌||◌, ℕ, IfOk, false, length, nat_lt, not, take};
+ghost use Rattle.std.specs.Prelude.{◌≡◌, ◌≤◌, ◌||◌, ◌++◌, ℕ, IfOk, OnOk, false, length, nat_lt};
+ghost use Rattle.std.specs.Prelude.{not, reverse, take, true};
 ghost use Rattle.std.specs.List.{list_any};
 ghost use Rattle.av_plain.specs.Ledger.{no_slot};
 ghost use Rattle.av_plain.specs.Pass.{Spared as PlainSpared, has_turn};
@@ -12,6 +13,7 @@ ghost use Rattle.av_book.specs.Spared.{frames_by_turn, is_locked_by, spared_of};
 
 use crate::book::Book;
 use crate::machine::Machine;
+use av_queue::Queue;
 use av_world::Memories;
 use std::alloc::{AllocError, Global};
 
@@ -39,6 +41,21 @@ fn locks_any(memories: &Memories, keys: &[(u16, u64)]) -> bool
     ensures { result ≡ list_any (locks_page memories.now) keys.now }
 {
     keys.iter().any(|key| memories.locks(key.0, key.1))
+}
+
+/// Frames of a list come to others, from the list's end on, until there are n.
+fn add_last(frames: &mut Vec<u32>, list: &Queue<u32>, n: usize) -> Result<(), AllocError>
+    requires { length frames.old.items ≤ n }
+    ensures { OnOk result (frames.new.items ≡ take n (frames.old.items ++ reverse list.now)) }
+{
+    let mut left = list.iter();
+    while frames.len() < n {
+        let Some(frame) = left.next_back() else {
+            return Ok(());
+        };
+        frames.push(*frame)?;
+    }
+    Ok(())
 }
 
 impl Book {
@@ -90,8 +107,9 @@ impl Book {
         ensures { IfOk result (λ frames. frames.items
             ≡ take n (frames_by_turn (ledger_of self.now))) }
     {
-        let idle = self.inactive.iter().rev();
-        let busy = self.active.iter().rev();
-        idle.chain(busy).take(n).copied().collect(alloc)
+        let mut frames = Vec::new(alloc);
+        add_last(&mut frames, &self.inactive, n)?;
+        add_last(&mut frames, &self.active, n)?;
+        Ok(frames)
     }
 }
