@@ -52,9 +52,6 @@ pub record SameTurns (s : Spared) (l l' : Ledger) : Type 0 where
   pub merged : l'.merged ≡ l.merged
   pub locked : is_locked_by s.memories.now l' ≡ is_locked_by s.memories.now l
 
-pub turns-begin : (s : Spared) (l : Ledger) → SameTurns s l l
-turns-begin s l = record { order = refl; merged = refl; locked = refl }
-
 pub turns-then : (s : Spared) (l l1 l2 : Ledger) → SameTurns s l l1 → SameTurns s l1 l2 → SameTurns s l l2
 turns-then s l l1 l2 first second =
     record { order = second.order ∙ first.order; merged = second.merged ∙ first.merged; locked = second.locked ∙ first.locked }

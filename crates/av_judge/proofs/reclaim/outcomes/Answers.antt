@@ -1,5 +1,5 @@
 use Rattle.std.proofs.Common.{false, true, subst, ◌∙◌}
-use Rattle.av_plain.specs.Reclaim.{Outcome, Outcomes}
+use Rattle.av_plain.specs.Reclaim.{Outcomes}
 use Rattle.av_book.specs.Book.{ledger_of}
 use Rattle.av_book.specs.Machine.{setting_of}
 use Rattle.av_book.specs.Spared.{spared_of}
@@ -20,9 +20,8 @@ returns-then-not-branch c =
     let mid = c.outcome.new.unit.rest.now in
     c.loop-rest.invariant.later false l1 mid
     (subst (λ ss. Reads (Outcomes m sp l ss) l bytes false l1 mid) (slice-cons c.loop-rest.rest.now _ c.in-len1-up.len_at_least)
-    (outcomes-not m sp l l1 l1 bytes mid mid _ _
-    (subst (λ sp. Reads (Outcome m sp l _) l bytes false l1 mid) c.loop-rest.invariant.same
-    (reads-is _ _ _ _ _ c.in_ok-outcome.field-0 false c.if-not-branch.true c.in_ok-outcome.ensures))))
+    (outcomes-not m (spared_of s l) sp l l1 l1 bytes mid mid _ _ c.loop-rest.invariant.same
+    (reads-is _ _ _ _ _ c.in_ok-outcome.field-0 false c.if-not-branch.true c.in_ok-outcome.ensures)))
 
 pub loop-rest-preserved : goal.loop-rest-preserved
 loop-rest-preserved c =
@@ -33,13 +32,13 @@ loop-rest-preserved c =
     let l1 = ledger_of c.outcome.new.book in
     let bytes = c.loop-rest.unit.rest.now in
     let mid = c.outcome.new.unit.rest.now in
-    let one = reads-is _ _ _ _ _ c.in_ok-outcome.field-0 true c.if-not-branch.false c.in_ok-outcome.ensures in
     record {
-      same = spared-outcome m s l l1 _ bytes mid one ∙ c.loop-rest.invariant.same;
+      same = spared-outcome m s l l1 _ bytes mid
+          (reads-is _ _ _ _ _ c.in_ok-outcome.field-0 true c.if-not-branch.false c.in_ok-outcome.ensures) ∙ c.loop-rest.invariant.same;
       later = λ read l' left later. c.loop-rest.invariant.later read l' left
           (subst (λ ss. Reads (Outcomes m sp l ss) l bytes read l' left) (slice-cons c.loop-rest.rest.now _ c.in-len1-up.len_at_least)
-          (outcomes-then m sp l l1 l' bytes mid left read _ _
-          (subst (λ sp. Reads (Outcome m sp l _) l bytes true l1 mid) c.loop-rest.invariant.same one) later));
+          (outcomes-then m (spared_of s l) sp l l1 l' bytes mid left read _ _ c.loop-rest.invariant.same
+          (reads-is _ _ _ _ _ c.in_ok-outcome.field-0 true c.if-not-branch.false c.in_ok-outcome.ensures) later));
     }
 
 pub returns : goal.returns
