@@ -13,10 +13,11 @@
 //! they keep answers it; that it is what the definitions say is one equation
 //! (`proofs/SparedLaws.antt`).
 //!
-//! The numbers of an out-of-memory are had by counts (`Book::out_of`): the entries of locked pages
-//! and the cached pairs are gone over, and neither all frames nor all entries. Merged frames are
-//! kept as a set beside their list, so that how many are below a number is known at once where all
-//! are (`MergedFrames`). This is read off the code, and no clause says it.
+//! The numbers of an out-of-memory are had by counts (`Book::out_of`). Gone over are the ranges of
+//! the processes that have a locked page, the entries of locked pages, and the cached pairs, but
+//! not all frames. Merged frames stand in a set beside their list: how many are below a number is
+//! known at once, where all are (`MergedFrames`). These costs are read off the code, and no clause
+//! says them.
 //!
 //! Only tested: nothing.
 #![tactic(auto)]

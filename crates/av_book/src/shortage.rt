@@ -79,7 +79,8 @@ impl Book {
     }
 
     /// The numbers of an out-of-memory: how many frames are held for each cause. Gone over are the
-    /// frames of locked pages and the cached pairs, and no others.
+    /// ranges of the processes that have a locked page, the entries of locked pages, and the cached
+    /// pairs.
     pub fn out_of(&self, machine: &Machine, spared: &Spared<'_>) -> Result<OutOf, AllocError>
         ensures { IfOk result (λ out. out ≡ out_of (setting_of machine.now)
             (spared_of spared.now (ledger_of self.now)) (ledger_of self.now)) }
