@@ -1,5 +1,5 @@
 -- A page comes in.
-use Rattle.std.proofs.Common.{◌≡◌, inl, inr, ℕ, true, false, Some, None, List, [], ◌∷◌, refl, sym, ap, ◌∙◌}
+use Rattle.std.proofs.Common.{◌≡◌, ◌⊎◌, inl, inr, ℕ, Bool, true, false, Option, Some, None, List, [], ◌∷◌, refl, sym, ap, subst, ◌∙◌}
 use Rattle.av_base.specs.Keys.{Key}
 use Rattle.av_base.specs.Page.{address_of}
 use Rattle.av_base.specs.declared.slot.Slot.{Slot}
@@ -8,7 +8,7 @@ use Rattle.av_trace.specs.declared.note.Note.TheVariants.{Mapped}
 use Rattle.av_trace.specs.declared.reply.OutOf.{OutOf}
 use Rattle.av_plain.specs.Fault.{ComesIn, Need, SwapIn, MapCached, Sparing, Stop, Denied, Starved, Lost}
 use Rattle.av_plain.specs.Ledger.{Ledger, Setting}
-use Rattle.av_plain.specs.Pass.{out_of}
+use Rattle.av_plain.specs.Pass.{Spared, out_of}
 use Rattle.av_judge.specs.Come.{ComesFrom, IsKeptOut}
 use Rattle.av_judge.specs.Finds.{Reads, Stand}
 use Rattle.av_judge.specs.Stage.{Meets}
@@ -17,6 +17,13 @@ use Rattle.av_access_judge.specs.Come.{IsKept, IsKeptBy}
 
 abbrev pub Comes : Setting → Sparing → Ledger → Key → Need → Unit {0} → List Note → Type 0
 Comes m sp l k n u = ComesIn m sp l k n
+
+-- by another name of what is spared, and of what is met
+pub come-as : (m : Setting) (a b : Spared) (l l' : Ledger) (k : Key) (s : Slot) (bytes rest : List ℕ) (x y : Option (Unit {0} ⊎ Bool)) → a ≡ b → x ≡ y
+    → Meets (ComesFrom m a l k s) (IsKeptOut m a l) l bytes x l' rest → Meets (ComesFrom m b l k s) (IsKeptOut m b l) l bytes y l' rest
+come-as m a b l l' k s bytes rest x y same is h =
+    subst (λ found. Meets (ComesFrom m b l k s) (IsKeptOut m b l) l bytes found l' rest) is
+    (subst (λ sp. Meets (ComesFrom m sp l k s) (IsKeptOut m sp l) l bytes x l' rest) same h)
 
 module _ (m : Setting) (sp : Sparing) (l : Ledger) (k : Key) (s : Slot) (bytes rest : List ℕ) where
   pub from-none : (l1 l' : Ledger) (mid : List ℕ) → Meets (ComesFrom m (sp l None) l k s) (IsKeptOut m (sp l None) l) l bytes None l1 mid

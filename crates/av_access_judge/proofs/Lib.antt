@@ -1,5 +1,3 @@
-pub mod LockedLaws
-pub mod FreeLaws
 pub mod TakeLaws
 pub mod ComeLaws
 pub mod HereLaws

@@ -66,6 +66,13 @@ pub take-sought : (m : Setting) (sp : Spared) (l l1 l' : Ledger) (taking : Takin
 take-sought m sp l l1 l' taking bytes mid rest found first second =
     sought-then m sp l (λ n. IsTakenFree m n taking) (λ n (u : Unit {0}). has_free m n ≡ false) l1 l' bytes mid rest found first second
 
+-- by another name of what is spared, and of what is met
+pub take-as : (m : Setting) (a b : Spared) (l l' : Ledger) (taking : Taking) (bytes rest : List ℕ) (x y : Option (ℕ ⊎ Unit {0})) → a ≡ b → x ≡ y
+    → Meets (AreTaken m a l taking) (IsStarved m a l) l bytes x l' rest → Meets (AreTaken m b l taking) (IsStarved m b l) l bytes y l' rest
+take-as m a b l l' taking bytes rest x y same is h =
+    subst (λ found. Meets (AreTaken m b l taking) (IsStarved m b l) l bytes found l' rest) is
+    (subst (λ sp. Meets (AreTaken m sp l taking) (IsStarved m sp l) l bytes x l' rest) same h)
+
 -- ---- a page gets a frame
 
 to-takes : (m : Setting) (sp : Spared) (l : Ledger) (taking : Taking) (f : ℕ) (ns : List Note) → AreTaken m sp l taking f ns

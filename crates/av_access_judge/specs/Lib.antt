@@ -1,4 +1,3 @@
-pub mod Locked
 pub mod Take
 pub mod Come
 pub mod Drop

@@ -1,18 +1,16 @@
 //! A page whose entry is a slot comes in.
 
 ghost use Rattle.std.specs.Prelude.{◌≡◌, ◌<◌, ◌^◌, Bool, IfOk};
-ghost use Rattle.av_plain.specs.Fault.{ComesIn, need as need_in, sparing as sparing_of};
+ghost use Rattle.av_plain.specs.Fault.{ComesIn, need as need_in, sparing};
 ghost use Rattle.av_plain.specs.Ledger.{entry};
 ghost use Rattle.av_plain.specs.World.{World};
 ghost use Rattle.av_book.specs.Book.{ledger_of};
 ghost use Rattle.av_book.specs.Machine.{AreNamed, setting_of};
 ghost use Rattle.av_book.specs.Need.{need_of};
-ghost use Rattle.av_book.specs.Spared.{spared_of};
 ghost use Rattle.av_judge.specs.Stage.{Meets};
 ghost use Rattle.av_world.specs.Memories.{IsWorld};
 ghost use Rattle.av_access_judge.specs.Come.{HasNoSlot, IsKept, coming_of};
 
-use crate::spared::sparing_where_full;
 use av_base::Slot;
 use av_book::{Book, Machine, Need, Spared};
 use av_judge::{Come, Unit, reads, swaps_in};
@@ -36,39 +34,6 @@ pub enum Coming {
     Kept(Stop),
 }
 
-/// A page comes in from its slot on the device, behind a pass that spares this.
-fn comes_behind(
-    book: &mut Book,
-    unit: &mut Unit<'_>,
-    machine: &Machine,
-    spared: &Spared,
-    slot: Slot,
-    process: u16,
-    page: u64,
-) -> Result<Option<Coming>, AllocError>
-    requires some { 0 < machine.now.frames }
-    requires fits { AreNamed (setting_of machine.now) }
-    requires page { page < 2 ^ 52 }
-    ensures comes { IfOk result (λ coming. Meets
-        (λ u. ComesIn (setting_of machine.now) (λ l pinned. spared_of spared.now)
-        (ledger_of book.old) (process, page) (need_of (Need.SwapIn slot)))
-        (IsKept (setting_of machine.now) (λ l pinned. spared_of spared.now)
-        (ledger_of book.old) (need_of (Need.SwapIn slot))) (ledger_of book.old)
-        unit.old.rest.now (coming_of coming) (ledger_of book.new) unit.new.rest.now) }
-    ensures here { IfOk result (λ coming. (write : Bool)
-        → HasNoSlot write (ledger_of book.new) (process, page) coming) }
-{
-    match swaps_in(book, unit, machine, spared, slot, process, page)? {
-        None => Ok(None),
-        Some(Come::In) => Ok(Some(Coming::Here)),
-        Some(Come::Lost) => Ok(Some(Coming::Kept(Stop::Lost))),
-        Some(Come::Starved) => {
-            let out = book.out_of(machine, spared);
-            Ok(Some(Coming::Kept(Stop::Starved(out))))
-        }
-    }
-}
-
 /// A page comes in from its slot on the device.
 fn comes_from(
     book: &mut Book,
@@ -83,16 +48,28 @@ fn comes_from(
     requires fits { AreNamed (setting_of machine.now) }
     requires page { page < 2 ^ 52 }
     ensures comes { IfOk result (λ found. (w : World) → IsWorld memories.now w → Meets
-        (λ u. ComesIn (setting_of machine.now) (sparing_of w) (ledger_of book.old) (process, page)
+        (λ u. ComesIn (setting_of machine.now) (sparing w) (ledger_of book.old) (process, page)
         (need_of (Need.SwapIn slot)))
-        (IsKept (setting_of machine.now) (sparing_of w) (ledger_of book.old)
+        (IsKept (setting_of machine.now) (sparing w) (ledger_of book.old)
         (need_of (Need.SwapIn slot))) (ledger_of book.old) unit.old.rest.now (coming_of found)
         (ledger_of book.new) unit.new.rest.now) }
     ensures here { IfOk result (λ found. (write : Bool)
         → HasNoSlot write (ledger_of book.new) (process, page) found) }
 {
-    let spared = sparing_where_full(unit.alloc, book, machine, memories, None)?;
-    comes_behind(book, unit, machine, &spared, slot, process, page)
+    let spared = Spared {
+        pinned: None,
+        memories,
+        closing: None,
+    };
+    match swaps_in(book, unit, machine, &spared, slot, process, page)? {
+        None => Ok(None),
+        Some(Come::In) => Ok(Some(Coming::Here)),
+        Some(Come::Lost) => Ok(Some(Coming::Kept(Stop::Lost))),
+        Some(Come::Starved) => {
+            let out = book.out_of(machine, &spared)?;
+            Ok(Some(Coming::Kept(Stop::Starved(out))))
+        }
+    }
 }
 
 /// A page comes in, if its entry is a slot. Then it isn't one any more.
@@ -109,9 +86,9 @@ pub fn comes(
     requires fits { AreNamed (setting_of machine.now) }
     requires page { page < 2 ^ 52 }
     ensures comes { IfOk result (λ found. (w : World) → IsWorld memories.now w → Meets
-        (λ u. ComesIn (setting_of machine.now) (sparing_of w) (ledger_of book.old) (process, page)
+        (λ u. ComesIn (setting_of machine.now) (sparing w) (ledger_of book.old) (process, page)
         (need_of need))
-        (IsKept (setting_of machine.now) (sparing_of w) (ledger_of book.old) (need_of need))
+        (IsKept (setting_of machine.now) (sparing w) (ledger_of book.old) (need_of need))
         (ledger_of book.old) unit.old.rest.now (coming_of found) (ledger_of book.new)
         unit.new.rest.now) }
     ensures here { IfOk result (λ found. (write : Bool)

@@ -5,11 +5,10 @@
 //! where it ends; or they are those of none (`accesses`). Of one page, that it is served, or isn't
 //! and the unit ends. Its parts: a page whose entry is a slot comes in, or is kept out; a page that
 //! is here gets what it needs, or no frame can be had for it; its slot is dropped where that is
-//! needed no more. What a pass spares is what the definitions say (`sparing`): that costs a look at
-//! the ranges of the processes with a locked page, and at the entries of these pages. In an access
-//! it is looked for only where no frame is free, so that a pass comes. What a reclaim spares is
-//! looked for among its own frames, by the entries of each (`sparing_last`). Which bytes a page
-//! holds is not asked here, nor what the answer says.
+//! needed no more. What a pass spares is what the definitions say (`sparing`). It is asked of the
+//! memories as the pass goes: so a locked page costs something only where a pass comes to its
+//! frame, and where the numbers of an out-of-memory count it. These costs are read off the code,
+//! and no clause says them. Which bytes a page holds is not asked here, nor what the answer says.
 //!
 //! Only tested: nothing.
 #![tactic(auto)]
@@ -17,13 +16,9 @@
 mod accessing;
 mod coming;
 mod dropping;
-mod locked;
 mod making;
-mod spared;
 mod taking;
 mod touching;
 
 pub use accessing::{End, accesses};
 pub use coming::Stop;
-pub use locked::is_locked;
-pub use spared::{sparing, sparing_last, sparing_where_full};

@@ -1,18 +1,16 @@
 //! A page gets what it needs, once it is here.
 
 ghost use Rattle.std.specs.Prelude.{◌≡◌, ◌<◌, ◌^◌, IfOk, false};
-ghost use Rattle.av_plain.specs.Fault.{FindsNone, IsMade, need, sparing as sparing_of, was_slot};
+ghost use Rattle.av_plain.specs.Fault.{FindsNone, IsMade, need, sparing, was_slot};
 ghost use Rattle.av_plain.specs.Ledger.{entry};
 ghost use Rattle.av_plain.specs.World.{World};
 ghost use Rattle.av_book.specs.Book.{ledger_of};
 ghost use Rattle.av_book.specs.Machine.{AreNamed, setting_of};
 ghost use Rattle.av_book.specs.Need.{need_of};
-ghost use Rattle.av_book.specs.Spared.{spared_of};
 ghost use Rattle.av_judge.specs.Stage.{Meets};
 ghost use Rattle.av_world.specs.Memories.{IsWorld};
 ghost use Rattle.av_access_judge.specs.Take.{HasNoFrame, MakesFrame, making_of};
 
-use crate::spared::sparing_where_full;
 use crate::taking::{Take, takes_behind};
 use av_book::{Book, Machine, Need, Spared};
 use av_judge::{Taking, Unit, reads};
@@ -27,29 +25,6 @@ pub enum Making {
     Starved(OutOf),
 }
 
-/// A page gets a frame, behind a pass that spares this.
-fn makes_frame_behind(
-    book: &mut Book,
-    unit: &mut Unit<'_>,
-    machine: &Machine,
-    spared: &Spared,
-    taking: Taking,
-) -> Result<Option<Making>, AllocError>
-    requires some { 0 < machine.now.frames }
-    requires fits { AreNamed (setting_of machine.now) }
-    ensures { IfOk result (λ making. Meets
-        (MakesFrame (setting_of machine.now) (spared_of spared.now) (ledger_of book.old) taking)
-        (HasNoFrame (setting_of machine.now) (spared_of spared.now) (ledger_of book.old))
-        (ledger_of book.old) unit.old.rest.now (making_of making) (ledger_of book.new)
-        unit.new.rest.now) }
-{
-    match takes_behind(book, unit, machine, spared, taking)? {
-        None => Ok(None),
-        Some(Take::Taken(_)) => Ok(Some(Making::Made)),
-        Some(Take::Starved) => Ok(Some(Making::Starved(book.out_of(machine, spared)))),
-    }
-}
-
 /// A page gets a frame, but not that which is pinned.
 fn makes_frame(
     book: &mut Book,
@@ -61,15 +36,22 @@ fn makes_frame(
 ) -> Result<Option<Making>, AllocError>
     requires some { 0 < machine.now.frames }
     requires fits { AreNamed (setting_of machine.now) }
-    ensures { IfOk result (λ found. (w : World) → IsWorld memories.now w → Meets
-        (MakesFrame (setting_of machine.now) (sparing_of w (ledger_of book.old) pinned)
-        (ledger_of book.old) taking)
-        (HasNoFrame (setting_of machine.now) (sparing_of w (ledger_of book.old) pinned)
-        (ledger_of book.old)) (ledger_of book.old) unit.old.rest.now (making_of found)
-        (ledger_of book.new) unit.new.rest.now) }
+    ensures { let l = ledger_of book.old in IfOk result (λ found. (w : World)
+        → IsWorld memories.now w → Meets
+        (MakesFrame (setting_of machine.now) (sparing w l pinned) l taking)
+        (HasNoFrame (setting_of machine.now) (sparing w l pinned) l) l unit.old.rest.now
+        (making_of found) (ledger_of book.new) unit.new.rest.now) }
 {
-    let spared = sparing_where_full(unit.alloc, book, machine, memories, pinned)?;
-    makes_frame_behind(book, unit, machine, &spared, taking)
+    let spared = Spared {
+        pinned,
+        memories,
+        closing: None,
+    };
+    match takes_behind(book, unit, machine, &spared, taking)? {
+        None => Ok(None),
+        Some(Take::Taken(_)) => Ok(Some(Making::Made)),
+        Some(Take::Starved) => Ok(Some(Making::Starved(book.out_of(machine, &spared)?))),
+    }
 }
 
 /// A page gets what it needs, where its entry is no slot.
@@ -87,9 +69,9 @@ pub fn makes(
     requires page { page < 2 ^ 52 }
     requires here { was_slot (need_of need) ≡ false }
     ensures { IfOk result (λ found. (w : World) → IsWorld memories.now w → Meets
-        (λ u. IsMade (setting_of machine.now) (sparing_of w) (ledger_of book.old) (process, page)
+        (λ u. IsMade (setting_of machine.now) (sparing w) (ledger_of book.old) (process, page)
         (need_of need))
-        (λ out notes. FindsNone (setting_of machine.now) (sparing_of w) (ledger_of book.old)
+        (λ out notes. FindsNone (setting_of machine.now) (sparing w) (ledger_of book.old)
         (need_of need) notes out) (ledger_of book.old) unit.old.rest.now (making_of found)
         (ledger_of book.new) unit.new.rest.now) }
 {

@@ -47,16 +47,15 @@ pub fn takes_behind(
     book: &mut Book,
     unit: &mut Unit<'_>,
     machine: &Machine,
-    spared: &Spared,
+    spared: &Spared<'_>,
     taking: Taking,
 ) -> Result<Option<Take>, AllocError>
     requires some { 0 < machine.now.frames }
     requires fits { AreNamed (setting_of machine.now) }
-    ensures { IfOk result (λ found. Meets
-        (AreTaken (setting_of machine.now) (spared_of spared.now) (ledger_of book.old) taking)
-        (IsStarved (setting_of machine.now) (spared_of spared.now) (ledger_of book.old))
-        (ledger_of book.old) unit.old.rest.now (take_of found) (ledger_of book.new)
-        unit.new.rest.now) }
+    ensures { let l = ledger_of book.old in IfOk result (λ found. Meets
+        (AreTaken (setting_of machine.now) (spared_of spared.now l) l taking)
+        (IsStarved (setting_of machine.now) (spared_of spared.now l) l) l unit.old.rest.now
+        (take_of found) (ledger_of book.new) unit.new.rest.now) }
 {
     if !seeks(book, unit, machine, spared)? {
         return Ok(None);

@@ -1,7 +1,7 @@
 //! A page is read or written.
 
 ghost use Rattle.std.specs.Prelude.{◌≡◌, ◌<◌, ◌^◌, IfOk, None, Some, false};
-ghost use Rattle.av_plain.specs.Fault.{Serves, Touches, need as need_in, sparing as sparing_of};
+ghost use Rattle.av_plain.specs.Fault.{Serves, Touches, need as need_in, sparing};
 ghost use Rattle.av_plain.specs.Fault.{was_slot};
 ghost use Rattle.av_plain.specs.Ledger.{entry};
 ghost use Rattle.av_plain.specs.World.{World};
@@ -38,9 +38,9 @@ fn makes_ready(
     requires here { was_slot (need_in write (ledger_of book.now)
         (entry (ledger_of book.now) (process, page))) ≡ false }
     ensures { IfOk result (λ found. (w : World) → IsWorld memories.now w → Meets
-        (λ u. IsMadeReady (setting_of machine.now) (sparing_of w) (ledger_of book.old) write came
+        (λ u. IsMadeReady (setting_of machine.now) (sparing w) (ledger_of book.old) write came
         (process, page))
-        (IsUnready (setting_of machine.now) (sparing_of w) (ledger_of book.old) write
+        (IsUnready (setting_of machine.now) (sparing w) (ledger_of book.old) write
         (process, page)) (ledger_of book.old) unit.old.rest.now (coming_of found)
         (ledger_of book.new) unit.new.rest.now) }
 {
@@ -79,9 +79,9 @@ fn serves(
     requires fits { AreNamed (setting_of machine.now) }
     requires page { page < 2 ^ 52 }
     ensures { IfOk result (λ found. (w : World) → IsWorld memories.now w → Meets
-        (λ u. Serves (setting_of machine.now) (sparing_of w) (ledger_of book.old) write
+        (λ u. Serves (setting_of machine.now) (sparing w) (ledger_of book.old) write
         (process, page))
-        (IsUnserved (setting_of machine.now) (sparing_of w) (ledger_of book.old) write
+        (IsUnserved (setting_of machine.now) (sparing w) (ledger_of book.old) write
         (process, page)) (ledger_of book.old) unit.old.rest.now (coming_of found)
         (ledger_of book.new) unit.new.rest.now) }
 {

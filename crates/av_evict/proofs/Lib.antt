@@ -1,7 +1,6 @@
 pub mod SystemLaws
 pub mod StepLaws
 pub mod FlightLaws
-pub mod LockedLaws
 pub mod StandingLaws
 pub mod TurnLaws
 pub mod InactiveLaws

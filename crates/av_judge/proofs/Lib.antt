@@ -9,6 +9,8 @@ pub mod NoteLaws
 pub mod PassLaws
 pub mod ReclaimLaws
 pub mod SeekLaws
+pub mod SparedLaws
 pub mod StageLaws
+pub mod TurnLaws
 pub mod UnitLaws
 pub mod VerdictLaws

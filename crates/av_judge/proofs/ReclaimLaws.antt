@@ -56,18 +56,20 @@ outcomes-parts m sp l f fs = record {
   told = outcome-told m sp l f;
 }
 
-pub outcomes-then : (m : Setting) (sp : Spared) (l l1 l' : Ledger) (bytes mid rest : List ℕ) (read : Bool) (f : ℕ) (fs : List ℕ)
-    → Reads (Outcome m sp l f) l bytes true l1 mid → Reads (Outcomes m sp l1 fs) l1 mid read l' rest
+-- what is asked of a frame when it is come to is what was asked at the start
+pub outcomes-then : (m : Setting) (now sp : Spared) (l l1 l' : Ledger) (bytes mid rest : List ℕ) (read : Bool) (f : ℕ) (fs : List ℕ) → now ≡ sp
+    → Reads (Outcome m now l f) l bytes true l1 mid → Reads (Outcomes m sp l1 fs) l1 mid read l' rest
     → Reads (Outcomes m sp l (f ∷ fs)) l bytes read l' rest
-outcomes-then m sp l l1 l' bytes mid rest read f fs first later =
+outcomes-then m now sp l l1 l' bytes mid rest read f fs same first later =
     reads-then (Outcomes m sp l (f ∷ fs)) (Outcome m sp l f) (λ a. Outcomes m sp (after_notes l a) fs) l l1 l' bytes mid rest read
-    (outcomes-parts m sp l f fs) first (λ a g e. subst (λ n. Reads (Outcomes m sp n fs) l1 mid read l' rest) e later)
+    (outcomes-parts m sp l f fs) (subst (λ sp. Reads (Outcome m sp l f) l bytes true l1 mid) same first)
+    (λ a g e. subst (λ n. Reads (Outcomes m sp n fs) l1 mid read l' rest) e later)
 
-pub outcomes-not : (m : Setting) (sp : Spared) (l l1 l' : Ledger) (bytes mid rest : List ℕ) (f : ℕ) (fs : List ℕ)
-    → Reads (Outcome m sp l f) l bytes false l1 mid → Reads (Outcomes m sp l (f ∷ fs)) l bytes false l' rest
-outcomes-not m sp l l1 l' bytes mid rest f fs none =
+pub outcomes-not : (m : Setting) (now sp : Spared) (l l1 l' : Ledger) (bytes mid rest : List ℕ) (f : ℕ) (fs : List ℕ) → now ≡ sp
+    → Reads (Outcome m now l f) l bytes false l1 mid → Reads (Outcomes m sp l (f ∷ fs)) l bytes false l' rest
+outcomes-not m now sp l l1 l' bytes mid rest f fs same none =
     reads-no-first (Outcomes m sp l (f ∷ fs)) (Outcome m sp l f) (λ a. Outcomes m sp (after_notes l a) fs) l l1 l' bytes mid rest
-    (outcomes-parts m sp l f fs) none
+    (outcomes-parts m sp l f fs) (subst (λ sp. Reads (Outcome m sp l f) l bytes false l1 mid) same none)
 
 pub ages-then : (l l1 l' : Ledger) (bytes mid rest : List ℕ) (read : Bool) (f : ℕ) (fs : List ℕ)
     → Reads (λ ns. ns ≡ Aged f ∷ []) l bytes true l1 mid → Reads (λ ns. ns ≡ map Aged fs) l1 mid read l' rest

@@ -101,3 +101,17 @@ module _ {X Y S : Type 0} (Goes : Y → List Note → Type 0) (Stops : S → Lis
         stand = stand-both bytes mid [] first.notes then.notes first.stand then.stand;
         after = then.after ∙ ap (λ m. after_notes m then.notes) first.after ∙ sym (after_notes-append l first.notes then.notes);
       }
+
+-- other notes are lawful in the same way
+pub meets-as : {X S : Type 0} (Goes Goes' : X → List Note → Type 0) (Stops Stops' : S → List Note → Type 0) (l l' : Ledger) (bytes rest : List ℕ)
+    (found : Option (X ⊎ S)) → ((x : X) (ns : List Note) → Goes x ns → Goes' x ns) → ((x : X) (ns : List Note) → Goes' x ns → Goes x ns)
+    → ((s : S) (ns : List Note) → Stops s ns → Stops' s ns) → ((s : S) (ns : List Note) → Stops' s ns → Stops s ns)
+    → Meets Goes Stops l bytes found l' rest → Meets Goes' Stops' l bytes found l' rest
+meets-as Goes Goes' Stops Stops' l l' bytes rest None to from stops back h = record {
+  goes = λ x ns more g st. h.goes x ns more (from x ns g) st;
+  stops = λ s ns g st. h.stops s ns (back s ns g) st;
+}
+meets-as Goes Goes' Stops Stops' l l' bytes rest (Some (inl x)) to from stops back h =
+    record { notes = h.notes; lawful = to x h.notes h.lawful; stand = h.stand; after = h.after }
+meets-as Goes Goes' Stops Stops' l l' bytes rest (Some (inr s)) to from stops back h =
+    record { notes = h.notes; lawful = stops s h.notes h.lawful; stand = h.stand; after = h.after }

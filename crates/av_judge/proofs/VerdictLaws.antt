@@ -26,7 +26,6 @@ use Rattle.av_plain.specs.Step.{Follows, IsLegal}
 use Rattle.av_plain.specs.World.{World}
 use Rattle.av_plain.proofs.Access.{note_events-all, notes_of-note_events}
 use Rattle.av_judge.specs.Finds.{Reads, Stand}
-use Rattle.av_judge.specs.Pass.{SparesSame}
 use Rattle.av_judge.specs.Verdict.{IsVerdict}
 use Rattle.av_judge.proofs.Finds.{Told, stand-one}
 use Rattle.av_judge.proofs.NoteLaws.{off-none, off-some}
@@ -117,38 +116,12 @@ complete-ok m w l n = record {
   told = completes-told l (take n l.flight);
 }
 
--- what becomes of frames, by what is spared of them
-outcome-as : (m : Setting) (a b : Spared) (l : Ledger) (f : ℕ) (ns : List Note) → a.locked f ≡ b.locked f → a.closing ≡ b.closing
-    → Outcome m a l f ns → Outcome m b l f ns
-outcome-as m a b l f ns locked closing h =
-    subst (λ (held : Bool). Outcome m (record { pinned = None; locked = λ g. held; closing = b.closing }) l f ns) locked
-    (subst (λ (k : Option ℕ). Outcome m (record { pinned = None; locked = λ g. a.locked f; closing = k }) l f ns) closing h)
-
-outcomes-as : (m : Setting) (a b : Spared) (l : Ledger) (fs : List ℕ) (ns : List Note) → SparesSame fs a b → Outcomes m a l fs ns
-    → Outcomes m b l fs ns
-outcomes-as m a b l [] ns same h = h
-outcomes-as m a b l (f ∷ fs) ns same h = (
-  h.0,
-  h.1,
-  h.2,
-  outcome-as m a b l f h.0 (same.locked f (ap (λ x. x || is_in f fs) (eq-eqb f f refl))) same.closing h.3,
-  outcomes-as m a b (after_notes l h.0) fs h.1
-      (record { locked = λ g e. same.locked g (or-second (g == f) (is_in g fs) e); closing = same.closing }) h.4,
-)
-  where
-    or-second : (x y : Bool) → y ≡ true → (x || y) ≡ true
-    or-second true y e = refl
-    or-second false y e = e
-
-turned-same : (fs : List ℕ) (a b : Spared) → SparesSame fs a b → SparesSame fs b a
-turned-same fs a b same = record { locked = λ f e. sym (same.locked f e); closing = sym same.closing }
-
-pub reclaim-ok : (m : Setting) (w : World) (l : Ledger) (n : ℕ) (sp : Spared) → SparesSame (from_tail n l.inactive) sp (sparing w l None)
+pub reclaim-ok : (m : Setting) (w : World) (l : Ledger) (n : ℕ) (sp : Spared) → sp ≡ sparing w l None
     → AnswersOk m w l (Reclaim n) (Outcomes m sp l (from_tail n l.inactive))
 reclaim-ok m w l n sp same = record {
   no_test = refl;
-  does = λ es answer rows h. (h.0, outcomes-as m (sparing w l None) sp l fs h.0 (turned-same fs sp (sparing w l None) same) h.1, h.2, h.3, h.4);
-  is_done = λ notes h. (notes, outcomes-as m sp (sparing w l None) l fs notes same h, refl, refl, refl);
+  does = λ es answer rows h. (h.0, subst (λ s. Outcomes m s l fs h.0) (sym same) h.1, h.2, h.3, h.4);
+  is_done = λ notes h. (notes, subst (λ s. Outcomes m s l fs notes) same h, refl, refl, refl);
   told = outcomes-told m sp l fs;
 }
   where

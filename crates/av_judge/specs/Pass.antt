@@ -1,16 +1,15 @@
 -- What a frame's turn may be, part by part.
-use Rattle.std.specs.Prelude.{◌≡◌, ℕ, ◌<◌, Bool, true, false, not, List, [], ◌∷◌, ◌++◌}
+use Rattle.std.specs.Prelude.{◌≡◌, ℕ, ◌<◌, Bool, true, false, not, ◌&&◌, List, [], ◌∷◌, ◌++◌}
 use Rattle.std.specs.Prelude.{IsTrue}
 use Rattle.std.specs.Prelude.{is_none, if◌then◌else◌, take}
-use Rattle.av_base.specs.Words.{is_in}
 use Rattle.av_base.specs.declared.slot.Slot.{Slot}
 use Rattle.av_trace.specs.declared.note.Note.{Note}
 use Rattle.av_trace.specs.declared.note.Note.TheVariants.{Dropped, Kept, Put, Started}
 use Rattle.av_trace.specs.declared.note.Cause.TheVariants.{WriteStarted}
 use Rattle.av_plain.specs.Event.{when}
 use Rattle.av_plain.specs.Ledger.{Ledger, Setting, is_free, may_give, slot_of}
-use Rattle.av_plain.specs.Pass.{IsSlotFor, Spared as PlainSpared, end_note, is_dirty}
-use Rattle.av_plain.specs.Pass.{unmap_notes}
+use Rattle.av_plain.specs.Pass.{IsSlotFor, Spared as PlainSpared, end_note, has_turn, is_dirty}
+use Rattle.av_plain.specs.Pass.{is_stuck, unmap_notes}
 use Rattle.av_plain.specs.Reclaim.{leave_notes}
 use Rattle.av_judge.specs.declared.notes.Taking.{Taking}
 use Rattle.av_judge.specs.Notes.{note_by}
@@ -49,16 +48,15 @@ abbrev pub IsTurn : Setting → PlainSpared → Ledger → ℕ → Bool → List
 IsTurn m spared l f stays notes = (s : Slot) × (ended : List Note) × IsSlotFor m spared l f s
     × IsTurnEnd s (is_dirty l f s) stays ended × (notes ≡ unmap_notes l f s ++ ended)
 
+-- whether a frame has a turn in which it can go
+abbrev pub can_go : Setting → PlainSpared → Ledger → ℕ → Bool
+can_go m spared l f = not (is_stuck m spared l f) && has_turn spared l f
+
 -- these are the first frames of all
 abbrev pub AreFirst : List ℕ → List ℕ → Type 0
 AreFirst frames all = (n : ℕ) × (frames ≡ take n all)
 
 -- ---- reclaim
-
--- both spare the same of these frames, and close the same area: a reclaim of them asks no more
-pub record SparesSame (frames : List ℕ) (a b : PlainSpared) : Type 0 where
-  pub locked : (f : ℕ) → is_in f frames ≡ true → a.locked f ≡ b.locked f
-  pub closing : a.closing ≡ b.closing
 
 -- what ends a frame's way to its slot: a write begins where it is dirty, else the slot is dropped
 abbrev pub behind_of : ℕ → Slot → Bool → List Note

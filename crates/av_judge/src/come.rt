@@ -27,7 +27,7 @@ pub fn swaps_in(
     book: &mut Book,
     unit: &mut Unit<'_>,
     machine: &Machine,
-    spared: &Spared,
+    spared: &Spared<'_>,
     slot: Slot,
     process: u16,
     page: u64,
@@ -35,11 +35,10 @@ pub fn swaps_in(
     requires some { 0 < machine.now.frames }
     requires fits { AreNamed (setting_of machine.now) }
     requires page { page < 2 ^ 52 }
-    ensures { IfOk result (λ value. Meets (ComesFrom (setting_of machine.now)
-        (spared_of spared.now) (ledger_of book.old) (process, page) slot)
-        (IsKeptOut (setting_of machine.now) (spared_of spared.now) (ledger_of book.old))
-        (ledger_of book.old) unit.old.rest.now (came_of value) (ledger_of book.new)
-        unit.new.rest.now) }
+    ensures { let l = ledger_of book.old in IfOk result (λ value. Meets
+        (ComesFrom (setting_of machine.now) (spared_of spared.now l) l (process, page) slot)
+        (IsKeptOut (setting_of machine.now) (spared_of spared.now l) l) l unit.old.rest.now
+        (came_of value) (ledger_of book.new) unit.new.rest.now) }
 {
     match fetches(book, unit, machine, spared, slot)? {
         None => Ok(None),

@@ -1,16 +1,13 @@
 //! Units for commands that answer `ok` and tell the rest by notes.
 
-ghost use Rattle.std.specs.Prelude.{◌≡◌, IfOk, None, reverse, take};
+ghost use Rattle.std.specs.Prelude.{◌≡◌, IfOk, reverse, take};
 ghost use Rattle.av_trace.specs.declared.command.Command.TheVariants as commands;
 ghost use Rattle.av_plain.specs.Ledger.{Setting};
 ghost use Rattle.av_plain.specs.World.{World};
-ghost use Rattle.av_plain.specs.Fault.{sparing};
-ghost use Rattle.av_book.specs.Spared.{spared_of};
 ghost use Rattle.av_book.specs.Book.{ledger_of};
 ghost use Rattle.av_book.specs.Machine.{AreNamed, setting_of};
-ghost use Rattle.av_plain.specs.Reclaim.{from_tail};
-ghost use Rattle.av_judge.specs.Pass.{SparesSame};
 ghost use Rattle.av_judge.specs.Verdict.{IsVerdict};
+ghost use Rattle.av_world.specs.Memories.{IsWorld};
 
 use crate::flight::completes;
 use crate::reclaim::{ages, outcomes};
@@ -19,6 +16,7 @@ use av_base::Slot;
 use av_book::{Book, Machine, Spared};
 use av_queue::Queue;
 use av_text::word::after;
+use av_world::Memories;
 use std::alloc::{AllocError, Global};
 
 /// The first slots of some, n at most.
@@ -29,7 +27,7 @@ fn first(alloc: Global, slots: &Queue<Slot>, n: u16) -> Result<Vec<Slot>, AllocE
 }
 
 /// The last frames of some, n at most, from the end.
-pub fn last(alloc: Global, frames: &Queue<u32>, n: u16) -> Result<Vec<u32>, AllocError>
+fn last(alloc: Global, frames: &Queue<u32>, n: u16) -> Result<Vec<u32>, AllocError>
     ensures { IfOk result (λ made. made.items ≡ take n (reverse frames.now)) }
 {
     let mut made = Vec::new(alloc);
@@ -84,20 +82,18 @@ pub fn judges_age(book: &mut Book, alloc: Global, n: u16, text: &[u8]) -> Result
     }
 }
 
-/// Whether a unit is legal for `reclaim`, where frames of locked pages are spared. Of these only
-/// the last n frames of inactive are asked for.
+/// Whether a unit is legal for `reclaim`, where frames of pages that the processes have locked are
+/// spared. That is asked of the frames that are reclaimed alone.
 pub fn judges_reclaim(
     book: &mut Book,
     machine: &Machine,
-    spared: &Spared,
+    memories: &Memories,
     alloc: Global,
     n: u16,
     text: &[u8],
 ) -> Result<bool, AllocError>
     requires { AreNamed (setting_of machine.now) }
-    ensures { IfOk result (λ legal. (w : World)
-        → SparesSame (from_tail n (ledger_of book.old).inactive) (spared_of spared.now)
-        (sparing w (ledger_of book.old) None)
+    ensures { IfOk result (λ legal. (w : World) → IsWorld memories.now w
         → IsVerdict (setting_of machine.now) w (ledger_of book.old) (commands.Reclaim n) text.now
         legal (ledger_of book.new)) }
 {
@@ -106,7 +102,12 @@ pub fn judges_reclaim(
         None => Ok(false),
         Some(rest) => {
             let mut unit = Unit { alloc, rest };
-            if !outcomes(book, &mut unit, machine, spared, frames.as_slice())? {
+            let spared = Spared {
+                pinned: None,
+                memories,
+                closing: None,
+            };
+            if !outcomes(book, &mut unit, machine, &spared, frames.as_slice())? {
                 return Ok(false);
             }
             Ok(unit.rest.is_empty())

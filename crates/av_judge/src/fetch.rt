@@ -55,16 +55,15 @@ pub fn fetches(
     book: &mut Book,
     unit: &mut Unit<'_>,
     machine: &Machine,
-    spared: &Spared,
+    spared: &Spared<'_>,
     slot: Slot,
 ) -> Result<Option<Fetch>, AllocError>
     requires some { 0 < machine.now.frames }
     requires fits { AreNamed (setting_of machine.now) }
-    ensures { IfOk result (λ value. Meets
-        (AreFetched (setting_of machine.now) (spared_of spared.now)
-        (ledger_of book.old) slot) (IsUnfetched (setting_of machine.now) (spared_of spared.now)
-        (ledger_of book.old)) (ledger_of book.old) unit.old.rest.now (fetched_of value)
-        (ledger_of book.new) unit.new.rest.now) }
+    ensures { let l = ledger_of book.old in IfOk result (λ value. Meets
+        (AreFetched (setting_of machine.now) (spared_of spared.now l) l slot)
+        (IsUnfetched (setting_of machine.now) (spared_of spared.now l) l) l unit.old.rest.now
+        (fetched_of value) (ledger_of book.new) unit.new.rest.now) }
 {
     if !seeks(book, unit, machine, spared)? {
         return Ok(None);

@@ -11,6 +11,11 @@
 //! choice: their reply is made and compared. Nothing asks that the ledger is sound. After want of
 //! memory a book may have followed a part of a note.
 //!
+//! Whether a frame is of a locked page is asked of the memories when it is come to: no step of a
+//! pass or a reclaim changes that. So a locked page costs nothing where no pass comes to its frame,
+//! and where no frame can go at all none is looked at. These costs are read off the code, and no
+//! clause says them.
+//!
 //! Units of other commands are not judged here.
 //!
 //! Only tested: nothing.
@@ -30,7 +35,7 @@ mod unit;
 mod zaps;
 
 pub use come::{Come, swaps_in};
-pub use commands::{judges_age, judges_complete, judges_reclaim, last};
+pub use commands::{judges_age, judges_complete, judges_reclaim};
 pub use fetch::{Fetch, fetches};
 pub use flight::completes;
 pub use notes::{Taking, cut};

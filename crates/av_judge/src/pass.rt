@@ -7,8 +7,8 @@ ghost use Rattle.av_book.specs.Book.{ledger_of};
 ghost use Rattle.av_judge.specs.Finds.{Gets, Reads};
 ghost use Rattle.av_book.specs.Machine.{AreNamed, setting_of};
 ghost use Rattle.av_judge.specs.Pass.{AreCleaned, AreFirst, AreWriteNotes, GoesTo, IsPut};
-ghost use Rattle.av_book.specs.Spared.{spared_of};
-ghost use Rattle.av_judge.specs.Pass.{IsTurn, IsTurnEnd, Unmaps};
+ghost use Rattle.av_book.specs.Spared.{frames_by_turn, spared_of};
+ghost use Rattle.av_judge.specs.Pass.{IsTurn, IsTurnEnd, Unmaps, can_go as can_go_in};
 
 use crate::flight::ending;
 use crate::notes::{fits, take_slot};
@@ -23,12 +23,12 @@ fn puts(
     book: &mut Book,
     unit: &mut Unit<'_>,
     machine: &Machine,
-    spared: &Spared,
+    spared: &Spared<'_>,
     frame: u32,
 ) -> Result<Option<Slot>, AllocError>
     requires fits { AreNamed (setting_of machine.now) }
-    ensures { IfOk result (λ value. Gets (IsPut (setting_of machine.now) (spared_of spared.now)
-        (ledger_of book.old) frame) (ledger_of book.old) unit.old.rest.now value
+    ensures { let l = ledger_of book.old in IfOk result (λ value. Gets
+        (IsPut (setting_of machine.now) (spared_of spared.now l) l frame) l unit.old.rest.now value
         (ledger_of book.new) unit.new.rest.now) }
 {
     match take_slot(unit.alloc, unit.rest, frame)? {
@@ -50,12 +50,12 @@ fn goes_to(
     book: &mut Book,
     unit: &mut Unit<'_>,
     machine: &Machine,
-    spared: &Spared,
+    spared: &Spared<'_>,
     frame: u32,
 ) -> Result<Option<(Slot, bool)>, AllocError>
     requires fits { AreNamed (setting_of machine.now) }
-    ensures { IfOk result (λ value. Gets (GoesTo (setting_of machine.now) (spared_of spared.now)
-        (ledger_of book.old) frame) (ledger_of book.old) unit.old.rest.now value
+    ensures { let l = ledger_of book.old in IfOk result (λ value. Gets
+        (GoesTo (setting_of machine.now) (spared_of spared.now l) l frame) l unit.old.rest.now value
         (ledger_of book.new) unit.new.rest.now) }
 {
     match book.slot_of(frame) {
@@ -72,12 +72,12 @@ pub fn unmaps(
     book: &mut Book,
     unit: &mut Unit<'_>,
     machine: &Machine,
-    spared: &Spared,
+    spared: &Spared<'_>,
     frame: u32,
 ) -> Result<Option<(Slot, bool)>, AllocError>
     requires fits { AreNamed (setting_of machine.now) }
-    ensures { IfOk result (λ value. Gets (Unmaps (setting_of machine.now) (spared_of spared.now)
-        (ledger_of book.old) frame) (ledger_of book.old) unit.old.rest.now value
+    ensures { let l = ledger_of book.old in IfOk result (λ value. Gets
+        (Unmaps (setting_of machine.now) (spared_of spared.now l) l frame) l unit.old.rest.now value
         (ledger_of book.new) unit.new.rest.now) }
 {
     match goes_to(book, unit, machine, spared, frame)? {
@@ -124,12 +124,12 @@ fn turn(
     book: &mut Book,
     unit: &mut Unit<'_>,
     machine: &Machine,
-    spared: &Spared,
+    spared: &Spared<'_>,
     frame: u32,
 ) -> Result<Option<bool>, AllocError>
     requires fits { AreNamed (setting_of machine.now) }
-    ensures { IfOk result (λ value. Gets (IsTurn (setting_of machine.now) (spared_of spared.now)
-        (ledger_of book.old) frame) (ledger_of book.old) unit.old.rest.now value
+    ensures { let l = ledger_of book.old in IfOk result (λ value. Gets
+        (IsTurn (setting_of machine.now) (spared_of spared.now l) l frame) l unit.old.rest.now value
         (ledger_of book.new) unit.new.rest.now) }
 {
     match unmaps(book, unit, machine, spared, frame)? {
@@ -159,48 +159,64 @@ fn frees(
     }
 }
 
-/// The frame whose turn comes when `past` frames had theirs. Some of the first in turn are listed;
-/// where it isn't among these, some four times as many as had their turns are.
+/// The frame that is next in the order of turns when `past` were looked at. Some of the first are
+/// listed; where it isn't among these, some four times as many as were looked at are.
 fn next_in_turn(
     alloc: Global,
     book: &Book,
-    spared: &Spared,
     listed: &mut Vec<u32>,
     past: usize,
 ) -> Result<Option<u32>, AllocError>
-    requires listed { AreFirst listed.old.items
-        (frames_in_turn (spared_of spared.now) (ledger_of book.now)) }
+    requires listed { AreFirst listed.old.items (frames_by_turn (ledger_of book.now)) }
     requires fits { past < 2 ^ 63 }
     ensures value { IfOk result (λ frame. frame
-        ≡ slice_get (frames_in_turn (spared_of spared.now) (ledger_of book.now)) past) }
-    ensures listed { OnOk result (AreFirst listed.new.items
-        (frames_in_turn (spared_of spared.now) (ledger_of book.now))) }
+        ≡ slice_get (frames_by_turn (ledger_of book.now)) past) }
+    ensures listed { OnOk result
+        (AreFirst listed.new.items (frames_by_turn (ledger_of book.now))) }
     ensures fits { IfOk result (λ frame. IsSome frame → past + 1 < 2 ^ 63) }
 {
     if listed.len() <= past {
         let n = past.saturating_mul(4).saturating_add(4);
-        *listed = book.in_turn(alloc, spared, n)?;
+        *listed = book.in_turn(alloc, n)?;
     }
     Ok(listed.get(past).copied())
 }
 
-/// The frames in turn, up to the first that becomes free.
-pub fn turns(
+/// Whether a frame has a turn in which it can go. The last is asked first: it costs less.
+fn can_go(
+    book: &Book,
+    machine: &Machine,
+    spared: &Spared<'_>,
+    frame: u32,
+) -> Result<bool, AllocError>
+    ensures { let l = ledger_of book.now in IfOk result (λ goes. goes
+        ≡ can_go_in (setting_of machine.now) (spared_of spared.now l) l frame) }
+{
+    if book.is_stuck(machine, spared, frame) {
+        return Ok(false);
+    }
+    book.has_turn(spared, frame)
+}
+
+/// The frames in turn, up to the first that becomes free. Whether a frame has a turn is asked when
+/// it is come to.
+fn takes_turns(
     book: &mut Book,
     unit: &mut Unit<'_>,
     machine: &Machine,
-    spared: &Spared,
+    spared: &Spared<'_>,
 ) -> Result<bool, AllocError>
     requires fits { AreNamed (setting_of machine.now) }
-    ensures { IfOk result (λ read. Reads (Turns (setting_of machine.now) (spared_of spared.now)
-        (ledger_of book.old) (frames_in_turn (spared_of spared.now) (ledger_of book.old)))
-        (ledger_of book.old) unit.old.rest.now read (ledger_of book.new) unit.new.rest.now) }
+    ensures { let l = ledger_of book.old in IfOk result (λ read. Reads
+        (Turns (setting_of machine.now) (spared_of spared.now l) l
+        (frames_in_turn (spared_of spared.now l) l)) l unit.old.rest.now read
+        (ledger_of book.new) unit.new.rest.now) }
 {
     let mut listed = Vec::new(unit.alloc);
     let mut past = 0;
-    while let Some(frame) = next_in_turn(unit.alloc, book, spared, &mut listed, past)? {
+    while let Some(frame) = next_in_turn(unit.alloc, book, &mut listed, past)? {
         past += 1;
-        if !book.is_stuck(machine, spared, frame) {
+        if can_go(book, machine, spared, frame)? {
             match turn(book, unit, machine, spared, frame)? {
                 None => return Ok(false),
                 Some(false) => return Ok(true),
@@ -209,4 +225,23 @@ pub fn turns(
         }
     }
     Ok(true)
+}
+
+/// The frames in turn, up to the first that becomes free. Where none can go, none is looked at.
+pub fn turns(
+    book: &mut Book,
+    unit: &mut Unit<'_>,
+    machine: &Machine,
+    spared: &Spared<'_>,
+) -> Result<bool, AllocError>
+    requires fits { AreNamed (setting_of machine.now) }
+    ensures { let l = ledger_of book.old in IfOk result (λ read. Reads
+        (Turns (setting_of machine.now) (spared_of spared.now l) l
+        (frames_in_turn (spared_of spared.now l) l)) l unit.old.rest.now read
+        (ledger_of book.new) unit.new.rest.now) }
+{
+    if !book.any_can_go(machine, spared.closing) {
+        return Ok(true);
+    }
+    takes_turns(book, unit, machine, spared)
 }

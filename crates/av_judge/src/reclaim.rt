@@ -42,12 +42,12 @@ fn leaves(
     book: &mut Book,
     unit: &mut Unit<'_>,
     machine: &Machine,
-    spared: &Spared,
+    spared: &Spared<'_>,
     frame: u32,
 ) -> Result<bool, AllocError>
     requires fits { AreNamed (setting_of machine.now) }
-    ensures { IfOk result (λ read. Reads (Leaves (setting_of machine.now) (spared_of spared.now)
-        (ledger_of book.old) frame) (ledger_of book.old) unit.old.rest.now read
+    ensures { let l = ledger_of book.old in IfOk result (λ read. Reads
+        (Leaves (setting_of machine.now) (spared_of spared.now l) l frame) l unit.old.rest.now read
         (ledger_of book.new) unit.new.rest.now) }
 {
     match unmaps(book, unit, machine, spared, frame)? {
@@ -61,15 +61,15 @@ fn outcome(
     book: &mut Book,
     unit: &mut Unit<'_>,
     machine: &Machine,
-    spared: &Spared,
+    spared: &Spared<'_>,
     frame: u32,
 ) -> Result<bool, AllocError>
     requires fits { AreNamed (setting_of machine.now) }
-    ensures { IfOk result (λ read. Reads (Outcome (setting_of machine.now) (spared_of spared.now)
-        (ledger_of book.old) frame) (ledger_of book.old) unit.old.rest.now read
+    ensures { let l = ledger_of book.old in IfOk result (λ read. Reads
+        (Outcome (setting_of machine.now) (spared_of spared.now l) l frame) l unit.old.rest.now read
         (ledger_of book.new) unit.new.rest.now) }
 {
-    match book.cause(machine, spared, frame) {
+    match book.cause(machine, spared, frame)? {
         None => leaves(book, unit, machine, spared, frame),
         Some(cause) => reads(book, unit, Note::Kept { frame, cause }),
     }
@@ -80,13 +80,13 @@ pub fn outcomes(
     book: &mut Book,
     unit: &mut Unit<'_>,
     machine: &Machine,
-    spared: &Spared,
+    spared: &Spared<'_>,
     frames: &[u32],
 ) -> Result<bool, AllocError>
     requires fits { AreNamed (setting_of machine.now) }
-    ensures { IfOk result (λ read. Reads (Outcomes (setting_of machine.now) (spared_of spared.now)
-        (ledger_of book.old) frames.now) (ledger_of book.old) unit.old.rest.now read
-        (ledger_of book.new) unit.new.rest.now) }
+    ensures { let l = ledger_of book.old in IfOk result (λ read. Reads
+        (Outcomes (setting_of machine.now) (spared_of spared.now l) l frames.now) l
+        unit.old.rest.now read (ledger_of book.new) unit.new.rest.now) }
 {
     let mut rest = frames;
     while let [first, others @ ..] = rest {

@@ -20,12 +20,12 @@ fn passes(
     book: &mut Book,
     unit: &mut Unit<'_>,
     machine: &Machine,
-    spared: &Spared,
+    spared: &Spared<'_>,
 ) -> Result<bool, AllocError>
     requires fits { AreNamed (setting_of machine.now) }
-    ensures { IfOk result (λ read. Reads (IsPass (setting_of machine.now) (spared_of spared.now)
-        (ledger_of book.old)) (ledger_of book.old) unit.old.rest.now read (ledger_of book.new)
-        unit.new.rest.now) }
+    ensures { let l = ledger_of book.old in IfOk result (λ read. Reads
+        (IsPass (setting_of machine.now) (spared_of spared.now l) l) l unit.old.rest.now read
+        (ledger_of book.new) unit.new.rest.now) }
 {
     let slots = book.slots_in_flight(unit.alloc)?;
     if !completes(book, unit, slots.as_slice())? {
@@ -42,12 +42,12 @@ pub fn seeks(
     book: &mut Book,
     unit: &mut Unit<'_>,
     machine: &Machine,
-    spared: &Spared,
+    spared: &Spared<'_>,
 ) -> Result<bool, AllocError>
     requires fits { AreNamed (setting_of machine.now) }
-    ensures { IfOk result (λ read. Reads (Seeks (setting_of machine.now) (spared_of spared.now)
-        (ledger_of book.old)) (ledger_of book.old) unit.old.rest.now read (ledger_of book.new)
-        unit.new.rest.now) }
+    ensures { let l = ledger_of book.old in IfOk result (λ read. Reads
+        (Seeks (setting_of machine.now) (spared_of spared.now l) l) l unit.old.rest.now read
+        (ledger_of book.new) unit.new.rest.now) }
 {
     if book.has_free(machine) {
         return Ok(true);

@@ -2,7 +2,6 @@
 
 ghost use Rattle.std.specs.Prelude.{◌≡◌, ◌<◌, IfOk, IfSome, map, true};
 ghost use Rattle.av_base.specs.Limits.{top_page};
-ghost use Rattle.av_plain.specs.Fault.{is_locked as is_locked_in};
 ghost use Rattle.av_plain.specs.Merge.{candidate as candidate_in, may_merge as may_merge_by};
 ghost use Rattle.av_plain.specs.World.{World, pages};
 ghost use Rattle.av_book.specs.Book.{ledger_of};
@@ -40,22 +39,6 @@ fn may_merge(memories: &Memories, key: (u16, u64)) -> bool
     }
 }
 
-/// Whether a page is locked whose entry names the frame.
-fn is_locked(book: &Book, memories: &Memories, frame: u32) -> Result<bool, AllocError>
-    ensures { IfOk result (λ locked. (w : World) → IsWorld memories.now w
-        → locked ≡ is_locked_in w (ledger_of book.now) frame) }
-{
-    let keys = book.keys_of_frame(book.alloc, frame)?;
-    let mut rest = keys.as_slice();
-    while let [key, others @ ..] = rest {
-        if memories.locks(key.0, key.1) {
-            return Ok(true);
-        }
-        rest = others;
-    }
-    Ok(false)
-}
-
 /// The frame of a page, if it may join another.
 pub fn candidate(
     book: &Book,
@@ -71,7 +54,7 @@ pub fn candidate(
             if may_merge(memories, key)
                 && !book.is_merged(frame)
                 && book.slot_of(frame).is_none()
-                && !is_locked(book, memories, frame)?
+                && !book.is_locked(memories, frame)?
             {
                 Ok(Some(frame))
             } else {

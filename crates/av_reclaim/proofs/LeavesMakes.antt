@@ -20,7 +20,8 @@ use Rattle.av_swapcache.specs.declared.swap.Finished.{Finished}
 use Rattle.av_evict.specs.declared.system.WriteEnd.{WriteEnd}
 use Rattle.av_evict.specs.Steps.{MayUnmap, notes_of_end, put_notes, referenced_notes}
 use Rattle.av_evict.specs.System.{Always, Knows, Leaves, Makes}
-use Rattle.av_evict.proofs.LockedLaws.{age-locked, drop-locked, end-locked, keep-locked, put-locked, start-locked, unmap-locked}
+use Rattle.av_lock_laws.specs.Locks.{is_locked_at}
+use Rattle.av_lock_laws.proofs.NoteLaws.{has_page-age, has_page-drop, has_page-end, has_page-keep, has_page-put, has_page-start, has_page-unmap}
 use Rattle.av_mem.specs.Mem.{Serves, setting_by, view}
 use Rattle.av_mem.specs.Steps.{KeepsParts}
 use Rattle.av_mem.specs.declared.mem.Mem.{Mem}
@@ -57,36 +58,36 @@ note-left m w l note sorted loads locked = record { loads = by (is_some m.header
 
 pub put-left : (d : Device) (k : Mem) (f : ℕ) (o : Option Slot) → AllLeft d k (put_notes f o)
 put-left d k f None = none-left d k
-put-left d k f (Some s) = λ w r l sorted serves. note-left (setting_by d k) w l (Put f s) sorted refl (put-locked w l f s)
+put-left d k f (Some s) = λ w r l sorted serves. note-left (setting_by d k) w l (Put f s) sorted refl (has_page-put (is_locked_at w) l f s)
 
 -- no page of the frame is locked
 pub unmap-left : (d : Device) (k : Mem) (f : ℕ) → locked_by k f ≡ false → AllLeft d k (Unmapped f ∷ [])
-unmap-left d k f unlocked w r l sorted serves = note-left (setting_by d k) w l (Unmapped f) sorted refl (unmap-locked w l f
+unmap-left d k f unlocked w r l sorted serves = note-left (setting_by d k) w l (Unmapped f) sorted refl (has_page-unmap (is_locked_at w) l f
     (sym (ap (λ (locked : ℕ → Bool). locked f) (locks d (closing_of k) k w r l sorted serves)) ∙ unlocked))
 
 pub start-left : (d : Device) (k : Mem) (s : Slot) → AllLeft d k (Started s ∷ [])
-start-left d k s w r l sorted serves = note-left (setting_by d k) w l (Started s) sorted refl (start-locked w l s)
+start-left d k s w r l sorted serves = note-left (setting_by d k) w l (Started s) sorted refl (has_page-start (is_locked_at w) l s)
 
 pub end-left : (d : Device) (k : Mem) (o : Option WriteEnd) → AllLeft d k (notes_of_end o)
 end-left d k None = none-left d k
 end-left d k (Some end) = by end.failed end.frame end.slot
   where
     by : (failed : Bool) (f : ℕ) (s : Slot) → AllLeft d k (notes_of_end (Some (record { frame = f; slot = s; failed = failed })))
-    by true f s w r l sorted serves = note-left (setting_by d k) w l (Failed s) sorted refl (end-locked w l true s)
-    by false f s w r l sorted serves = note-left (setting_by d k) w l (Written s) sorted refl (end-locked w l false s)
+    by true f s w r l sorted serves = note-left (setting_by d k) w l (Failed s) sorted refl (has_page-end (is_locked_at w) l true s)
+    by false f s w r l sorted serves = note-left (setting_by d k) w l (Written s) sorted refl (has_page-end (is_locked_at w) l false s)
 
 pub drop-left : (d : Device) (k : Mem) (s : Slot) → AllLeft d k (Dropped s ∷ [])
-drop-left d k s w r l sorted serves = note-left (setting_by d k) w l (Dropped s) sorted refl (drop-locked w l s)
+drop-left d k s w r l sorted serves = note-left (setting_by d k) w l (Dropped s) sorted refl (has_page-drop (is_locked_at w) l s)
 
 pub keep-left : (d : Device) (k : Mem) (f : ℕ) (cause : Cause) → AllLeft d k (Kept f cause ∷ [])
-keep-left d k f cause w r l sorted serves = note-left (setting_by d k) w l (Kept f cause) sorted refl (keep-locked w l f cause)
+keep-left d k f cause w r l sorted serves = note-left (setting_by d k) w l (Kept f cause) sorted refl (has_page-keep (is_locked_at w) l f cause)
 
 pub referenced-left : (d : Device) (k : Mem) (f : ℕ) (seen : Bool) → AllLeft d k (referenced_notes f seen)
 referenced-left d k f true = keep-left d k f Referenced
 referenced-left d k f false = none-left d k
 
 pub age-left : (d : Device) (k : Mem) (f : ℕ) → AllLeft d k (Aged f ∷ [])
-age-left d k f w r l sorted serves = note-left (setting_by d k) w l (Aged f) sorted refl (age-locked w l f)
+age-left d k f w r l sorted serves = note-left (setting_by d k) w l (Aged f) sorted refl (has_page-age (is_locked_at w) l f)
 
 -- ---- a step with such notes
 

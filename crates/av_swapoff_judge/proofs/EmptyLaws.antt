@@ -14,10 +14,9 @@ use Rattle.av_judge.specs.Stage.{Meets}
 use Rattle.av_judge.proofs.ComeLaws.{fetched-at}
 use Rattle.av_judge.proofs.Finds.{reads-no-first, reads-then, stand-none}
 use Rattle.av_judge.proofs.ReclaimLaws.{both-notes}
-use Rattle.av_judge.proofs.StageLaws.{InStages, meets-halt, meets-neither, meets-then}
+use Rattle.av_judge.proofs.StageLaws.{InStages, meets-as, meets-halt, meets-neither, meets-then}
 use Rattle.av_audit_laws.proofs.ToldPass.{taken-goes-on}
 use Rattle.av_audit_laws.proofs.ToldSwap.{fetches-told}
-use Rattle.av_access_judge.proofs.FreeLaws.{meets-as}
 use Rattle.av_swapoff_judge.specs.Empty.{Empties, IsStuck}
 use Rattle.av_swapoff_judge.proofs.UserLaws.{maps_notes}
 

@@ -1,24 +1,18 @@
 //! The slots of an area that is turned off are emptied, as notes tell.
 
-ghost use Rattle.std.specs.Prelude.{◌≡◌, ◌<◌, IfOk, None, false, option_map};
-ghost use Rattle.av_plain.specs.Ledger.{frame_at, has_free};
-ghost use Rattle.av_plain.specs.Swapoff.{sparing_area};
+ghost use Rattle.std.specs.Prelude.{◌<◌, IfOk, option_map};
 ghost use Rattle.av_plain.specs.World.{World};
 ghost use Rattle.av_book.specs.Book.{ledger_of};
 ghost use Rattle.av_book.specs.Machine.{AreNamed, setting_of};
-ghost use Rattle.av_book.specs.Spared.{spared_of};
 ghost use Rattle.av_world.specs.Memories.{IsWorld};
 ghost use Rattle.av_swapoff_judge.specs.Close.{AreEmptied, Closes, IsWhole, close_of};
 
 use crate::emptying::{Emptying, empties};
-use av_access_judge::sparing_where_full;
-use av_base::Slot;
 use av_book::{Book, Machine, Spared};
 use av_judge::{Unit, completes};
 use av_trace::OutOf;
 use av_world::Memories;
 use std::alloc::{AllocError, Global};
-use std::collections::BTreeSet;
 
 /// How a swapoff ends: no slot of the area is in use any more; or there is no frame for the next
 /// one, or the device didn't give its page.
@@ -27,33 +21,6 @@ pub enum Close {
     Closed,
     NoRoom(OutOf),
     Unread,
-}
-
-/// What a pass spares before a slot of an area that closes is emptied. Where the slot is cached or
-/// a frame is free no pass comes, and the answer says nothing: so no page is looked at.
-fn sparing_closing(
-    alloc: Global,
-    book: &Book,
-    machine: &Machine,
-    memories: &Memories,
-    area: u8,
-    slot: Slot,
-) -> Result<Spared, AllocError>
-    ensures { IfOk result (λ spared. (w : World) → IsWorld memories.now w
-        → frame_at (ledger_of book.now) slot ≡ None
-        → has_free (setting_of machine.now) (ledger_of book.now) ≡ false
-        → spared_of spared ≡ sparing_area w area (ledger_of book.now)) }
-{
-    if book.frame_at(slot).is_some() {
-        return Ok(Spared {
-            pinned: None,
-            locked: BTreeSet::new(alloc),
-            closing: None,
-        });
-    }
-    let mut spared = sparing_where_full(alloc, book, machine, memories, None)?;
-    spared.closing = Some(area);
-    Ok(spared)
 }
 
 /// The slots of an area in use are emptied, each the least in its turn.
@@ -71,12 +38,16 @@ fn empties_all(
         (ledger_of book.old) unit.old.rest.now (option_map close_of found)
         (ledger_of book.new)) }
 {
+    let spared = Spared {
+        pinned: None,
+        memories,
+        closing: Some(area),
+    };
     while let Some(slot) = book.least_in_use(machine, area) {
-        let spared = sparing_closing(unit.alloc, book, machine, memories, area, slot)?;
         match empties(book, unit, machine, &spared, slot)? {
             None => return Ok(None),
             Some(Emptying::Starved) => {
-                return Ok(Some(Close::NoRoom(book.out_of(machine, &spared))));
+                return Ok(Some(Close::NoRoom(book.out_of(machine, &spared)?)));
             }
             Some(Emptying::Lost) => return Ok(Some(Close::Unread)),
             Some(Emptying::Emptied) => {}

@@ -29,16 +29,15 @@ fn brings(
     book: &mut Book,
     unit: &mut Unit<'_>,
     machine: &Machine,
-    spared: &Spared,
+    spared: &Spared<'_>,
     slot: Slot,
 ) -> Result<Option<Fetch>, AllocError>
     requires some { 0 < machine.now.frames }
     requires fits { AreNamed (setting_of machine.now) }
-    ensures { IfOk result (λ found. Meets
-        (IsFetched (setting_of machine.now) (spared_of spared.now) (ledger_of book.old) slot)
-        (IsStuck (setting_of machine.now) (spared_of spared.now) (ledger_of book.old) slot)
-        (ledger_of book.old) unit.old.rest.now (fetched_of found) (ledger_of book.new)
-        unit.new.rest.now) }
+    ensures { let l = ledger_of book.old in IfOk result (λ found. Meets
+        (IsFetched (setting_of machine.now) (spared_of spared.now l) l slot)
+        (IsStuck (setting_of machine.now) (spared_of spared.now l) l slot) l unit.old.rest.now
+        (fetched_of found) (ledger_of book.new) unit.new.rest.now) }
 {
     match book.frame_at(slot) {
         Some(frame) => Ok(Some(Fetch::Loaded(frame))),
@@ -51,16 +50,15 @@ pub fn empties(
     book: &mut Book,
     unit: &mut Unit<'_>,
     machine: &Machine,
-    spared: &Spared,
+    spared: &Spared<'_>,
     slot: Slot,
 ) -> Result<Option<Emptying>, AllocError>
     requires some { 0 < machine.now.frames }
     requires fits { AreNamed (setting_of machine.now) }
-    ensures { IfOk result (λ found. Meets
-        (Empties (setting_of machine.now) (spared_of spared.now) (ledger_of book.old) slot)
-        (IsStuck (setting_of machine.now) (spared_of spared.now) (ledger_of book.old) slot)
-        (ledger_of book.old) unit.old.rest.now (emptied_of found) (ledger_of book.new)
-        unit.new.rest.now) }
+    ensures { let l = ledger_of book.old in IfOk result (λ found. Meets
+        (Empties (setting_of machine.now) (spared_of spared.now l) l slot)
+        (IsStuck (setting_of machine.now) (spared_of spared.now l) l slot) l unit.old.rest.now
+        (emptied_of found) (ledger_of book.new) unit.new.rest.now) }
 {
     match brings(book, unit, machine, spared, slot)? {
         None => Ok(None),

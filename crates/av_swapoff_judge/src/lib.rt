@@ -7,9 +7,8 @@
 //! not be sound. After want of memory a book may have followed a part of the notes.
 //!
 //! Not judged here: the line of the answer, and that the area is off in the end. What a pass spares
-//! is asked of the memories anew at each slot for which a pass comes, so where it isn't cached and
-//! no frame is free: that costs a look at the ranges of the processes with a locked page, and at
-//! the entries of these pages. The least slot in use and the entries that name it are looked up.
+//! is asked of the memories as the pass goes (`av_judge`), and where there is no frame for a slot,
+//! for its numbers. The least slot in use and the entries that name it are looked up.
 //!
 //! Only tested: nothing.
 #![tactic(auto)]

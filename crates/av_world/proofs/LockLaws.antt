@@ -1,15 +1,15 @@
 -- Which pages are locked, and which processes have one.
-use Rattle.std.proofs.Common.{◌≡◌, inl, inr, ℕ, zero, suc, ◌+◌, ◌<◌, ◌≤◌, Bool, true, false, cond, List, Option, Some, None, refl, sym, ap, subst, ◌∙◌, arith}
+use Rattle.std.proofs.Common.{◌≡◌, ℕ, Bool, true, false, cond, ◌&&◌, List, Option, Some, None, refl, sym, ap, subst, ◌∙◌}
 use Rattle.std.specs.Prelude.{option_and_then}
-use Rattle.std.proofs.lemmas.Bool.{cases_lt}
 use Rattle.std.specs.BTreeMap.{BTreeMap, get, is_at}
 use Rattle.std.specs.BTreeSet.{BTreeSet, contains}
 use Rattle.std.specs.Ordering.{nat_cmp}
-use Rattle.av_base.specs.Limits.{top_page}
-use Rattle.av_plain.specs.World.{Page, Process, World, is_locked_page, pages, pages_to_locked, with_bytes}
+use Rattle.av_base.specs.Keys.{Key}
+use Rattle.av_plain.specs.World.{Page, Process, World, is_locked_page, pages, process, with_bytes}
 use Rattle.av_ranges.specs.Marks.{is_locked}
 use Rattle.av_ranges.specs.Ranges.{marks_at}
 use Rattle.av_ranges.specs.declared.marks.Marks.{Marks}
+use Rattle.av_world.specs.Locks.{IsFirstRun, locks_page, marks_kept}
 use Rattle.av_world.specs.Memories.{AreNoted, IsProcess, IsWorld}
 use Rattle.av_world.specs.Space.{IsPage, IsSpace}
 use Rattle.av_world.specs.declared.memories.Memories.{Memories}
@@ -119,60 +119,51 @@ locks-noted memories w h p page locked =
     by (Some s) None g locked noted = absurd g
     by (Some s) (Some q) g locked noted = noted s refl (lock-is (marks_at s.ranges page) _ (q page) (g.pages page) ∙ locked)
 
+-- ---- what is kept says which pages are locked
+
+-- of a page
+pub locks-is : (memories : Memories) (w : World) → IsWorld memories w → (k : Key) → locks_page memories k ≡ is_locked_page (pages w k.0 k.1)
+unfolding locks_page
+locks-is memories w h k =
+    by (contains nat_cmp memories.locking k.0) (is_locked (marks_kept memories k)) (is_locked_page (pages w k.0 k.1))
+    (said (get nat_cmp memories.spaces k.0) (process w k.0) (spaces-find memories.spaces.entries w k.0 h.spaces))
+    (locks-noted memories w h k.0 k.1)
+  where
+    said : (o : Option Space) (q : Option Process) → IsProcess o q
+        → is_locked (option_and_then (λ (s : Space). marks_at s.ranges k.1) o)
+        ≡ is_locked_page (option_and_then (λ (q : Process). q k.1) q)
+    said None None g = refl
+    said None (Some q) g = absurd g
+    said (Some s) None g = absurd g
+    said (Some s) (Some q) g = lock-is (marks_at s.ranges k.1) _ (q k.1) (g.pages k.1)
+
+    by : (noted kept is : Bool) → kept ≡ is → (is ≡ true → noted ≡ true) → (noted && kept) ≡ is
+    by true kept is e noted = e
+    by false kept true e noted = noted refl
+    by false kept false e noted = refl
+
+-- one that isn't noted has none
+pub unnoted : (memories : Memories) (k : Key) → contains nat_cmp memories.locking k.0 ≡ false → locks_page memories k ≡ false
+unfolding locks_page
+unnoted memories k none = ap (λ b. b && is_locked (marks_kept memories k)) none
+
+-- and of one that is it is asked
+pub noted-locks : (memories : Memories) (k : Key) (o : Option Marks) → contains nat_cmp memories.locking k.0 ≡ true → o ≡ marks_kept memories k
+    → is_locked o ≡ locks_page memories k
+unfolding locks_page
+noted-locks memories k o noted is = ap is_locked is ∙ ap (λ b. b && is_locked (marks_kept memories k)) (sym noted)
+
+-- so one with a locked page is noted
+pub kept-noted : (memories : Memories) (k : Key) → locks_page memories k ≡ true → contains nat_cmp memories.locking k.0 ≡ true
+unfolding locks_page
+kept-noted memories k locked = by (contains nat_cmp memories.locking k.0) (is_locked (marks_kept memories k)) locked
+  where
+    by : (a b : Bool) → (a && b) ≡ true → a ≡ true
+    by true b h = refl
+    by false b h = h
+
 -- ---- the first that is locked
 
--- those that are counted aren't
-pub none-before : (q : Process) (from n page : ℕ) → from ≤ page → page < from + pages_to_locked q from n → is_locked_page (q page) ≡ false
-none-before q from zero page low high = absurd (omega (arith, low, high))
-none-before q from (suc n) page low high =
-    by (is_locked_page (q from)) refl (λ more less. none-before q (from + 1) n page more less) high
-  where
-    same : (a b : ℕ) → a ≤ b → b ≤ a → b ≡ a
-    same a b h g = omega (arith, h, g)
-
-    by : (b : Bool) → is_locked_page (q from) ≡ b
-        → (from + 1 ≤ page → page < from + 1 + pages_to_locked q (from + 1) n → is_locked_page (q page) ≡ false)
-        → page < from + cond b 0 (pages_to_locked q (from + 1) n + 1) → is_locked_page (q page) ≡ false
-    by true e later high = absurd (omega (arith, low, high))
-    by false e later high = elim (cases_lt from page) [
-      | inl more ↦ later (omega (arith, more)) (omega (arith, high))
-      | inr least ↦ ap (λ a. is_locked_page (q a)) (same from page low least) ∙ e
-    ]
-
--- the one behind them is
-pub one-behind : (q : Process) (from n : ℕ) → pages_to_locked q from n < n → is_locked_page (q (from + pages_to_locked q from n)) ≡ true
-one-behind q from zero less = absurd (omega (arith, less))
-one-behind q from (suc n) less = by (is_locked_page (q from)) refl (one-behind q (from + 1) n) less
-  where
-    here : (a : ℕ) → a + 0 ≡ a
-    here a = omega arith
-
-    further : (a x : ℕ) → a + (x + 1) ≡ a + 1 + x
-    further a x = omega arith
-
-    by : (b : Bool) → is_locked_page (q from) ≡ b
-        → (pages_to_locked q (from + 1) n < n → is_locked_page (q (from + 1 + pages_to_locked q (from + 1) n)) ≡ true)
-        → cond b 0 (pages_to_locked q (from + 1) n + 1) < suc n
-        → is_locked_page (q (from + cond b 0 (pages_to_locked q (from + 1) n + 1))) ≡ true
-    by true e later less = ap (λ a. is_locked_page (q a)) (here from) ∙ e
-    by false e later less = ap (λ a. is_locked_page (q a)) (further from (pages_to_locked q (from + 1) n)) ∙ later (omega (arith, less))
-
-module _ (s : Space) (q : Process) (h : IsSpace s q) (from : ℕ) where
-  -- none at the top or above is
-  pub none-above : (page : ℕ) → top_page ≤ page → is_locked_page (q page) ≡ false
-  none-above page high = ap is_locked_page (h.top page high)
-
-  -- none is left
-  pub none-left : (n : ℕ) → from + n ≡ top_page → pages_to_locked q from n ≡ n → (page : ℕ) → from ≤ page → is_locked_page (q page) ≡ false
-  none-left n end all page low = elim (cases_lt page top_page) [
-    | inl under ↦ none-before q from n page low (omega (arith, end, all, under))
-    | inr high ↦ none-above page high
-  ]
-
-  -- all of which the same is said as of the first one are
-  pub run-locked : (n start end : ℕ) → start ≡ from + pages_to_locked q from n → pages_to_locked q from n < n
-      → ((page : ℕ) → start ≤ page → page < end → marks_at s.ranges page ≡ marks_at s.ranges start)
-      → (page : ℕ) → start ≤ page → page < end → is_locked_page (q page) ≡ true
-  run-locked n start end is less same page low high =
-      sym (lock-is (marks_at s.ranges page) _ (q page) (h.pages page)) ∙ ap is_locked (same page low high)
-      ∙ lock-is (marks_at s.ranges start) _ (q start) (h.pages start) ∙ ap (λ a. is_locked_page (q a)) is ∙ one-behind q from n less
+-- a run by another test that says the same
+pub same-run : (t u : ℕ → Bool) (from : ℕ) (run : Option (ℕ × ℕ)) → ((page : ℕ) → t page ≡ u page) → IsFirstRun t from run → IsFirstRun u from run
+same-run t u from run same h = subst (λ (t : ℕ → Bool). IsFirstRun t from run) (λ i page. same page i) h

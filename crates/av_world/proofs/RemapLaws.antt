@@ -1,5 +1,5 @@
 -- What is said of pages, and where their bytes are, where a range grows or shrinks or moves.
-use Rattle.std.proofs.Common.{◌≡◌, ℕ, ◌+◌, ◌-◌, ◌<◌, ◌≤◌, Bool, true, false, cond, ◌&&◌, Option, Some, None, refl, sym, ap, subst, ◌∙◌, arith, nat_le, nat_lt}
+use Rattle.std.proofs.Common.{◌≡◌, ℕ, ◌+◌, ◌-◌, ◌<◌, ◌≤◌, Bool, true, false, cond, Option, Some, None, refl, sym, ap, subst, ◌∙◌, arith, nat_lt}
 use Rattle.std.specs.Prelude.{min, option_and_then, option_map}
 use Rattle.std.specs.Option.{option_or}
 use Rattle.std.specs.Ordering.{nat_cmp}
@@ -14,7 +14,7 @@ use Rattle.av_ranges.specs.Marks.{change_of}
 use Rattle.av_ranges.specs.Ranges.{marks_at}
 use Rattle.av_ranges.specs.declared.marks.Change.TheVariants.{Unmap}
 use Rattle.av_ranges.specs.declared.marks.Marks.{Marks}
-use Rattle.av_world.specs.Remap.{AreMoved, IsBelowTop, marks_after, marks_moved, old_change, origin}
+use Rattle.av_world.specs.Remap.{AreMoved, IsBelowTop, marks_after, marks_moved, old_change}
 use Rattle.av_world.specs.Space.{IsPage, IsSpace, byte_in}
 use Rattle.av_world.specs.declared.space.Space.{Space}
 use Rattle.av_world.proofs.SpaceLaws.{one-wiped, zero-byte}

@@ -31,7 +31,7 @@ fn same_prot(one: Prot, other: Prot) -> bool
 
 impl Kind {
     /// Whether a page of which this is said is of the kind.
-    fn has(self, said: Option<Marks>) -> bool
+    pub fn has(self, said: Option<Marks>) -> bool
         ensures { result ≡ is_kind self said }
     {
         let Some(marks) = said else {

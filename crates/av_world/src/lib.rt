@@ -6,7 +6,8 @@
 //! asked of them is what the definitions say: the bytes from an address on, whether a page may be
 //! accessed, is locked or goes over to a child, how many pages come before a hole or a locked page,
 //! which locked pages come next (`next_locked`), whether pages have one protection, and the
-//! greatest gap.
+//! greatest gap. Which pages are locked is said of what is kept alone, too: so a caller can ask for
+//! it without a word on what the definitions have.
 //!
 //! What is said of pages is kept by ranges (`av_ranges`), and bytes by page. So a call costs some
 //! ways down a tree and what it goes over, whatever else the process has mapped; a move costs what

@@ -8,6 +8,7 @@ ghost use Rattle.av_plain.specs.Mremap.{marks_at};
 ghost use Rattle.av_world.specs.Space.{marks_of};
 ghost use Rattle.av_plain.specs.World.{World, is_locked_page, end_process, lives, pages};
 ghost use Rattle.av_plain.specs.World.{process as process_of, set_process};
+ghost use Rattle.av_world.specs.Locks.{locks_page, marks_kept};
 ghost use Rattle.av_world.specs.Memories.{Ends, IsProcess, IsWorld, pages_after};
 ghost use Rattle.av_world.specs.Space.{IsSpace};
 ghost use Rattle.av_plain.specs.World.{Process as AnyProcess};
@@ -65,7 +66,8 @@ impl Memories {
 
     /// What is said of a page of a process, if it is mapped.
     fn marks(&self, number: u16, page: u64) -> Option<Marks>
-        ensures { (w : World) → IsWorld self.now w
+        ensures kept { result ≡ marks_kept self.now (number, page) }
+        ensures pages { (w : World) → IsWorld self.now w
             → option_map marks_of result ≡ marks_at (pages w number) page }
     {
         match self.spaces.get(&number) {
@@ -91,11 +93,15 @@ impl Memories {
         }
     }
 
-    /// Whether a page of a process is locked.
+    /// Whether a page of a process is locked. Nothing is looked up of one that isn't noted.
     pub fn locks(&self, number: u16, page: u64) -> bool
-        ensures { (w : World) → IsWorld self.now w
+        ensures kept { result ≡ locks_page self.now (number, page) }
+        ensures pages { (w : World) → IsWorld self.now w
             → result ≡ is_locked_page (pages w number page) }
     {
+        if !self.locking.contains(&number) {
+            return false;
+        }
         match self.marks(number, page) {
             None => false,
             Some(marks) => marks.flags.locked,

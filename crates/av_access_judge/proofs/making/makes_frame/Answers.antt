@@ -1,26 +1,49 @@
+use Rattle.std.proofs.Common.{None, Some, inl, inr, refl, ap, ◌∙◌}
 use Rattle.av_plain.specs.Fault.{sparing}
-use Rattle.av_plain.specs.World.{World}
 use Rattle.av_book.specs.Book.{ledger_of}
 use Rattle.av_book.specs.Machine.{setting_of}
 use Rattle.av_book.specs.Spared.{spared_of}
-use Rattle.av_judge.specs.Stage.{Meets}
-use Rattle.av_judge.proofs.Finds.{if-ok}
-use Rattle.av_world.specs.Memories.{IsWorld}
-use Rattle.av_access_judge.specs.Take.{HasNoFrame, MakesFrame, making_of}
-use Rattle.av_access_judge.proofs.FreeLaws.{frame-as}
+use Rattle.av_book.specs.declared.spared.Spared.{Spared}
+use Rattle.av_book.proofs.SparedLaws.{spared-is}
+use Rattle.av_judge.proofs.SparedLaws.{out-behind}
+use Rattle.av_access_judge.specs.Take.{take_of}
+use Rattle.av_access_judge.proofs.TakeLaws.{frame-made, frame-none, frame-starved, take-as}
 use Rattle.av_access_judge.proofs.making.makes_frame.Goals as goal
 
-pub returns : goal.returns
-returns c =
+pub returns-in-None : goal.returns-in-None
+returns-in-None c = λ w at.
     let m = setting_of c.args.machine.now in
     let l = ledger_of c.args.book.now in
-    let l1 = ledger_of c.makes_frame_behind.new.book in
-    let sp = spared_of c.in_ok-spared.spared in
+    let l1 = ledger_of c.takes_behind.new.book in
+    let s : Spared = record { pinned = c.args.pinned; memories = c.args.memories; closing = None } in
     let bytes = c.args.unit.now.rest.now in
-    let rest = c.makes_frame_behind.new.unit.rest.now in
-    if-ok c.makes_frame_behind.result
-    (λ making. Meets (MakesFrame m sp l c.args.taking) (HasNoFrame m sp l) l bytes (making_of making) l1 rest)
-    (λ making. (w : World) → IsWorld c.args.memories.now w → Meets (MakesFrame m (sparing w l c.args.pinned) l c.args.taking)
-    (HasNoFrame m (sparing w l c.args.pinned) l) l bytes (making_of making) l1 rest)
-    (λ making h w at. frame-as m l l1 sp (sparing w l c.args.pinned) (c.in_ok-spared.ensures w at) c.args.taking bytes rest (making_of making) h)
-    c.makes_frame_behind.ensures
+    let rest = c.takes_behind.new.unit.rest.now in
+    frame-none m (sparing w l c.args.pinned) l c.args.taking bytes rest l1 l1 rest
+    (take-as m (spared_of s l) (sparing w l c.args.pinned) l l1 c.args.taking bytes rest _ _ (spared-is s w at l)
+    (ap take_of c.in-None.is) c.in_ok-takes_behind.ensures)
+
+pub returns-in-Some-Taken : goal.returns-in-Some-Taken
+returns-in-Some-Taken c = λ w at.
+    let m = setting_of c.args.machine.now in
+    let l = ledger_of c.args.book.now in
+    let l1 = ledger_of c.takes_behind.new.book in
+    let s : Spared = record { pinned = c.args.pinned; memories = c.args.memories; closing = None } in
+    let bytes = c.args.unit.now.rest.now in
+    let rest = c.takes_behind.new.unit.rest.now in
+    frame-made m (sparing w l c.args.pinned) l c.args.taking bytes rest l1 _
+    (take-as m (spared_of s l) (sparing w l c.args.pinned) l l1 c.args.taking bytes rest _ _ (spared-is s w at l)
+    (ap take_of (c.in-Some-Taken.is ∙ ap Some c.in-Some-Taken.field-0-is)) c.in_ok-takes_behind.ensures)
+
+pub returns-in-Some-Starved : goal.returns-in-Some-Starved
+returns-in-Some-Starved c = λ w at.
+    let m = setting_of c.args.machine.now in
+    let l = ledger_of c.args.book.now in
+    let l1 = ledger_of c.takes_behind.new.book in
+    let s : Spared = record { pinned = c.args.pinned; memories = c.args.memories; closing = None } in
+    let bytes = c.args.unit.now.rest.now in
+    let rest = c.takes_behind.new.unit.rest.now in
+    let starved = take-as m (spared_of s l) (spared_of s l) l l1 c.args.taking bytes rest _ (Some (inr tt)) refl
+    (ap take_of (c.in-Some-Starved.is ∙ ap Some c.in-Some-Starved.field-0-is)) c.in_ok-takes_behind.ensures in
+    frame-starved m (sparing w l c.args.pinned) l c.args.taking bytes rest l1 c.in_ok-out_of.out_of
+    (c.in_ok-out_of.ensures ∙ out-behind m s (sparing w l c.args.pinned) l l1 starved.notes (spared-is s w at l) starved.lawful.0 starved.after)
+    (take-as m (spared_of s l) (sparing w l c.args.pinned) l l1 c.args.taking bytes rest _ _ (spared-is s w at l) refl starved)

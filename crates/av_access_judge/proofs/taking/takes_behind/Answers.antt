@@ -12,14 +12,14 @@ use Rattle.av_access_judge.proofs.taking.takes_behind.Goals as goal
 pub returns-then-not-branch : goal.returns-then-not-branch
 returns-then-not-branch c =
     let l1 = ledger_of c.seeks.new.book in
-    take-unsought (setting_of c.args.machine.now) (spared_of c.args.spared.now) (ledger_of c.args.book.now) l1 l1 c.args.taking
+    take-unsought (setting_of c.args.machine.now) (spared_of c.args.spared.now (ledger_of c.args.book.now)) (ledger_of c.args.book.now) l1 l1 c.args.taking
     c.args.unit.now.rest.now c.seeks.new.unit.rest.now c.seeks.new.unit.rest.now
     (reads-is _ _ _ _ _ c.in_ok-seeks.field-0 false c.if-not-branch.true c.in_ok-seeks.ensures)
 
 pub returns : goal.returns
 returns c =
     let m = setting_of c.args.machine.now in
-    let sp = spared_of c.args.spared.now in
+    let sp = spared_of c.args.spared.now (ledger_of c.args.book.now) in
     let l = ledger_of c.args.book.now in
     let l1 = ledger_of c.seeks.new.book in
     let l2 = ledger_of c.takes_left.new.book in

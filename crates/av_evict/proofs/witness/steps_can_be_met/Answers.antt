@@ -12,7 +12,8 @@ use Rattle.av_plain.specs.Pass.{fails, pages_written}
 use Rattle.av_plain.specs.World.{World}
 use Rattle.av_evict.specs.System.{HasHappened}
 use Rattle.av_evict.specs.Witness.{IsStep, TakesNext, only_view, setting_told}
-use Rattle.av_evict.proofs.LockedLaws.{age-locked, drop-locked, end-locked, keep-locked, put-locked, start-locked, unmap-locked}
+use Rattle.av_lock_laws.specs.Locks.{is_locked_at}
+use Rattle.av_lock_laws.proofs.NoteLaws.{has_page-age, has_page-drop, has_page-end, has_page-keep, has_page-put, has_page-start, has_page-unmap}
 use Rattle.av_evict.proofs.witness.steps_can_be_met.Goals as goal
 
 most : (n a top : ℕ) → min (a + n) top ≤ a + n
@@ -95,14 +96,14 @@ step-world m w l note step = by note step (is_some m.headers)
 
 -- so the same frames are locked
 step-locked : (w : World) (l : Ledger) (note : Note) → IsStep w l note → is_locked w (after_note note l) ≡ is_locked w l
-step-locked w l (Put f s) step = put-locked w l f s
-step-locked w l (Unmapped f) step = unmap-locked w l f step
-step-locked w l (Started s) step = start-locked w l s
-step-locked w l (Written s) step = end-locked w l false s
-step-locked w l (Failed s) step = end-locked w l true s
-step-locked w l (Dropped s) step = drop-locked w l s
-step-locked w l (Kept f cause) step = keep-locked w l f cause
-step-locked w l (Aged f) step = age-locked w l f
+step-locked w l (Put f s) step = has_page-put (is_locked_at w) l f s
+step-locked w l (Unmapped f) step = has_page-unmap (is_locked_at w) l f step
+step-locked w l (Started s) step = has_page-start (is_locked_at w) l s
+step-locked w l (Written s) step = has_page-end (is_locked_at w) l false s
+step-locked w l (Failed s) step = has_page-end (is_locked_at w) l true s
+step-locked w l (Dropped s) step = has_page-drop (is_locked_at w) l s
+step-locked w l (Kept f cause) step = has_page-keep (is_locked_at w) l f cause
+step-locked w l (Aged f) step = has_page-age (is_locked_at w) l f
 step-locked w l (Zeroed _ _) step = absurd step
 step-locked w l (New _ _ _) step = absurd step
 step-locked w l (Copied _ _ _) step = absurd step

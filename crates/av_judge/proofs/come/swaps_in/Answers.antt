@@ -20,7 +20,7 @@ pub returns-in-None : goal.returns-in-None
 returns-in-None c =
     let m = setting_of c.args.machine.now in
     let l = ledger_of c.args.book.now in
-    let sp = spared_of c.args.spared.now in
+    let sp = spared_of c.args.spared.now (ledger_of c.args.book.now) in
     let l1 = ledger_of c.fetches.new.book in
     come-unfetched m sp l l1 l1 (c.args.process, c.args.page) c.args.slot c.args.unit.now.rest.now c.fetches.new.unit.rest.now
     c.fetches.new.unit.rest.now
@@ -31,7 +31,7 @@ pub returns-then-not-branch : goal.returns-then-not-branch
 returns-then-not-branch c =
     let m = setting_of c.args.machine.now in
     let l = ledger_of c.args.book.now in
-    let sp = spared_of c.args.spared.now in
+    let sp = spared_of c.args.spared.now (ledger_of c.args.book.now) in
     let l1 = ledger_of c.fetches.new.book in
     let l2 = ledger_of c.reads.new.book in
     let k : Key = (c.args.process, c.args.page) in
@@ -48,7 +48,7 @@ pub returns-else-not-branch : goal.returns-else-not-branch
 returns-else-not-branch c =
     let m = setting_of c.args.machine.now in
     let l = ledger_of c.args.book.now in
-    let sp = spared_of c.args.spared.now in
+    let sp = spared_of c.args.spared.now (ledger_of c.args.book.now) in
     let l1 = ledger_of c.fetches.new.book in
     let l2 = ledger_of c.reads.new.book in
     let k : Key = (c.args.process, c.args.page) in

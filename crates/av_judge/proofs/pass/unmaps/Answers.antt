@@ -13,7 +13,7 @@ use Rattle.av_judge.proofs.pass.unmaps.Goals as goal
 pub returns-in-None : goal.returns-in-None
 returns-in-None c =
     let m = setting_of c.args.machine.now in
-    let sp = spared_of c.args.spared.now in
+    let sp = spared_of c.args.spared.now (ledger_of c.args.book.now) in
     let l = ledger_of c.args.book.now in
     let f = c.args.frame in
     gets-no-first (Unmaps m sp l f) (GoesTo m sp l f) (IsUnmapped l f) l (ledger_of c.goes_to.new.book) (ledger_of c.goes_to.new.book)
@@ -23,7 +23,7 @@ returns-in-None c =
 pub returns-then-not-branch : goal.returns-then-not-branch
 returns-then-not-branch c =
     let m = setting_of c.args.machine.now in
-    let sp = spared_of c.args.spared.now in
+    let sp = spared_of c.args.spared.now (ledger_of c.args.book.now) in
     let l = ledger_of c.args.book.now in
     let f = c.args.frame in
     let x = c.in-Some.place in
@@ -42,7 +42,7 @@ returns-then-not-branch c =
 pub returns-else-not-branch : goal.returns-else-not-branch
 returns-else-not-branch c =
     let m = setting_of c.args.machine.now in
-    let sp = spared_of c.args.spared.now in
+    let sp = spared_of c.args.spared.now (ledger_of c.args.book.now) in
     let l = ledger_of c.args.book.now in
     let f = c.args.frame in
     let x = c.in-Some.place in

@@ -11,7 +11,7 @@ use Rattle.av_judge.proofs.reclaim.leaves.Goals as goal
 pub returns-in-None : goal.returns-in-None
 returns-in-None c =
     let m = setting_of c.args.machine.now in
-    let sp = spared_of c.args.spared.now in
+    let sp = spared_of c.args.spared.now (ledger_of c.args.book.now) in
     let l = ledger_of c.args.book.now in
     let f = c.args.frame in
     from-no-first (Leaves m sp l f) (Unmaps m sp l f) (λ x a ns. ns ≡ behind_of f x.0 x.1) l (ledger_of c.unmaps.new.book) (ledger_of c.unmaps.new.book)
@@ -21,7 +21,7 @@ returns-in-None c =
 pub returns-in-Some : goal.returns-in-Some
 returns-in-Some c =
     let m = setting_of c.args.machine.now in
-    let sp = spared_of c.args.spared.now in
+    let sp = spared_of c.args.spared.now (ledger_of c.args.book.now) in
     let l = ledger_of c.args.book.now in
     let f = c.args.frame in
     let l1 = ledger_of c.unmaps.new.book in

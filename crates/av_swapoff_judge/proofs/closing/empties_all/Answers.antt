@@ -1,9 +1,11 @@
-use Rattle.std.proofs.Common.{inl, inr, true, false, Option, Some, None, sym, ap, subst, ◌∙◌}
+use Rattle.std.proofs.Common.{inl, inr, true, false, Option, Some, None, refl, sym, ap, subst, ◌∙◌}
 use Rattle.av_plain.specs.Ledger.{slots_in_use}
 use Rattle.av_plain.specs.Swapoff.{Closed, NoRoom, Unread, sparing_area}
 use Rattle.av_book.specs.Book.{ledger_of}
 use Rattle.av_book.specs.Machine.{setting_of}
 use Rattle.av_book.specs.Spared.{spared_of}
+use Rattle.av_book.specs.declared.spared.Spared.{Spared}
+use Rattle.av_book.proofs.SparedLaws.{spared-is}
 use Rattle.av_judge.specs.Stage.{Meets}
 use Rattle.av_judge.proofs.FetchLaws.{some-left}
 use Rattle.av_swapoff_judge.specs.Close.{AreEmptied, IsWhole}
@@ -11,7 +13,7 @@ use Rattle.av_swapoff_judge.specs.Empty.{Empties, IsStuck, emptied_of}
 use Rattle.av_book.specs.Filters.{IsFirst}
 use Rattle.av_swapoff_judge.specs.declared.emptying.Emptying.{Emptying}
 use Rattle.av_swapoff_judge.proofs.CloseLaws.{emptied-halt, emptied-more, emptied-neither, emptied-over, emptied-then, none-left}
-use Rattle.av_swapoff_judge.proofs.SparedLaws.{empties-as, starved-as}
+use Rattle.av_swapoff_judge.proofs.SparedLaws.{empties-as, starved-out}
 use Rattle.av_swapoff_judge.proofs.closing.empties_all.Goals as goal
 
 pub returns-in-None : goal.returns-in-None
@@ -24,11 +26,10 @@ returns-in-None c = λ w at.
     let mid = c.empties.new.unit.rest.now in
     let bytes = c.loop-slot.unit.rest.now in
     let first = c.in-Some.ensures in
+    let sp : Spared = record { pinned = None; memories = c.args.memories; closing = Some k } in
     let met : Meets (Empties m (sparing_area w k l) l s) (IsStuck m (sparing_area w k l) l s) l bytes None l1 mid =
-    subst (λ (o : Option Emptying). Meets (Empties m (sparing_area w k l) l s) (IsStuck m (sparing_area w k l) l s) l bytes (emptied_of o) l1 mid)
-    c.in-None.is
-    (empties-as m l l1 s (spared_of c.in_ok-spared.spared) (sparing_area w k l) (c.in_ok-spared.ensures w at) bytes mid
-    (emptied_of c.in_ok-empties.field-0) c.in_ok-empties.ensures) in
+    empties-as m (spared_of sp l) (sparing_area w k l) l l1 s bytes mid _ _ (spared-is sp w at l)
+    (ap emptied_of c.in-None.is) c.in_ok-empties.ensures in
     c.loop-slot.invariant w at None l1
     (emptied-neither m w k l s.page first.0 first.2 s (λ i. record { area = first.1 i; page = s.page }) bytes mid l1 l1 met)
 
@@ -42,16 +43,14 @@ returns-in-Some-Starved c = λ w at.
     let mid = c.empties.new.unit.rest.now in
     let bytes = c.loop-slot.unit.rest.now in
     let first = c.in-Some.ensures in
+    let sp : Spared = record { pinned = None; memories = c.args.memories; closing = Some k } in
     let met : Meets (Empties m (sparing_area w k l) l s) (IsStuck m (sparing_area w k l) l s) l bytes (Some (inr false)) l1 mid =
-    subst (λ (o : Option Emptying). Meets (Empties m (sparing_area w k l) l s) (IsStuck m (sparing_area w k l) l s) l bytes (emptied_of o) l1 mid)
-    (c.in-Some-Starved.is ∙ ap Some c.in-Some-Starved.field-0-is)
-    (empties-as m l l1 s (spared_of c.in_ok-spared.spared) (sparing_area w k l) (c.in_ok-spared.ensures w at) bytes mid
-    (emptied_of c.in_ok-empties.field-0) c.in_ok-empties.ensures) in
-    let sp = spared_of c.in_ok-spared.spared in
-    let out = c.out_of.ensures ∙ starved-as m l l1 s sp (sparing_area w k l) (c.in_ok-spared.ensures w at) bytes mid
-    (subst (λ (o : Option Emptying). Meets (Empties m sp l s) (IsStuck m sp l s) l bytes (emptied_of o) l1 mid)
-    (c.in-Some-Starved.is ∙ ap Some c.in-Some-Starved.field-0-is) c.in_ok-empties.ensures) in
-    c.loop-slot.invariant w at (Some (NoRoom c.out_of.result)) l1
+    empties-as m (spared_of sp l) (sparing_area w k l) l l1 s bytes mid _ _ (spared-is sp w at l)
+    (ap emptied_of (c.in-Some-Starved.is ∙ ap Some c.in-Some-Starved.field-0-is)) c.in_ok-empties.ensures in
+    let out = c.in_ok-out_of.ensures ∙ starved-out m sp (sparing_area w k l) l l1 s bytes mid (spared-is sp w at l)
+    (empties-as m (spared_of sp l) (spared_of sp l) l l1 s bytes mid _ _ refl
+    (ap emptied_of (c.in-Some-Starved.is ∙ ap Some c.in-Some-Starved.field-0-is)) c.in_ok-empties.ensures) in
+    c.loop-slot.invariant w at (Some (NoRoom c.in_ok-out_of.out_of)) l1
     (subst (λ o. IsWhole (AreEmptied m w k l) l bytes (Some (NoRoom o)) l1) (sym out)
     (emptied-halt m w k l s.page first.0 first.2 s (λ i. record { area = first.1 i; page = s.page }) bytes mid l1 false met))
 
@@ -65,11 +64,10 @@ returns-in-Some-Lost c = λ w at.
     let mid = c.empties.new.unit.rest.now in
     let bytes = c.loop-slot.unit.rest.now in
     let first = c.in-Some.ensures in
+    let sp : Spared = record { pinned = None; memories = c.args.memories; closing = Some k } in
     let met : Meets (Empties m (sparing_area w k l) l s) (IsStuck m (sparing_area w k l) l s) l bytes (Some (inr true)) l1 mid =
-    subst (λ (o : Option Emptying). Meets (Empties m (sparing_area w k l) l s) (IsStuck m (sparing_area w k l) l s) l bytes (emptied_of o) l1 mid)
-    (c.in-Some-Lost.is ∙ ap Some c.in-Some-Lost.field-0-is)
-    (empties-as m l l1 s (spared_of c.in_ok-spared.spared) (sparing_area w k l) (c.in_ok-spared.ensures w at) bytes mid
-    (emptied_of c.in_ok-empties.field-0) c.in_ok-empties.ensures) in
+    empties-as m (spared_of sp l) (sparing_area w k l) l l1 s bytes mid _ _ (spared-is sp w at l)
+    (ap emptied_of (c.in-Some-Lost.is ∙ ap Some c.in-Some-Lost.field-0-is)) c.in_ok-empties.ensures in
     c.loop-slot.invariant w at (Some Unread) l1
     (emptied-halt m w k l s.page first.0 first.2 s (λ i. record { area = first.1 i; page = s.page }) bytes mid l1 true met)
 
@@ -83,11 +81,10 @@ loop-slot-preserved c = λ w at found l' later.
     let mid = c.empties.new.unit.rest.now in
     let bytes = c.loop-slot.unit.rest.now in
     let first = c.in-Some.ensures in
+    let sp : Spared = record { pinned = None; memories = c.args.memories; closing = Some k } in
     let met : Meets (Empties m (sparing_area w k l) l s) (IsStuck m (sparing_area w k l) l s) l bytes (Some (inl tt)) l1 mid =
-    subst (λ (o : Option Emptying). Meets (Empties m (sparing_area w k l) l s) (IsStuck m (sparing_area w k l) l s) l bytes (emptied_of o) l1 mid)
-    (c.in-Some-Emptied.is ∙ ap Some c.in-Some-Emptied.field-0-is)
-    (empties-as m l l1 s (spared_of c.in_ok-spared.spared) (sparing_area w k l) (c.in_ok-spared.ensures w at) bytes mid
-    (emptied_of c.in_ok-empties.field-0) c.in_ok-empties.ensures) in
+    empties-as m (spared_of sp l) (sparing_area w k l) l l1 s bytes mid _ _ (spared-is sp w at l)
+    (ap emptied_of (c.in-Some-Emptied.is ∙ ap Some c.in-Some-Emptied.field-0-is)) c.in_ok-empties.ensures in
     c.loop-slot.invariant w at found l'
     (emptied-then m w k l s.page first.0 first.2 s (λ i. record { area = first.1 i; page = s.page }) bytes mid l1 l' found met later)
 

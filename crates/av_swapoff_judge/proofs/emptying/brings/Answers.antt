@@ -12,13 +12,13 @@ use Rattle.av_swapoff_judge.proofs.emptying.brings.Goals as goal
 
 pub returns-in-Some : goal.returns-in-Some
 returns-in-Some c =
-    brought-here (setting_of c.args.machine.now) (spared_of c.args.spared.now) (ledger_of c.args.book.now) c.args.slot c.in-Some.frame
+    brought-here (setting_of c.args.machine.now) (spared_of c.args.spared.now (ledger_of c.args.book.now)) (ledger_of c.args.book.now) c.args.slot c.in-Some.frame
     c.args.unit.now.rest.now (sym c.in-Some.ensures)
 
 pub returns-in-None : goal.returns-in-None
 returns-in-None c =
     let m = setting_of c.args.machine.now in
-    let sp = spared_of c.args.spared.now in
+    let sp = spared_of c.args.spared.now (ledger_of c.args.book.now) in
     let l = ledger_of c.args.book.now in
     let l1 = ledger_of c.fetches.new.book in
     let bytes = c.args.unit.now.rest.now in

@@ -14,7 +14,7 @@ use Rattle.av_swapoff_judge.proofs.emptying.empties.Goals as goal
 pub returns-in-None : goal.returns-in-None
 returns-in-None c =
     let m = setting_of c.args.machine.now in
-    let sp = spared_of c.args.spared.now in
+    let sp = spared_of c.args.spared.now (ledger_of c.args.book.now) in
     let l = ledger_of c.args.book.now in
     let l1 = ledger_of c.brings.new.book in
     let mid = c.brings.new.unit.rest.now in
@@ -25,7 +25,7 @@ returns-in-None c =
 pub returns-then-not-branch : goal.returns-then-not-branch
 returns-then-not-branch c =
     let m = setting_of c.args.machine.now in
-    let sp = spared_of c.args.spared.now in
+    let sp = spared_of c.args.spared.now (ledger_of c.args.book.now) in
     let l = ledger_of c.args.book.now in
     let l1 = ledger_of c.brings.new.book in
     let l2 = ledger_of c.frees.new.book in
@@ -39,7 +39,7 @@ returns-then-not-branch c =
 pub returns-else-not-branch : goal.returns-else-not-branch
 returns-else-not-branch c =
     let m = setting_of c.args.machine.now in
-    let sp = spared_of c.args.spared.now in
+    let sp = spared_of c.args.spared.now (ledger_of c.args.book.now) in
     let l = ledger_of c.args.book.now in
     let l1 = ledger_of c.brings.new.book in
     let l2 = ledger_of c.frees.new.book in
