@@ -20,7 +20,7 @@ spared-after : (s : Spared) (l l' : Ledger) (notes : List Note) → l' ≡ after
 spared-after s l l' notes after same =
     λ i. record { pinned = s.pinned; locked = (ap (is_locked_by s.memories.now) after ∙ same) i; closing = s.closing }
 
-pub spared-seeks : (m : Setting) (s : Spared) (l l' : Ledger) (notes : List Note) → Seeks m (spared_of s l) l notes → l' ≡ after_notes l notes
+spared-seeks : (m : Setting) (s : Spared) (l l' : Ledger) (notes : List Note) → Seeks m (spared_of s l) l notes → l' ≡ after_notes l notes
     → spared_of s l' ≡ spared_of s l
 spared-seeks m s l l' notes sought after = spared-after s l l' notes after (has_page-seeks (locks_page s.memories.now) m (spared_of s l) l notes refl sought)
 

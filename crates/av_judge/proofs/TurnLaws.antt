@@ -90,7 +90,7 @@ turn-stays m s l l' f bytes rest goes h =
 
 -- ---- a frame by its place
 
-pub get-next : (fs : List ℕ) (i f : ℕ) → slice_get fs i ≡ Some f → drop i fs ≡ f ∷ drop (i + 1) fs
+get-next : (fs : List ℕ) (i f : ℕ) → slice_get fs i ≡ Some f → drop i fs ≡ f ∷ drop (i + 1) fs
 get-next fs i f e = by fs i e ∙ ap (λ n. f ∷ drop n fs) (sym (add-one i))
   where
     by : (fs : List ℕ) (i : ℕ) → slice_get fs i ≡ Some f → drop i fs ≡ f ∷ drop (suc i) fs
@@ -108,7 +108,7 @@ get-less fs fs' i f e same =
     let size = ap length same in
     omega (arith, within, size)
 
-pub get-none : (fs : List ℕ) (i : ℕ) → slice_get fs i ≡ None → drop i fs ≡ []
+get-none : (fs : List ℕ) (i : ℕ) → slice_get fs i ≡ None → drop i fs ≡ []
 get-none [] zero e = refl
 get-none [] (suc i) e = refl
 get-none (g ∷ fs) zero e = cc

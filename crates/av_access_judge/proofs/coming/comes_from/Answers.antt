@@ -50,8 +50,8 @@ returns-in-Some-Lost-clause-comes c = λ w at.
     (come-as m (spared_of s l) (sparing w l None) l l1 k c.args.slot bytes rest _ _ (spared-is s w at l)
     (ap came_of (c.in-Some-Lost.is ∙ ap Some c.in-Some-Lost.field-0-is)) c.in_ok-swaps_in.ensures)
 
-pub returns-in-Some-Starved-clause-comes : goal.returns-in-Some-Starved-clause-comes
-returns-in-Some-Starved-clause-comes c = λ w at.
+pub returns-in_ok-out-in-Some-Starved-clause-comes : goal.returns-in_ok-out-in-Some-Starved-clause-comes
+returns-in_ok-out-in-Some-Starved-clause-comes c = λ w at.
     let m = setting_of c.args.machine.now in
     let l = ledger_of c.args.book.now in
     let l1 = ledger_of c.swaps_in.new.book in
@@ -61,9 +61,9 @@ returns-in-Some-Starved-clause-comes c = λ w at.
     let rest = c.swaps_in.new.unit.rest.now in
     let starved = come-as m (spared_of s l) (spared_of s l) l l1 k c.args.slot bytes rest _ (Some (inr false)) refl
     (ap came_of (c.in-Some-Starved.is ∙ ap Some c.in-Some-Starved.field-0-is)) c.in_ok-swaps_in.ensures in
-    from-starved m (sparing w) l k c.args.slot bytes rest l1 c.in_ok-out.out
-    (c.in_ok-out.ensures ∙ out-behind m s (sparing w l None) l l1 starved.notes (spared-is s w at l) starved.lawful.0 starved.after)
-    (come-as m (spared_of s l) (sparing w l None) l l1 k c.args.slot bytes rest _ _ (spared-is s w at l) refl starved)
+    from-starved m (sparing w) l k c.args.slot bytes rest l1 c.in_ok-out-in-Some-Starved.out
+    (c.in_ok-out-in-Some-Starved.ensures ∙ out-behind m s (sparing w l None) l l1 starved.notes (spared-is s w at l) starved.lawful.0 starved.after)
+    (come-as m (spared_of s l) (sparing w l None) l l1 k c.args.slot bytes rest (Some (inr false)) (Some (inr false)) (spared-is s w at l) refl starved)
 
 pub returns-in-Some-In-clause-here : goal.returns-in-Some-In-clause-here
 returns-in-Some-In-clause-here c = λ write.

@@ -34,8 +34,8 @@ returns-in-Some-Taken c = λ w at.
     (take-as m (spared_of s l) (sparing w l c.args.pinned) l l1 c.args.taking bytes rest _ _ (spared-is s w at l)
     (ap take_of (c.in-Some-Taken.is ∙ ap Some c.in-Some-Taken.field-0-is)) c.in_ok-takes_behind.ensures)
 
-pub returns-in-Some-Starved : goal.returns-in-Some-Starved
-returns-in-Some-Starved c = λ w at.
+pub returns-in_ok-out_of-in-Some-Starved : goal.returns-in_ok-out_of-in-Some-Starved
+returns-in_ok-out_of-in-Some-Starved c = λ w at.
     let m = setting_of c.args.machine.now in
     let l = ledger_of c.args.book.now in
     let l1 = ledger_of c.takes_behind.new.book in
@@ -44,6 +44,6 @@ returns-in-Some-Starved c = λ w at.
     let rest = c.takes_behind.new.unit.rest.now in
     let starved = take-as m (spared_of s l) (spared_of s l) l l1 c.args.taking bytes rest _ (Some (inr tt)) refl
     (ap take_of (c.in-Some-Starved.is ∙ ap Some c.in-Some-Starved.field-0-is)) c.in_ok-takes_behind.ensures in
-    frame-starved m (sparing w l c.args.pinned) l c.args.taking bytes rest l1 c.in_ok-out_of.out_of
-    (c.in_ok-out_of.ensures ∙ out-behind m s (sparing w l c.args.pinned) l l1 starved.notes (spared-is s w at l) starved.lawful.0 starved.after)
-    (take-as m (spared_of s l) (sparing w l c.args.pinned) l l1 c.args.taking bytes rest _ _ (spared-is s w at l) refl starved)
+    frame-starved m (sparing w l c.args.pinned) l c.args.taking bytes rest l1 c.in_ok-out_of-in-Some-Starved.field-0
+    (c.in_ok-out_of-in-Some-Starved.ensures ∙ out-behind m s (sparing w l c.args.pinned) l l1 starved.notes (spared-is s w at l) starved.lawful.0 starved.after)
+    (take-as m (spared_of s l) (sparing w l c.args.pinned) l l1 c.args.taking bytes rest (Some (inr tt)) (Some (inr tt)) (spared-is s w at l) refl starved)

@@ -33,8 +33,8 @@ returns-in-None c = λ w at.
     c.loop-slot.invariant w at None l1
     (emptied-neither m w k l s.page first.0 first.2 s (λ i. record { area = first.1 i; page = s.page }) bytes mid l1 l1 met)
 
-pub returns-in-Some-Starved : goal.returns-in-Some-Starved
-returns-in-Some-Starved c = λ w at.
+pub returns-in_ok-out_of-in-Some-Starved : goal.returns-in_ok-out_of-in-Some-Starved
+returns-in_ok-out_of-in-Some-Starved c = λ w at.
     let m = setting_of c.args.machine.now in
     let l = ledger_of c.loop-slot.book in
     let l1 = ledger_of c.empties.new.book in
@@ -47,10 +47,10 @@ returns-in-Some-Starved c = λ w at.
     let met : Meets (Empties m (sparing_area w k l) l s) (IsStuck m (sparing_area w k l) l s) l bytes (Some (inr false)) l1 mid =
     empties-as m (spared_of sp l) (sparing_area w k l) l l1 s bytes mid _ _ (spared-is sp w at l)
     (ap emptied_of (c.in-Some-Starved.is ∙ ap Some c.in-Some-Starved.field-0-is)) c.in_ok-empties.ensures in
-    let out = c.in_ok-out_of.ensures ∙ starved-out m sp (sparing_area w k l) l l1 s bytes mid (spared-is sp w at l)
+    let out = c.in_ok-out_of-in-Some-Starved.ensures ∙ starved-out m sp (sparing_area w k l) l l1 s bytes mid (spared-is sp w at l)
     (empties-as m (spared_of sp l) (spared_of sp l) l l1 s bytes mid _ _ refl
     (ap emptied_of (c.in-Some-Starved.is ∙ ap Some c.in-Some-Starved.field-0-is)) c.in_ok-empties.ensures) in
-    c.loop-slot.invariant w at (Some (NoRoom c.in_ok-out_of.out_of)) l1
+    c.loop-slot.invariant w at (Some (NoRoom c.in_ok-out_of-in-Some-Starved.field-0)) l1
     (subst (λ o. IsWhole (AreEmptied m w k l) l bytes (Some (NoRoom o)) l1) (sym out)
     (emptied-halt m w k l s.page first.0 first.2 s (λ i. record { area = first.1 i; page = s.page }) bytes mid l1 false met))
 
