@@ -18,7 +18,6 @@ ghost use Rattle.av_audit.specs.Judge.{IsLeft};
 ghost use Rattle.av_machine.specs.Heads.{AreCounted};
 
 use crate::accessing::first_line;
-use av_access_judge::sparing_last;
 use av_book::{Area, Book, Machine};
 use av_events::{turn_off, turn_on};
 use av_judge::{is_answer, judges_reclaim};
@@ -41,8 +40,7 @@ pub fn audits_reclaim(
         → IsLeft (setting_of machine.now) w (ledger_of book.old) (commands.Reclaim frames)
         unit.now legal memories.now book.new) }
 {
-    let spared = sparing_last(alloc, book, memories, frames)?;
-    judges_reclaim(book, machine, &spared, alloc, frames, unit)
+    judges_reclaim(book, machine, memories, alloc, frames, unit)
 }
 
 /// Why a swapon is refused, if it is.

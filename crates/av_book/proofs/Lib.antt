@@ -1,5 +1,9 @@
 pub mod AreaLaws
+pub mod CountLaws
+pub mod LockedLaws
 pub mod MapLaws
+pub mod MergedLaws
+pub mod PinnedLaws
 pub mod RangeLaws
 pub mod RemovalLaws
 pub mod ShortageLaws

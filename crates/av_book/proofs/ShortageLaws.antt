@@ -1,69 +1,58 @@
 -- How many frames are held for each cause.
-use Rattle.std.proofs.Common.{◌≡◌, inl, inr, ℕ, zero, suc, ◌+◌, ◌<◌, ◌≤◌, ◌==◌, Bool, true, false, cond, not, ◌&&◌, ◌||◌, Option, Some, None, is_none, is_some, List, [], ◌∷◌, length, refl, ap, ◌∙◌, arith}
-use Rattle.std.specs.List.{range_with_len}
-use Rattle.std.proofs.lemmas.Bool.{cases_lt}
-use Rattle.std.proofs.lemmas.Bool.Decides.{nat_tests}
+use Rattle.std.proofs.Common.{◌≡◌, ℕ, ◌+◌, ◌==◌, Bool, true, false, cond, not, ◌&&◌, ◌||◌, Option, Some, None}
+use Rattle.std.proofs.Common.{is_none, is_some, List, [], ◌∷◌, length, map, refl, sym, ap, ◌∙◌, arith}
+use Rattle.std.specs.Prelude.{option_map}
+use Rattle.std.specs.BTreeSet.{BTreeSet, contains}
+use Rattle.std.specs.List.{list_any, range_with_len}
+use Rattle.std.specs.Ordering.{nat_cmp}
 use Rattle.std.proofs.lemmas.List.FromFn.{length-range_with_len}
 use Rattle.av_base.specs.Words.{how_many}
 use Rattle.av_base.specs.declared.slot.Slot.{Slot}
-use Rattle.av_plain.specs.Ledger.{Ledger, is_merged, slot_of}
-use Rattle.av_plain.specs.Pass.{Spared, is_pinned}
-use Rattle.av_book.specs.Shortage.{is_held}
-use Rattle.av_book.specs.declared.shortage.Hold.TheVariants.{NoSlot, Fault, Locked, Ksm}
+use Rattle.av_plain.specs.Ledger.{Cached as PlainCached, Ledger, cached_by, is_merged, slot_of}
+use Rattle.av_plain.specs.Pass.{Spared, has_turn, is_pinned, is_spared}
+use Rattle.av_pages.specs.Entries.{cached_of}
+use Rattle.av_pages.specs.declared.entries.Cached.{Cached}
+use Rattle.av_book.proofs.CountLaws.{count-parts, count-same}
 
--- none passes
-pub count-none : {X : Type 0} (p : X → Bool) → ((x : X) → p x ≡ false) → (xs : List X) → how_many p xs ≡ 0
-count-none p none [] = refl
-count-none p none (x ∷ xs) =
-    let rest = count-none p none xs in
-    ap (λ b. cond b 1 0 + how_many p xs) (none x) ∙ ap (λ n. 0 + n) rest
+-- ---- the causes
 
--- ---- the frame that is pinned
+abbrev pub locked_alone : Spared → ℕ → Bool
+locked_alone sp f = not (is_pinned sp.pinned f) && sp.locked f
 
-same-test : (p a : ℕ) → p ≤ a → a ≤ p → (p == a) ≡ true
-same-test p a low high = grind (arith, nat_tests)
+abbrev pub merged_alone : Spared → Ledger → ℕ → Bool
+merged_alone sp l f = not (is_spared sp f) && is_merged l f
 
-below-test : (p a : ℕ) → p < a → (p == a) ≡ false
-below-test p a less = grind (arith, nat_tests)
+abbrev pub cached_alone : Spared → Ledger → ℕ → Bool
+cached_alone sp l f = has_turn sp l f && is_some (slot_of l f)
 
-above-test : (p a : ℕ) → a < p → (p == a) ≡ false
-above-test p a less = grind (arith, nat_tests)
+abbrev pub slotless_alone : Spared → Ledger → ℕ → Bool
+slotless_alone sp l f = has_turn sp l f && is_none (slot_of l f)
 
-count-past : (p a n : ℕ) → p < a → how_many (λ f. p == f) (range_with_len a n) ≡ 0
-count-past p a zero less = refl
-count-past p a (suc n) less =
-    let rest = count-past p (a + 1) n (omega (arith, less)) in
-    ap (λ b. cond b 1 0 + how_many (λ f. p == f) (range_with_len (a + 1) n)) (below-test p a less) ∙ ap (λ n. 0 + n) rest
+-- frames that are left alone are pinned or of locked pages
+pub spared-parts : (sp : Spared) (fs : List ℕ) → how_many (is_spared sp) fs ≡ how_many (is_pinned sp.pinned) fs + how_many (locked_alone sp) fs
+spared-parts sp fs = count-parts (is_spared sp) (is_pinned sp.pinned) (locked_alone sp) (λ f. by (is_pinned sp.pinned f) (sp.locked f)) fs
+  where
+    by : (p k : Bool) → cond (p || k) 1 0 ≡ cond p 1 0 + cond (not p && k) 1 0
+    by true k = refl
+    by false true = refl
+    by false false = refl
 
-count-within : (p a n : ℕ) → a ≤ p → p < a + n → how_many (λ f. p == f) (range_with_len a n) ≡ 1
-count-within p a zero low high = absurd (omega (arith, low, high))
-count-within p a (suc n) low high = elim (cases_lt a p) [
-  | inl less ↦ ap (λ b. cond b 1 0 + how_many (λ f. p == f) (range_with_len (a + 1) n)) (above-test p a less)
-      ∙ ap (λ n. 0 + n) (count-within p (a + 1) n (omega (arith, less)) (omega (arith, high)))
-  | inr least ↦ ap (λ b. cond b 1 0 + how_many (λ f. p == f) (range_with_len (a + 1) n)) (same-test p a least low)
-      ∙ ap (λ n. 1 + n) (count-past p (a + 1) n (omega (arith, least)))
-]
+-- and merged frames are left alone or not
+pub merged-parts : (sp : Spared) (l : Ledger) (fs : List ℕ)
+    → how_many (is_merged l) fs ≡ how_many (λ f. is_spared sp f && is_merged l f) fs + how_many (merged_alone sp l) fs
+merged-parts sp l fs = count-parts (is_merged l) (λ f. is_spared sp f && is_merged l f) (merged_alone sp l)
+    (λ f. by (is_spared sp f) (is_merged l f)) fs
+  where
+    by : (s m : Bool) → cond m 1 0 ≡ cond (s && m) 1 0 + cond (not s && m) 1 0
+    by true true = refl
+    by true false = refl
+    by false true = refl
+    by false false = refl
 
-pub pinned-none : (n : ℕ) → how_many (is_pinned None) (range_with_len 0 n) ≡ 0
-pinned-none n = count-none (is_pinned None) (λ f. refl) (range_with_len 0 n)
-
-pub pinned-within : (p n : ℕ) → p < n → how_many (is_pinned (Some p)) (range_with_len 0 n) ≡ 1
-pinned-within p n high = count-within p 0 n (omega arith) (omega (arith, high))
-
-past-end : (p a n : ℕ) → a + n ≤ p → how_many (λ f. p == f) (range_with_len a n) ≡ 0
-past-end p a zero high = refl
-past-end p a (suc n) high =
-    ap (λ b. cond b 1 0 + how_many (λ f. p == f) (range_with_len (a + 1) n)) (above-test p a (omega (arith, high)))
-    ∙ ap (λ n. 0 + n) (past-end p (a + 1) n (omega (arith, high)))
-
-pub pinned-past : (p n : ℕ) → n ≤ p → how_many (is_pinned (Some p)) (range_with_len 0 n) ≡ 0
-pinned-past p n high = past-end p 0 n (omega (arith, high))
-
--- ---- each frame is pinned, or held for one cause
-
+-- each frame is pinned, or held for one cause
 held-once : (sp : Spared) (l : Ledger) (f : ℕ)
-    → cond (is_pinned sp.pinned f) 1 0 + cond (is_held sp l Locked f) 1 0 + cond (is_held sp l Ksm f) 1 0
-    + cond (is_held sp l Fault f) 1 0 + cond (is_held sp l NoSlot f) 1 0 ≡ 1
+    → cond (is_pinned sp.pinned f) 1 0 + cond (locked_alone sp f) 1 0 + cond (merged_alone sp l f) 1 0
+    + cond (cached_alone sp l f) 1 0 + cond (slotless_alone sp l f) 1 0 ≡ 1
 held-once sp l f = by (is_pinned sp.pinned f) (sp.locked f) (is_merged l f) (slot_of l f)
   where
     by : (p k m : Bool) (o : Option Slot)
@@ -85,8 +74,44 @@ count-all a b c d e one (f ∷ fs) =
     omega (arith, here, rest)
 
 pub held-all : (sp : Spared) (l : Ledger) (n : ℕ)
-    → how_many (is_pinned sp.pinned) (range_with_len 0 n) + how_many (is_held sp l Locked) (range_with_len 0 n)
-    + how_many (is_held sp l Ksm) (range_with_len 0 n) + how_many (is_held sp l Fault) (range_with_len 0 n)
-    + how_many (is_held sp l NoSlot) (range_with_len 0 n) ≡ n
-held-all sp l n = count-all (is_pinned sp.pinned) (is_held sp l Locked) (is_held sp l Ksm) (is_held sp l Fault) (is_held sp l NoSlot)
+    → how_many (is_pinned sp.pinned) (range_with_len 0 n) + how_many (locked_alone sp) (range_with_len 0 n)
+    + how_many (merged_alone sp l) (range_with_len 0 n) + how_many (cached_alone sp l) (range_with_len 0 n)
+    + how_many (slotless_alone sp l) (range_with_len 0 n) ≡ n
+held-all sp l n = count-all (is_pinned sp.pinned) (locked_alone sp) (merged_alone sp l) (cached_alone sp l) (slotless_alone sp l)
     (held-once sp l) (range_with_len 0 n) ∙ length-range_with_len 0 n
+
+-- ---- the frames of cached pairs
+
+-- a frame is cached where a pair has it
+pub cached-any : (f : ℕ) (cs : List Cached) → list_any (λ (c : Cached). f == c.frame) cs
+    ≡ is_some (option_map (λ (c : PlainCached). c.slot) (cached_by (λ (c : PlainCached). f == c.frame) (map cached_of cs)))
+cached-any f [] = refl
+cached-any f (c ∷ cs) = by (f == c.frame) (cached-any f cs)
+  where
+    by : (b : Bool) → list_any (λ (c : Cached). f == c.frame) cs
+        ≡ is_some (option_map (λ (c : PlainCached). c.slot) (cached_by (λ (c : PlainCached). f == c.frame) (map cached_of cs)))
+        → (b || list_any (λ (c : Cached). f == c.frame) cs)
+        ≡ is_some (option_map (λ (c : PlainCached). c.slot) (cond b (Some (cached_of c)) (cached_by (λ (c : PlainCached). f == c.frame) (map cached_of cs))))
+    by true later = refl
+    by false later = later
+
+-- ---- the numbers, where these frames are left alone
+
+module _ (sp : Spared) (l : Ledger) (n : ℕ) (alone : BTreeSet ℕ) (is : (f : ℕ) → contains nat_cmp alone f ≡ is_spared sp f) where
+  pub locked-counted : (k p : ℕ) → k ≡ how_many (contains nat_cmp alone) (range_with_len 0 n)
+      → p ≡ how_many (is_pinned sp.pinned) (range_with_len 0 n) → k ≡ p + how_many (locked_alone sp) (range_with_len 0 n)
+  locked-counted k p some few = some ∙ count-same (contains nat_cmp alone) (is_spared sp) is (range_with_len 0 n)
+      ∙ spared-parts sp (range_with_len 0 n) ∙ ap (λ x. x + how_many (locked_alone sp) (range_with_len 0 n)) (sym few)
+
+  pub merged-counted : (k a : ℕ) → k ≡ how_many (is_merged l) (range_with_len 0 n)
+      → a ≡ how_many (λ f. contains nat_cmp alone f && is_merged l f) (range_with_len 0 n)
+      → k ≡ a + how_many (merged_alone sp l) (range_with_len 0 n)
+  merged-counted k a all some = all ∙ merged-parts sp l (range_with_len 0 n)
+      ∙ ap (λ x. x + how_many (merged_alone sp l) (range_with_len 0 n)) (sym (some ∙ count-same (λ f. contains nat_cmp alone f && is_merged l f)
+      (λ f. is_spared sp f && is_merged l f) (λ f. ap (λ b. b && is_merged l f) (is f)) (range_with_len 0 n)))
+
+  pub cached-counted : (cached : BTreeSet ℕ) (k : ℕ) → ((f : ℕ) → contains nat_cmp cached f
+      ≡ (not (contains nat_cmp alone f) && not (is_merged l f) && is_some (slot_of l f)))
+      → k ≡ how_many (contains nat_cmp cached) (range_with_len 0 n) → k ≡ how_many (cached_alone sp l) (range_with_len 0 n)
+  cached-counted cached k has some = some ∙ count-same (contains nat_cmp cached) (cached_alone sp l)
+      (λ f. has f ∙ ap (λ b. not b && not (is_merged l f) && is_some (slot_of l f)) (is f)) (range_with_len 0 n)

@@ -7,7 +7,6 @@ use Rattle.std.specs.Ordering.{nat_cmp}
 use Rattle.av_base.specs.Keys.{Key}
 use Rattle.av_plain.specs.Fault.{is_locked}
 use Rattle.av_plain.specs.Ledger.{Ledger, walk}
-use Rattle.av_plain.specs.Pass.{Spared as PlainSpared}
 use Rattle.av_plain.specs.World.{World}
 use Rattle.av_world.specs.Locks.{locks_page}
 use Rattle.av_world.specs.Memories.{IsWorld}

@@ -4,6 +4,7 @@ ghost use Rattle.std.specs.Prelude.{◌≡◌};
 ghost use Rattle.av_plain.specs.Ledger.{first_ledger};
 ghost use Rattle.av_book.specs.Book.{ledger_of};
 
+use crate::merged::MergedFrames;
 use av_base::Slot;
 use av_pages::Pages;
 use av_queue::Queue;
@@ -26,7 +27,7 @@ pub struct Book {
     pub flight: Queue<Slot>,
     pub active: Queue<u32>,
     pub inactive: Queue<u32>,
-    pub merged: Queue<u32>,
+    pub merged: MergedFrames,
     pub on: BTreeMap<u8, Area>,
 }
 
@@ -41,7 +42,7 @@ impl Book {
             flight: Queue::new(alloc),
             active: Queue::new(alloc),
             inactive: Queue::new(alloc),
-            merged: Queue::new(alloc),
+            merged: MergedFrames::new(alloc),
             on: BTreeMap::new(alloc),
         }
     }

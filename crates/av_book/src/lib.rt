@@ -13,6 +13,12 @@
 //! they keep answers it; that it is what the definitions say is one equation
 //! (`proofs/SparedLaws.antt`).
 //!
+//! The numbers of an out-of-memory are had by counts (`Book::out_of`). Gone over are the ranges of
+//! the processes that have a locked page, the entries of locked pages, and the cached pairs, but
+//! not all frames. Merged frames stand in a set beside their list: how many are below a number is
+//! known at once, where all are (`MergedFrames`). These costs are read off the code, and no clause
+//! says them.
+//!
 //! Only tested: nothing.
 #![tactic(auto)]
 
@@ -22,7 +28,9 @@ mod cause;
 mod entries;
 mod follow;
 mod lists;
+mod locked;
 mod machine;
+mod merged;
 mod moves;
 mod need;
 mod shortage;
@@ -33,5 +41,6 @@ mod totals;
 pub use av_pages::{Cached, Entry};
 pub use book::{Area, Book};
 pub use machine::{Head, Layout, Machine};
+pub use merged::MergedFrames;
 pub use need::Need;
 pub use spared::Spared;

@@ -1,29 +1,23 @@
 //! Why no frame can be had, in numbers.
 
-ghost use Rattle.std.specs.Prelude.{◌≡◌, IfOk};
+ghost use Rattle.std.specs.Prelude.{◌≡◌, ◌&&◌, ℕ, IfOk, is_some, not};
+ghost use Rattle.std.specs.BTreeSet.{contains};
 ghost use Rattle.std.specs.List.{range_with_len};
+ghost use Rattle.std.specs.Ordering.{nat_cmp};
 ghost use Rattle.av_base.specs.Words.{how_many};
-ghost use Rattle.av_plain.specs.Pass.{how_many_frames, is_pinned as is_pinned_by, out_of};
+ghost use Rattle.av_plain.specs.Ledger.{is_merged, slot_of};
+ghost use Rattle.av_plain.specs.Pass.{is_pinned as is_pinned_by, is_spared, out_of};
 ghost use Rattle.av_book.specs.Book.{ledger_of};
 ghost use Rattle.av_book.specs.Machine.{setting_of};
-ghost use Rattle.av_book.specs.Shortage.{is_held as is_held_for};
 ghost use Rattle.av_book.specs.Spared.{spared_of};
 
 use crate::book::Book;
 use crate::machine::Machine;
-use crate::spared::{Spared, is_pinned};
+use crate::merged::len_below;
+use crate::spared::Spared;
 use av_trace::OutOf;
 use std::alloc::AllocError;
-
-/// A cause for which a frame can't be had, beside that it is pinned. That there is no slot is what
-/// is left: nobody counts it.
-#[derive(Clone, Copy, Drop)]
-pub enum Hold {
-    NoSlot,
-    Fault,
-    Locked,
-    Ksm,
-}
+use std::collections::BTreeSet;
 
 /// How many of the first n frames are pinned.
 fn pinned_below(pinned: Option<u32>, n: u32) -> u32
@@ -36,52 +30,71 @@ fn pinned_below(pinned: Option<u32>, n: u32) -> u32
 }
 
 impl Book {
-    /// Whether a frame is held for this cause.
-    fn is_held(&self, spared: &Spared<'_>, hold: Hold, frame: u32) -> Result<bool, AllocError>
-        ensures { IfOk result (λ held. held
-            ≡ is_held_for (spared_of spared.now (ledger_of self.now)) (ledger_of self.now) hold
-            frame) }
+    /// The frames that a pass leaves alone, beside merged ones.
+    fn spared_frames(&self, spared: &Spared<'_>) -> Result<BTreeSet<u32>, AllocError>
+        ensures { IfOk result (λ frames. (f : ℕ) → contains nat_cmp frames f
+            ≡ is_spared (spared_of spared.now (ledger_of self.now)) f) }
     {
-        match hold {
-            Hold::NoSlot => Ok(self.has_turn(spared, frame)? && self.slot_of(frame).is_none()),
-            Hold::Fault => Ok(self.has_turn(spared, frame)? && self.slot_of(frame).is_some()),
-            Hold::Locked => {
-                let locked = self.is_locked(spared.memories, frame)?;
-                Ok(!is_pinned(spared.pinned, frame) && locked)
-            }
-            Hold::Ksm => {
-                let locked = self.is_locked(spared.memories, frame)?;
-                Ok(!(is_pinned(spared.pinned, frame) || locked) && self.is_merged(frame))
-            }
-        }
+        let mut frames = self.locked_frames(spared.memories)?;
+        let Some(frame) = spared.pinned else {
+            return Ok(frames);
+        };
+        frames.insert(frame)?;
+        Ok(frames)
     }
 
-    /// How many frames are held for this cause.
-    fn held(&self, machine: &Machine, spared: &Spared<'_>, hold: Hold) -> Result<u32, AllocError>
-        ensures { IfOk result (λ n. n ≡ how_many_frames (setting_of machine.now)
-            (is_held_for (spared_of spared.now (ledger_of self.now)) (ledger_of self.now) hold)) }
+    /// Whether a frame isn't among some, and isn't merged.
+    fn is_apart(&self, frames: &BTreeSet<u32>, frame: u32) -> bool
+        ensures { result ≡ (not (contains nat_cmp frames.now frame)
+            && not (is_merged (ledger_of self.now) frame)) }
     {
-        let mut n = 0;
-        for frame in 0..machine.frames {
-            if self.is_held(spared, hold, frame)? {
-                n += 1;
-            }
-        }
-        Ok(n)
+        !frames.contains(&frame) && !self.is_merged(frame)
     }
 
-    /// The numbers of an out-of-memory: how many frames are held for each cause.
+    /// The frames of the cached pairs, but for some frames and those that are merged.
+    fn cached_frames(&self, but: &BTreeSet<u32>) -> Result<BTreeSet<u32>, AllocError>
+        ensures { IfOk result (λ frames. (f : ℕ) → contains nat_cmp frames f
+            ≡ (not (contains nat_cmp but.now f) && not (is_merged (ledger_of self.now) f)
+            && is_some (slot_of (ledger_of self.now) f))) }
+    {
+        let mut frames = BTreeSet::new(self.alloc);
+        for pair in self.pages.pairs() {
+            if self.is_apart(but, pair.frame) {
+                frames.insert(pair.frame)?;
+            }
+        }
+        Ok(frames)
+    }
+
+    /// How many of some frames are below n and merged.
+    fn merged_among(&self, frames: &BTreeSet<u32>, n: u32) -> u32
+        ensures { result
+            ≡ how_many (λ f. contains nat_cmp frames.now f && is_merged (ledger_of self.now) f)
+            (range_with_len 0 n) }
+    {
+        frames
+            .range(..n)
+            .filter(|frame| self.is_merged(**frame))
+            .count() as u32
+    }
+
+    /// The numbers of an out-of-memory: how many frames are held for each cause. Gone over are the
+    /// ranges of the processes that have a locked page, the entries of locked pages, and the cached
+    /// pairs.
     pub fn out_of(&self, machine: &Machine, spared: &Spared<'_>) -> Result<OutOf, AllocError>
         ensures { IfOk result (λ out. out ≡ out_of (setting_of machine.now)
             (spared_of spared.now (ledger_of self.now)) (ledger_of self.now)) }
     {
-        let pinned = pinned_below(spared.pinned, machine.frames);
-        let fault = self.held(machine, spared, Hold::Fault)?;
-        let locked = self.held(machine, spared, Hold::Locked)?;
-        let ksm = self.held(machine, spared, Hold::Ksm)?;
+        let frames = machine.frames;
+        let pinned = pinned_below(spared.pinned, frames);
+        let alone = self.spared_frames(spared)?;
+        let locked = len_below(&alone, frames) - pinned;
+        let ksm = self.merged.len_below(frames) - self.merged_among(&alone, frames);
+        let cached = self.cached_frames(&alone)?;
+        let fault = len_below(&cached, frames);
         Ok(OutOf {
             pinned: u32::from(spared.pinned.is_some()),
-            noslot: machine.frames - pinned - locked - ksm - fault,
+            noslot: frames - pinned - locked - ksm - fault,
             fault,
             locked,
             ksm,

@@ -24,6 +24,7 @@ use crate::pairs::Pairs;
 use av_base::Slot;
 use std::alloc::{AllocError, Global};
 use std::collections::BTreeMap;
+use std::collections::btree_map::Values;
 use std::marker::Model;
 
 /// Entries by process and page, cached pairs, and what each frame and slot has of them.
@@ -148,6 +149,13 @@ impl Pages {
         ensures { result ≡ nat_lt 0 (length self.now.cache) }
     {
         self.cache.len() > 0
+    }
+
+    /// The cached pairs, the newest first.
+    pub fn pairs(&self) -> Values<'_, u64, Cached>
+        ensures { result ≡ self.now.cache }
+    {
+        self.cache.iter()
     }
 
     /// The slot of the first pair at a frame.

@@ -19,6 +19,7 @@ use av_base::Slot;
 use av_queue::{Member, Places};
 use std::alloc::{AllocError, Global};
 use std::collections::BTreeMap;
+use std::collections::btree_map::Values;
 use std::marker::Model;
 
 /// The rank of the first pair that comes. Each that comes later stands one before the others.
@@ -62,6 +63,13 @@ impl Pairs {
         ensures fits { length self.now < 2 ^ 63 }
     {
         self.pairs.len()
+    }
+
+    /// The pairs, the newest first.
+    pub(crate) fn iter(&self) -> Values<'_, u64, Cached>
+        ensures { result ≡ values_of self.now }
+    {
+        self.pairs.values()
     }
 
     /// The pair at a rank, if one is there.

@@ -2,7 +2,7 @@ use Rattle.std.proofs.Common.{ap, sym, ◌∙◌}
 use Rattle.std.specs.List.{range_with_len}
 use Rattle.av_base.specs.Words.{how_many}
 use Rattle.av_plain.specs.Pass.{is_pinned}
-use Rattle.av_book.proofs.ShortageLaws.{pinned-none, pinned-past, pinned-within}
+use Rattle.av_book.proofs.PinnedLaws.{pinned-none, pinned-past, pinned-within}
 use Rattle.av_book.proofs.shortage.pinned_below.Goals as goal
 
 pub returns-in-None : goal.returns-in-None
