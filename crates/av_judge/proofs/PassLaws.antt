@@ -1,17 +1,13 @@
 -- A frame's turn, part by part.
-use Rattle.std.proofs.Common.{◌≡◌, ℕ, zero, suc, ◌+◌, ◌-◌, ◌<◌, add-one, drop, reverse, length, arith, Bool, true, false, not, ◌==◌, Option, Some, None, is_none, List, [], ◌∷◌, ◌++◌}
+use Rattle.std.proofs.Common.{◌≡◌, ℕ, ◌<◌, arith, Bool, true, false, not, ◌==◌, Option, Some, None, is_none, List, [], ◌∷◌, ◌++◌}
 use Rattle.std.proofs.Common.{refl, sym, ap, subst, ◌∙◌, append-nil, append_assoc}
-use Rattle.std.specs.Prelude.{IsTrue, MatchBool, MatchOption, if◌then◌else◌, ◌&&◌, ◌||◌, filter}
-use Rattle.std.specs.List.{slice_get}
-use Rattle.std.proofs.lemmas.Option.{slice_get_within}
-use Rattle.av_base.specs.Words.{is_in}
+use Rattle.std.specs.Prelude.{IsTrue, MatchBool, MatchOption, if◌then◌else◌, ◌&&◌, ◌||◌}
 use Rattle.av_base.specs.declared.slot.Slot.{Slot}
 use Rattle.av_trace.specs.declared.note.Note.{Note}
 use Rattle.av_trace.specs.declared.note.Note.TheVariants.{Dropped, Failed, Put, Started, Unmapped, Written}
-use Rattle.av_plain.specs.Event.{after_note, after_notes, change_entries, if_some, when}
+use Rattle.av_plain.specs.Event.{after_notes, when}
 use Rattle.av_plain.specs.Ledger.{Ledger, Setting, is_stale, map_count, may_give, slot_of}
-use Rattle.av_plain.specs.Ledger.{InSlot}
-use Rattle.av_plain.specs.Pass.{IsSlotFor, Spared, Turns, end_note, frames_in_turn, is_dirty, is_spared, is_stuck, unmap_notes}
+use Rattle.av_plain.specs.Pass.{IsSlotFor, Spared, Turns, end_note, is_dirty, is_stuck, unmap_notes}
 use Rattle.std.proofs.lemmas.Bool.{and_parts, ltb-true}
 use Rattle.std.specs.List.{AllByRecursion}
 use Rattle.av_trace.specs.Note.{IsNote}

@@ -1,9 +1,8 @@
 -- Commands that answer `ok` and tell the rest by notes.
-use Rattle.std.proofs.Common.{◌≡◌, ℕ, Bool, true, false, Option, Some, None, List, [], ◌∷◌, ◌++◌, length, map, take, refl, sym, ap, subst, ◌∙◌, append-nil, arith}
-use Rattle.std.specs.Prelude.{MatchOption, ◌||◌, ◌==◌}
+use Rattle.std.proofs.Common.{◌≡◌, ℕ, Bool, true, false, Some, None, List, [], ◌∷◌, ◌++◌, length, map, take, refl, sym, ap, subst, ◌∙◌, append-nil, arith}
+use Rattle.std.specs.Prelude.{MatchOption, ◌==◌}
 use Rattle.std.specs.List.{AllByRecursion}
-use Rattle.std.proofs.lemmas.Bool.{eq-eqb, eqb-true}
-use Rattle.av_base.specs.Words.{is_in}
+use Rattle.std.proofs.lemmas.Bool.{eqb-true}
 use Rattle.av_text.specs.Word.{after}
 use Rattle.av_trace.specs.declared.command.Command.{Command}
 use Rattle.av_trace.specs.declared.command.Command.TheVariants.{Age, Complete, Reclaim}
@@ -16,11 +15,11 @@ use Rattle.av_trace.specs.declared.row.Row.{Row}
 use Rattle.av_trace.specs.Note.{IsNote}
 use Rattle.av_trace.specs.Print.{notes_text, text_of}
 use Rattle.av_trace.specs.Reply.{IsReply}
-use Rattle.av_plain.specs.Event.{Event, after_notes, note_events, notes_of}
+use Rattle.av_plain.specs.Event.{Event, note_events, notes_of}
 use Rattle.av_plain.specs.Fault.{sparing}
 use Rattle.av_plain.specs.Ledger.{Ledger, Setting}
 use Rattle.av_plain.specs.Pass.{Completes, Spared}
-use Rattle.av_plain.specs.Reclaim.{Outcome, Outcomes, from_tail}
+use Rattle.av_plain.specs.Reclaim.{Outcomes, from_tail}
 use Rattle.av_plain.specs.Refusal.{Refuses, refusal, tests}
 use Rattle.av_plain.specs.Step.{Follows, IsLegal}
 use Rattle.av_plain.specs.World.{World}

@@ -1,4 +1,4 @@
-use Rattle.std.proofs.Common.{List, None, ℕ, take, true, false, subst, ◌∙◌}
+use Rattle.std.proofs.Common.{List, None, ℕ, true, false, subst, ◌∙◌}
 use Rattle.av_trace.specs.declared.command.Command.TheVariants as commands
 use Rattle.av_book.specs.Spared.{spared_of}
 use Rattle.av_book.specs.declared.spared.Spared.{Spared}

@@ -1,4 +1,4 @@
-use Rattle.std.proofs.Common.{Some, None, true, false, ap, sym, subst, length, refl, rules, ◌≡◌, ◌+◌, ◌∙◌}
+use Rattle.std.proofs.Common.{Some, None, true, false, ap, sym, subst, refl, rules, ◌≡◌, ◌∙◌}
 use Rattle.std.specs.List.{slice_get}
 use Rattle.av_book.specs.Book.{ledger_of}
 use Rattle.av_book.specs.Machine.{setting_of}

@@ -33,8 +33,8 @@ returns-in-None c = λ w at.
     c.loop-slot.invariant w at None l1
     (emptied-neither m w k l s.page first.0 first.2 s (λ i. record { area = first.1 i; page = s.page }) bytes mid l1 l1 met)
 
-pub returns-in_ok-out_of-in-Some-Starved : goal.returns-in_ok-out_of-in-Some-Starved
-returns-in_ok-out_of-in-Some-Starved c = λ w at.
+pub returns-in-Some-Starved : goal.returns-in-Some-Starved
+returns-in-Some-Starved c = λ w at.
     let m = setting_of c.args.machine.now in
     let l = ledger_of c.loop-slot.book in
     let l1 = ledger_of c.empties.new.book in
