@@ -6,3 +6,4 @@ pub mod Trees
 pub mod Kin
 pub mod Numbers
 pub mod Lent
+pub mod LockedAreas

@@ -2,3 +2,4 @@ pub mod Fork
 pub mod Kin
 pub mod Spaces
 pub mod Trees
+pub mod Locked
