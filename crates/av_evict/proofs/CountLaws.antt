@@ -1,8 +1,9 @@
--- The numbers of an out-of-memory by counts alone, where no frame is locked.
-use Rattle.std.proofs.Common.{Bool, List, None, Option, Some, [], ap, arith, cond, false, is_none, is_some, nat_lt, not, refl, suc, sym, true, zero, ℕ, ◌&&◌, ◌++◌, ◌+◌, ◌-◌, ◌<◌, ◌==◌, ◌||◌, ◌∙◌, ◌∷◌, ◌≡◌, ◌≤◌}
-use Rattle.std.specs.List.{range_with_len}
+-- The numbers of an out-of-memory by counts, and by what locked frames and the pinned one add to them.
+use Rattle.std.proofs.Common.{Bool, List, filter, get_or, length, take, None, Option, Some, [], ap, arith, cond, false, is_none, is_some, nat_lt, not, refl, suc, sym, true, zero, ℕ, ◌&&◌, ◌++◌, ◌+◌, ◌-◌, ◌<◌, ◌==◌, ◌||◌, ◌∙◌, ◌∷◌, ◌≡◌, ◌≤◌}
+use Rattle.std.specs.List.{All, range_with_len}
 use Rattle.std.specs.Prelude.{MatchBool}
 use Rattle.std.proofs.lemmas.Bool.{false≢true}
+use Rattle.std.proofs.lemmas.List.{take_more}
 use Rattle.std.proofs.lemmas.Bool.Decides.{nat_tests}
 use Rattle.av_base.specs.Words.{how_many}
 use Rattle.av_base.specs.declared.slot.Slot.{Slot}
@@ -13,10 +14,12 @@ use Rattle.av_plain.specs.Ledger.{Ledger, Setting, is_merged, map_count, no_slot
 use Rattle.av_plain.specs.Pass.{IsSlotFor, Spared, frames_in_turn, has_turn, how_many_frames, is_dirty, is_pinned, is_stuck, out_of, turn_notes}
 use Rattle.av_plain.specs.Sound.{IsSound, IsSoundBut, uses}
 use Rattle.av_plain.proofs.Event.{how_many-none}
+use Rattle.av_plain.proofs.Ledger.{how_many-append}
 use Rattle.av_plain.proofs.Sound.Changes.{any-counts, free-is}
 use Rattle.av_plain.proofs.Sound.Counts.{pair-frame, slot_of-some}
 use Rattle.av_evict.specs.Pass.{AreTurns}
-use Rattle.av_evict.specs.Standing.{adds_unpinned, cached_count, can_go, merged_count, numbers_of, pinned_adds, stands_as}
+use Rattle.av_evict.specs.Standing.{adds_unpinned, cached_count, can_go, merged_count, numbers_of, pinned_adds, stands_as, stands_unspared, unspared_adds}
+use Rattle.av_evict.specs.declared.standing.Standing.{Standing}
 use Rattle.av_evict.specs.Steps.{closes}
 use Rattle.av_evict.specs.Turn.{InVain}
 use Rattle.av_evict.specs.declared.standing.Standing.TheVariants.{Pinned}
@@ -139,44 +142,120 @@ merged-uncached m excuse l sound f is = by (slot_of l f) refl
         let h = some _ (sym (any-counts (λ g. f == g) l.merged) ∙ is) in
         absurd (omega (arith, h, p, q, once))
 
--- where no frame is locked, the numbers are these
-pub record AreCounts (m : Setting) (sp : Spared) (l : Ledger) : Type 0 where
-  pub noslot : (out_of m sp l).noslot ≡ (m.frames - merged_count m l - cached_count m l) - (pinned_adds m sp l).noslot
-  pub fault : (out_of m sp l).fault ≡ cached_count m l - (pinned_adds m sp l).fault
-  pub locked : (out_of m sp l).locked ≡ 0
-  pub ksm : (out_of m sp l).ksm ≡ merged_count m l - (pinned_adds m sp l).ksm
+-- ---- the numbers without the locked frames
+
+-- of those that are left out, and of the others
+filter-less : (t q : ℕ → Bool) (xs : List ℕ) → how_many t (filter q xs) + how_many (λ f. not (q f) && t f) xs ≡ how_many t xs
+filter-less t q [] = refl
+filter-less t q (x ∷ xs) = by (q x) (filter-less t q xs)
+  where
+    by : (b : Bool) → how_many t (filter q xs) + how_many (λ f. not (q f) && t f) xs ≡ how_many t xs
+        → how_many t (cond b (x ∷ filter q xs) (filter q xs)) + (cond (not b && t x) 1 0 + how_many (λ f. not (q f) && t f) xs)
+        ≡ cond (t x) 1 0 + how_many t xs
+    by true h = omega (arith, h)
+    by false h = omega (arith, h)
+
+filter-counts : (q : ℕ → Bool) (xs : List ℕ) → how_many q xs ≡ length (filter q xs)
+filter-counts q [] = refl
+filter-counts q (x ∷ xs) = by (q x) (filter-counts q xs)
+  where
+    by : (b : Bool) → how_many q xs ≡ length (filter q xs) → cond b 1 0 + how_many q xs ≡ length (cond b (x ∷ filter q xs) (filter q xs))
+    by true h = omega (arith, h)
+    by false h = omega (arith, h)
+
+-- those of the frames are no more than there are, and each is one of them
+pub filter-few : (q : ℕ → Bool) (a n : ℕ) → length (filter q (range_with_len a n)) ≤ n
+filter-few q a n = let h = range-both q a n in let c = filter-counts q (range_with_len a n) in omega (arith, h, c)
+
+filter-within : (q : ℕ → Bool) (a n k d : ℕ) → k < length (filter q (range_with_len a n)) → get_or (filter q (range_with_len a n)) k d < a + n
+filter-within q a zero k d h = absurd (omega (arith, h))
+filter-within q a (suc n) k d h = by (λ k h. filter-within q (a + 1) n k d h) (q a) k h
+  where
+    by : ((k : ℕ) → k < length (filter q (range_with_len (a + 1) n)) → get_or (filter q (range_with_len (a + 1) n)) k d < a + 1 + n)
+        → (b : Bool) (k : ℕ) → k < length (cond b (a ∷ filter q (range_with_len (a + 1) n)) (filter q (range_with_len (a + 1) n)))
+        → get_or (cond b (a ∷ filter q (range_with_len (a + 1) n)) (filter q (range_with_len (a + 1) n))) k d < a + suc n
+    by more true zero h = omega arith
+    by more true (suc k) h = let r = more k (omega (arith, h)) in omega (arith, r)
+    by more false k h = let r = more k h in omega (arith, r)
+
+pub filter-in-range : (q : ℕ → Bool) (n : ℕ) → All (λ f. f < n) (filter q (range_with_len 0 n))
+filter-in-range q n k d h = let r = filter-within q 0 n k d h in omega (arith, r)
+
+-- one more of a list is counted
+pub take-counts : (t : ℕ → Bool) (xs : List ℕ) (i k j b : ℕ) → i < length xs → k ≡ how_many t (take i xs)
+    → b ≡ cond (t (get_or xs i 0)) 1 0 → j ≡ k + b → j ≡ how_many t (take (i + 1) xs)
+take-counts t xs i k j b below was adds more =
+    let a = ap (how_many t) (take_more xs i 0 below) in
+    let c = how_many-append t (take i xs) (get_or xs i 0 ∷ []) in
+    omega (arith, a, c, was, adds, more)
+
+-- none is spared
+abbrev none_spared : Spared
+none_spared = record { pinned = None; locked = λ f. false; closing = None }
+
+pub counts-unspared : (l : Ledger) (f : ℕ) (s : Standing) (n : OutOf) → s ≡ stands_unspared l f → n ≡ numbers_of s → Counts none_spared l f n
+counts-unspared l f s n is h = counts-of none_spared l f s n is h
+
+-- the numbers are these, without what the locked frames and the pinned one would add
+pub record AreCounts (m : Setting) (sp : Spared) (l : Ledger) (fs : List ℕ) : Type 0 where
+  pub noslot : (out_of m sp l).noslot
+      ≡ ((m.frames - merged_count m l - cached_count m l) - (unspared_adds l fs).noslot) - (pinned_adds m sp l).noslot
+  pub fault : (out_of m sp l).fault ≡ (cached_count m l - (unspared_adds l fs).fault) - (pinned_adds m sp l).fault
+  pub locked : (out_of m sp l).locked ≡ length fs - (pinned_adds m sp l).locked
+  pub ksm : (out_of m sp l).ksm ≡ (merged_count m l - (unspared_adds l fs).ksm) - (pinned_adds m sp l).ksm
   -- and nothing that is taken away is more than what is there
   pub some : merged_count m l + cached_count m l ≤ m.frames
-  pub some_noslot : (pinned_adds m sp l).noslot ≤ m.frames - merged_count m l - cached_count m l
-  pub some_fault : (pinned_adds m sp l).fault ≤ cached_count m l
-  pub some_ksm : (pinned_adds m sp l).ksm ≤ merged_count m l
+  pub some_noslot : (unspared_adds l fs).noslot + (pinned_adds m sp l).noslot ≤ m.frames - merged_count m l - cached_count m l
+  pub some_fault : (unspared_adds l fs).fault + (pinned_adds m sp l).fault ≤ cached_count m l
+  pub some_locked : (pinned_adds m sp l).locked ≤ length fs
+  pub some_ksm : (unspared_adds l fs).ksm + (pinned_adds m sp l).ksm ≤ merged_count m l
 
-pub are-counts : (m : Setting) (excuse : Slot → ℕ) (sp : Spared) (l : Ledger) → IsSoundBut m excuse l → ((f : ℕ) → sp.locked f ≡ false)
-    → AreCounts m sp l
-are-counts m excuse sp l sound unlocked = record {
-  noslot = (let a = noslot in let b = frames-less m bare sp.pinned in let c = rest in let d = add_noslot sp.pinned in omega (arith, a, b, c, d));
-  fault = (let a = fault in let b = frames-less m cached sp.pinned in let d = add_fault sp.pinned in omega (arith, a, b, d));
-  locked = locked;
-  ksm = (let a = ksm in let b = frames-less m (is_merged l) sp.pinned in let d = add_ksm sp.pinned in omega (arith, a, b, d));
+pub are-counts : (m : Setting) (excuse : Slot → ℕ) (sp : Spared) (l : Ledger) → IsSoundBut m excuse l
+    → AreCounts m sp l (filter sp.locked (range_with_len 0 m.frames))
+are-counts m excuse sp l sound = record {
+  noslot = (let a = noslot in let b = less bare in let c = rest in let d = add_noslot sp.pinned in omega (arith, a, b, c, d));
+  fault = (let a = fault in let b = less cached in let c = all_cached in let d = add_fault sp.pinned in omega (arith, a, b, c, d));
+  locked = (let b = frames-less m sp.locked sp.pinned in let c = filter-counts sp.locked all in let d = add_locked sp.pinned in
+      omega (arith, b, c, d));
+  ksm = (let a = ksm in let b = less (is_merged l) in let d = add_ksm sp.pinned in omega (arith, a, b, d));
   some = (let c = rest in omega (arith, c));
-  some_noslot = (let b = frames-less m bare sp.pinned in let c = rest in let d = add_noslot sp.pinned in omega (arith, b, c, d));
-  some_fault = (let b = frames-less m cached sp.pinned in let d = add_fault sp.pinned in omega (arith, b, d));
-  some_ksm = (let b = frames-less m (is_merged l) sp.pinned in let d = add_ksm sp.pinned in omega (arith, b, d));
+  some_noslot = (let b = less bare in let c = rest in let d = add_noslot sp.pinned in omega (arith, b, c, d));
+  some_fault = (let b = less cached in let c = all_cached in let d = add_fault sp.pinned in omega (arith, b, c, d));
+  some_locked = (let b = frames-less m sp.locked sp.pinned in let c = filter-counts sp.locked all in let d = add_locked sp.pinned in
+      omega (arith, b, c, d));
+  some_ksm = (let b = less (is_merged l) in let d = add_ksm sp.pinned in omega (arith, b, d));
 }
   where
-    cached : ℕ → Bool
-    cached f = is_some (slot_of l f)
+    all : List ℕ
+    all = range_with_len 0 m.frames
 
-    -- neither merged nor cached
+    -- not merged, and cached or not
+    cached : ℕ → Bool
+    cached f = not (is_merged l f) && is_some (slot_of l f)
+
     bare : ℕ → Bool
     bare f = not (is_merged l f) && is_none (slot_of l f)
 
-    apart : (f : ℕ) → cached f ≡ true → not (is_merged l f) ≡ true
+    -- of those that pass some are locked, and one may be pinned
+    less : (t : ℕ → Bool) → how_many t (filter sp.locked all)
+        + (how_many_frames m (λ f. not (is_pinned sp.pinned f) && (not (sp.locked f) && t f)) + adds m (λ f. not (sp.locked f) && t f) sp.pinned)
+        ≡ how_many_frames m t
+    less t = let a = filter-less t sp.locked all in let b = frames-less m (λ f. not (sp.locked f) && t f) sp.pinned in omega (arith, a, b)
+
+    apart : (f : ℕ) → is_some (slot_of l f) ≡ true → not (is_merged l f) ≡ true
     apart f is = by (is_merged l f) (merged-uncached m excuse l sound f)
       where
-        by : (b : Bool) → (b ≡ true → cached f ≡ false) → not b ≡ true
+        by : (b : Bool) → (b ≡ true → is_some (slot_of l f) ≡ false) → not b ≡ true
         by false h = refl
         by true h = absurd (false≢true (sym (h refl) ∙ is))
+
+    all_cached : how_many_frames m cached ≡ cached_count m l
+    all_cached = range-same cached (λ f. is_some (slot_of l f)) 0 m.frames (λ f low high. by (not (is_merged l f)) (is_some (slot_of l f)) (apart f))
+      where
+        by : (b c : Bool) → (c ≡ true → b ≡ true) → (b && c) ≡ c
+        by true c h = refl
+        by false true h = h refl
+        by false false h = refl
 
     not_some : (b : Bool) (o : Option Slot) → (b && not (is_some o)) ≡ (b && is_none o)
     not_some b None = refl
@@ -185,90 +264,82 @@ are-counts m excuse sp l sound unlocked = record {
     rest : (merged_count m l + cached_count m l) + how_many_frames m bare ≡ m.frames
     rest =
         let a = range-both (is_merged l) 0 m.frames in
-        let b = range-within (λ f. not (is_merged l f)) cached 0 m.frames apart in
-        let c = range-same (λ f. not (is_merged l f) && not (cached f)) bare 0 m.frames (λ f low high. not_some (not (is_merged l f)) (slot_of l f)) in
+        let b = range-within (λ f. not (is_merged l f)) (λ f. is_some (slot_of l f)) 0 m.frames apart in
+        let c = range-same (λ f. not (is_merged l f) && not (is_some (slot_of l f))) bare 0 m.frames
+        (λ f low high. not_some (not (is_merged l f)) (slot_of l f)) in
         omega (arith, a, b, c)
 
-    -- one that is not pinned and not merged, and has no slot
-    at_noslot : (p : Bool) (f : ℕ) → ((not (p || sp.locked f) && not (is_merged l f)) && is_none (slot_of l f)) ≡ (not p && bare f)
-    at_noslot p f = (λ i. (not (p || unlocked f i) && not (is_merged l f)) && is_none (slot_of l f)) ∙ by p (is_merged l f) (is_none (slot_of l f))
-      where
-        by : (p k n : Bool) → ((not (p || false) && not k) && n) ≡ (not p && (not k && n))
-        by true k n = refl
-        by false true n = refl
-        by false false n = refl
+    -- tests of one that is not spared, in another order
+    turn : (p k m n : Bool) → ((not (p || k) && not m) && n) ≡ (not p && (not k && (not m && n)))
+    turn true k m n = refl
+    turn false true m n = refl
+    turn false false true n = refl
+    turn false false false n = refl
 
-    at_fault : (p : Bool) (f : ℕ) → ((not (p || sp.locked f) && not (is_merged l f)) && cached f) ≡ (not p && cached f)
-    at_fault p f = (λ i. (not (p || unlocked f i) && not (is_merged l f)) && cached f) ∙ by p (is_merged l f) (cached f) (apart f)
-      where
-        by : (p k c : Bool) → (c ≡ true → not k ≡ true) → ((not (p || false) && not k) && c) ≡ (not p && c)
-        by true k c h = refl
-        by false false c h = refl
-        by false true false h = refl
-        by false true true h = h refl
+    spare : (p k m : Bool) → (not (p || k) && m) ≡ (not p && (not k && m))
+    spare true k m = refl
+    spare false k m = refl
 
-    at_ksm : (p : Bool) (f : ℕ) → (not (p || sp.locked f) && is_merged l f) ≡ (not p && is_merged l f)
-    at_ksm p f = (λ i. not (p || unlocked f i) && is_merged l f) ∙ by p
-      where
-        by : (p : Bool) → (not (p || false) && is_merged l f) ≡ (not p && is_merged l f)
-        by true = refl
-        by false = refl
+    noslot : (out_of m sp l).noslot ≡ how_many_frames m (λ f. not (is_pinned sp.pinned f) && (not (sp.locked f) && bare f))
+    noslot = range-same _ _ 0 m.frames (λ f low high. turn (is_pinned sp.pinned f) (sp.locked f) (is_merged l f) (is_none (slot_of l f)))
 
-    noslot : (out_of m sp l).noslot ≡ how_many_frames m (λ f. not (is_pinned sp.pinned f) && bare f)
-    noslot = range-same _ _ 0 m.frames (λ f low high. at_noslot (is_pinned sp.pinned f) f)
+    fault : (out_of m sp l).fault ≡ how_many_frames m (λ f. not (is_pinned sp.pinned f) && (not (sp.locked f) && cached f))
+    fault = range-same _ _ 0 m.frames (λ f low high. turn (is_pinned sp.pinned f) (sp.locked f) (is_merged l f) (is_some (slot_of l f)))
 
-    fault : (out_of m sp l).fault ≡ how_many_frames m (λ f. not (is_pinned sp.pinned f) && cached f)
-    fault = range-same _ _ 0 m.frames (λ f low high. at_fault (is_pinned sp.pinned f) f)
-
-    and_false : (b : Bool) → (b && false) ≡ false
-    and_false true = refl
-    and_false false = refl
-
-    locked : (out_of m sp l).locked ≡ 0
-    locked = range-zero _ 0 m.frames (λ f low high. (λ i. not (is_pinned sp.pinned f) && unlocked f i) ∙ and_false (not (is_pinned sp.pinned f)))
-
-    ksm : (out_of m sp l).ksm ≡ how_many_frames m (λ f. not (is_pinned sp.pinned f) && is_merged l f)
-    ksm = range-same _ _ 0 m.frames (λ f low high. at_ksm (is_pinned sp.pinned f) f)
+    ksm : (out_of m sp l).ksm ≡ how_many_frames m (λ f. not (is_pinned sp.pinned f) && (not (sp.locked f) && is_merged l f))
+    ksm = range-same _ _ 0 m.frames (λ f low high. spare (is_pinned sp.pinned f) (sp.locked f) (is_merged l f))
 
     -- the pinned frame by itself
     counted : (x : ℕ) → Counts (record sp { pinned = None }) l x (numbers_of (stands_as (record sp { pinned = None }) l x))
     counted x = counts-of (record sp { pinned = None }) l x (stands_as (record sp { pinned = None }) l x) _ refl refl
 
-    add_noslot : (o : Option ℕ) → (adds_unpinned m sp l o).noslot ≡ adds m bare o
+    add_noslot : (o : Option ℕ) → (adds_unpinned m sp l o).noslot ≡ adds m (λ f. not (sp.locked f) && bare f) o
     add_noslot None = refl
     add_noslot (Some x) = by (nat_lt x m.frames)
       where
-        by : (b : Bool) → (numbers_of (cond b (stands_as (record sp { pinned = None }) l x) Pinned)).noslot ≡ cond b (cond (bare x) 1 0) 0
-        by true = (counted x).noslot ∙ ap (λ b. cond b 1 0) (at_noslot false x)
+        by : (b : Bool) → (numbers_of (cond b (stands_as (record sp { pinned = None }) l x) Pinned)).noslot
+            ≡ cond b (cond (not (sp.locked x) && bare x) 1 0) 0
+        by true = (counted x).noslot ∙ ap (λ b. cond b 1 0) (turn false (sp.locked x) (is_merged l x) (is_none (slot_of l x)))
         by false = refl
 
-    add_fault : (o : Option ℕ) → (adds_unpinned m sp l o).fault ≡ adds m cached o
+    add_fault : (o : Option ℕ) → (adds_unpinned m sp l o).fault ≡ adds m (λ f. not (sp.locked f) && cached f) o
     add_fault None = refl
     add_fault (Some x) = by (nat_lt x m.frames)
       where
-        by : (b : Bool) → (numbers_of (cond b (stands_as (record sp { pinned = None }) l x) Pinned)).fault ≡ cond b (cond (cached x) 1 0) 0
-        by true = (counted x).fault ∙ ap (λ b. cond b 1 0) (at_fault false x)
+        by : (b : Bool) → (numbers_of (cond b (stands_as (record sp { pinned = None }) l x) Pinned)).fault
+            ≡ cond b (cond (not (sp.locked x) && cached x) 1 0) 0
+        by true = (counted x).fault ∙ ap (λ b. cond b 1 0) (turn false (sp.locked x) (is_merged l x) (is_some (slot_of l x)))
         by false = refl
 
-    add_ksm : (o : Option ℕ) → (adds_unpinned m sp l o).ksm ≡ adds m (is_merged l) o
+    add_locked : (o : Option ℕ) → (adds_unpinned m sp l o).locked ≡ adds m sp.locked o
+    add_locked None = refl
+    add_locked (Some x) = by (nat_lt x m.frames)
+      where
+        by : (b : Bool) → (numbers_of (cond b (stands_as (record sp { pinned = None }) l x) Pinned)).locked ≡ cond b (cond (sp.locked x) 1 0) 0
+        by true = (counted x).locked
+        by false = refl
+
+    add_ksm : (o : Option ℕ) → (adds_unpinned m sp l o).ksm ≡ adds m (λ f. not (sp.locked f) && is_merged l f) o
     add_ksm None = refl
     add_ksm (Some x) = by (nat_lt x m.frames)
       where
-        by : (b : Bool) → (numbers_of (cond b (stands_as (record sp { pinned = None }) l x) Pinned)).ksm ≡ cond b (cond (is_merged l x) 1 0) 0
-        by true = (counted x).ksm ∙ ap (λ b. cond b 1 0) (at_ksm false x)
+        by : (b : Bool) → (numbers_of (cond b (stands_as (record sp { pinned = None }) l x) Pinned)).ksm
+            ≡ cond b (cond (not (sp.locked x) && is_merged l x) 1 0) 0
+        by true = (counted x).ksm
         by false = refl
 
 -- so they are had by counts that are kept
-pub counts-are : (m : Setting) (sp : Spared) (l : Ledger) (out less : OutOf) (n merged cached : ℕ) → AreCounts m sp l → n ≡ m.frames
-    → merged ≡ merged_count m l → cached ≡ cached_count m l → less ≡ pinned_adds m sp l → out.pinned ≡ (out_of m sp l).pinned
-    → out.noslot ≡ (n - merged - cached) - less.noslot → out.fault ≡ cached - less.fault → out.locked ≡ 0 → out.ksm ≡ merged - less.ksm
-    → out ≡ out_of m sp l
-counts-are m sp l out less n merged cached are frames is holds adds pinned noslot fault locked ksm = λ i. record {
+pub counts-are : (m : Setting) (sp : Spared) (l : Ledger) (out held less : OutOf) (n merged cached locked : ℕ) (fs : List ℕ)
+    → AreCounts m sp l fs → n ≡ m.frames → merged ≡ merged_count m l → cached ≡ cached_count m l → locked ≡ length fs
+    → held ≡ unspared_adds l fs → less ≡ pinned_adds m sp l → out.pinned ≡ (out_of m sp l).pinned
+    → out.noslot ≡ ((n - merged - cached) - held.noslot) - less.noslot → out.fault ≡ (cached - held.fault) - less.fault
+    → out.locked ≡ locked - less.locked → out.ksm ≡ (merged - held.ksm) - less.ksm → out ≡ out_of m sp l
+counts-are m sp l out held less n merged cached locked fs are frames is holds many takes adds pinned noslot fault held_back ksm = λ i. record {
   pinned = pinned i;
-  noslot = (noslot ∙ (λ j. (frames j - is j - holds j) - (adds j).noslot) ∙ sym are.noslot) i;
-  fault = (fault ∙ (λ j. holds j - (adds j).fault) ∙ sym are.fault) i;
-  locked = (locked ∙ sym are.locked) i;
-  ksm = (ksm ∙ (λ j. is j - (adds j).ksm) ∙ sym are.ksm) i;
+  noslot = (noslot ∙ (λ j. (frames j - is j - holds j) - (takes j).noslot - (adds j).noslot) ∙ sym are.noslot) i;
+  fault = (fault ∙ (λ j. (holds j - (takes j).fault) - (adds j).fault) ∙ sym are.fault) i;
+  locked = (held_back ∙ (λ j. many j - (adds j).locked) ∙ sym are.locked) i;
+  ksm = (ksm ∙ (λ j. (is j - (takes j).ksm) - (adds j).ksm) ∙ sym are.ksm) i;
 }
 
 -- ---- turns that would change nothing

@@ -1,6 +1,7 @@
 -- What a pass finds of a frame, each decided once: the first of five that it is.
 use Rattle.std.specs.Prelude.{ℕ, Bool, true, false, is_none, nat_lt, if◌then◌else◌, None, Some}
-use Rattle.std.specs.Prelude.{Option, is_some, not, ◌||◌}
+use Rattle.std.specs.Prelude.{Option, is_some, not, ◌||◌, ◌&&◌, List}
+use Rattle.av_base.specs.Words.{how_many}
 use Rattle.av_trace.specs.declared.reply.OutOf.{OutOf}
 use Rattle.av_plain.specs.Ledger.{Ledger, Setting, is_merged, no_slot, slot_of}
 use Rattle.av_plain.specs.Pass.{Spared, how_many_frames, is_pinned}
@@ -43,6 +44,16 @@ adds_unpinned m spared l (Some p) = numbers_of (if nat_lt p m.frames
 
 abbrev pub pinned_adds : Setting → Spared → Ledger → OutOf
 pinned_adds m spared l = adds_unpinned m spared l spared.pinned
+
+-- what frames would add if they were neither pinned nor locked
+abbrev pub unspared_adds : Ledger → List ℕ → OutOf
+unspared_adds l fs = record {
+  pinned = 0;
+  noslot = how_many (λ f. not (is_merged l f) && is_none (slot_of l f)) fs;
+  fault = how_many (λ f. not (is_merged l f) && is_some (slot_of l f)) fs;
+  locked = 0;
+  ksm = how_many (is_merged l) fs;
+}
 
 -- how many frames are cached, and how many are merged
 abbrev pub cached_count : Setting → Ledger → ℕ

@@ -1,7 +1,7 @@
 //! A memory system in single steps, each known by what it does to the ledger.
 
 ghost use Rattle.std.specs.Prelude.{◌≡◌, ◌<◌, ◌∷◌, ◌++◌, [], length, ℕ, List, not, ◌==◌, reverse};
-ghost use Rattle.std.specs.Prelude.{slice_get, OnOk, Some, MatchOption, false, true, Bool};
+ghost use Rattle.std.specs.Prelude.{slice_get, IfOk, OnOk, Some, MatchOption, false, true, Bool};
 ghost use Rattle.av_base.specs.Words.{is_in};
 ghost use Rattle.av_base.specs.declared.slot.Slot.{Slot};
 ghost use Rattle.av_trace.specs.declared.note.Note.TheVariants.{Aged, Dropped, Kept, Started};
@@ -16,6 +16,7 @@ ghost use Rattle.av_evict.specs.Standing.{cached_count, merged_count};
 ghost use Rattle.av_evict.specs.Steps.{IsCachedAt, IsFirst, IsUsed, MayDrop, MayPut, MayStart};
 ghost use Rattle.av_evict.specs.Steps.{MayUnmap, notes_of_end, put_notes, referenced_notes};
 ghost use Rattle.av_evict.specs.System.{Always, Knows, Makes, Leaves, SystemView, Tells};
+ghost use Rattle.av_evict.specs.System.{locked_frames_of};
 
 use av_base::Slot;
 use av_trace::Cause;
@@ -70,11 +71,11 @@ pub trait System {
         requires stands { Knows (view self.now false) Always }
         ensures { (told : Bool) → result ≡ (view self.now told).locked frame };
 
-    /// Whether a frame may be locked: where this says no, none is.
-    fn any_locked(&self) -> bool
+    /// The frames of locked pages, rising. Where no area is locked it takes no memory.
+    fn locked_frames(&self) -> Result<Vec<u32>, AllocError>
         requires { Knows (view self.now false) Always }
-        ensures { (told : Bool) → result ≡ false → (f : ℕ) → (view self.now told).locked f
-            ≡ false };
+        ensures { IfOk result (λ frames. (told : Bool) → frames.items
+            ≡ locked_frames_of (view self.now told)) };
 
     /// Whether pages with equal bytes share the frame.
     fn is_merged(&self, frame: u32) -> bool

@@ -16,6 +16,7 @@ pub mod EntryCounts
 pub mod ItemLaws
 pub mod LockedLaws
 pub mod Locks
+pub mod LockedFrames
 pub mod PagesGone
 pub mod ZapRange
 pub mod EntryGoes

@@ -52,7 +52,7 @@ same-page a page h = grind (arith, nat_tests, h)
 later-page : (a n page : ℕ) → (a == page) ≡ false → within a (suc n) page ≡ true → within (a + 1) n page ≡ true
 later-page a n page other h = grind (arith, nat_tests, other, h)
 
-on-range : (test : ℕ → Bool) (page a n : ℕ) → within a n page ≡ true → test page ≡ true → list_any test (range_with_len a n) ≡ true
+pub on-range : (test : ℕ → Bool) (page a n : ℕ) → within a n page ≡ true → test page ≡ true → list_any test (range_with_len a n) ≡ true
 on-range test page a zero here is = absurd (none-within a page here)
 on-range test page a (suc n) here is = by (on-range test page (a + 1) n) (a == page) refl
   where

@@ -1,7 +1,7 @@
 -- Which frames are those of locked pages, by a look at each page of each area.
 use Rattle.std.specs.Prelude.{ℕ, ◌-◌, Bool, ◌&&◌, List}
 use Rattle.std.specs.List.{list_any, range_with_len}
-use Rattle.av_pagetable.specs.Entries.{entry_at}
+use Rattle.av_pagetable.specs.Entries.{ProcessTables, entry_at}
 use Rattle.av_rmap.specs.Walk.{names_frame}
 use Rattle.av_spaces.specs.Spaces.{Spaces, pages_of}
 use Rattle.av_vma.specs.Areas.{is_locked}
@@ -27,3 +27,7 @@ is_locked_at k f p page =
 -- the frames of locked pages
 unfoldable pub locked_by : Mem → ℕ → Bool
 locked_by k f = in_any_area (is_locked_at k f) k.spaces.processes
+
+-- whether an entry of the area's pages names the frame
+abbrev pub is_frame_of : ProcessTables → ℕ → Area → Bool
+is_frame_of tables f area = on_any_page (λ page. names_frame f (entry_at tables area.pid page)) area

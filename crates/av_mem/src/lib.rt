@@ -11,7 +11,9 @@
 //!
 //! Entries are found from a frame's home, and those of a merged frame from its items: `walk`,
 //! `is_locked` and `unsee` serve each frame. `unmap` and `namers` go by the home alone, since a
-//! merged frame is never cached.
+//! merged frame is never cached. `locked_frames` goes the other way: by the areas that are locked
+//! and the entries of their pages, to the frames. Proved: they are those that have a locked page,
+//! each once, rising; and where it finds no memory, an area is locked.
 //!
 //! `entries` has the calls through which entries of frames and slots come and go: they keep the
 //! counts. Beside them only the steps of swap change how many entries name a frame or a slot, and
@@ -31,9 +33,9 @@
 //! with the number of its steps. It is one call of av_rmap's `walk_frame` or `walk_merged`, which
 //! look through the trait `Look` alone, no more often than they take steps. Not proved: that
 //! nothing which holds a `Mem`, `walk` among it, asks the tables past that trait; and how often
-//! `unmap`, `unsee`, `is_locked` and `namers` look, whose steps nobody counts. `unsee` does not
-//! look where the tables have a mark that no entry of the frame is seen, and leaves one: that there
-//! ever is one is not proved either.
+//! `unmap`, `unsee`, `is_locked`, `locked_frames` and `namers` look, whose steps nobody counts.
+//! `unsee` does not look where the tables have a mark that no entry of the frame is seen, and leaves
+//! one: that there ever is one is not proved either.
 #![tactic(auto)]
 
 mod cache;

@@ -54,8 +54,8 @@ impl<'a, D: SwapDev> System for Driver<'a, D> {
         self.mem.is_locked(frame)
     }
 
-    fn any_locked(&self) -> bool {
-        self.mem.spaces.by_number().any_locked()
+    fn locked_frames(&self) -> Result<Vec<u32>, AllocError> {
+        self.mem.locked_frames()
     }
 
     fn is_merged(&self, frame: u32) -> bool {
