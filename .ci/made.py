@@ -54,7 +54,6 @@ CARRIERS = {
     "av_judge": "seeks takes fetches swaps_in completes judges_complete judges_age "
     "judges_reclaim judges_exit judges_munmap",
     "av_command_laws": "the_greatest_goes_to_the_least the_runs_are_one",
-    "av_lock_laws": "completions_spare_frames passes_spare_frames reclaims_spare_frames",
     "av_report_judge": "judges_entry judges_maps judges_rmap judges_slot judges_stat",
     "av_area_judge": "judges_areas",
     "av_ranges": "Ranges Marks Change Range",
