@@ -44,7 +44,8 @@ CARRIERS = {
     "compactions_take_the_lowest_frames numbers_add_up replies_are_determined "
     "replies_of_runs_are_read_back texts_of_runs_say_replies runs_lay_areas runs_cover_entries",
     "av_audit_laws": "replies_tell_events units_leave_one transcripts_are_judged",
-    "av_lock_laws": "completions_spare_frames passes_spare_frames reclaims_spare_frames",
+    "av_lock_laws": "frames_stay_over_completions frames_stay_over_passes "
+    "frames_stay_over_reclaims",
     "av_index": "Holders",
     "av_queue": "Queue",
     "av_pages": "Pages",
@@ -53,7 +54,6 @@ CARRIERS = {
     "av_judge": "seeks takes fetches swaps_in completes judges_complete judges_age "
     "judges_reclaim judges_exit judges_munmap",
     "av_command_laws": "the_greatest_goes_to_the_least the_runs_are_one",
-    "av_lock_laws": "completions_spare_frames passes_spare_frames reclaims_spare_frames",
     "av_report_judge": "judges_entry judges_maps judges_rmap judges_slot judges_stat",
     "av_area_judge": "judges_areas",
     "av_ranges": "Ranges Marks Change Range",

@@ -6,9 +6,8 @@
 //! and the unit ends. Its parts: a page whose entry is a slot comes in, or is kept out; a page that
 //! is here gets what it needs, or no frame can be had for it; its slot is dropped where that is
 //! needed no more. What a pass spares is what the definitions say (`sparing`). It is asked of the
-//! memories as the pass goes: so a locked page costs something only where a pass comes to its
-//! frame, and where the numbers of an out-of-memory count it. These costs are read off the code,
-//! and no clause says them. Which bytes a page holds is not asked here, nor what the answer says.
+//! memories as the pass goes (`av_judge`). Which bytes a page holds is not asked here, nor what the
+//! answer says.
 //!
 //! Only tested: nothing.
 #![tactic(auto)]

@@ -1,9 +1,9 @@
 -- The set of merged frames has the members of their list.
-use Rattle.std.proofs.Common.{◌≡◌, ℕ, ◌==◌, Bool, true, false, cond, not, ◌&&◌, ◌||◌, List, [], ◌∷◌, map, refl, sym, ap, ◌∙◌, arith}
+use Rattle.std.proofs.Common.{◌≡◌, ℕ, ◌==◌, absurd, Bool, true, false, cond, not, ◌&&◌, ◌||◌, List, [], ◌∷◌, map, refl, sym, ap, ◌∙◌, arith}
 use Rattle.std.specs.Prelude.{Result, Ok, Err, OnErr, OnOk}
 use Rattle.std.specs.BTreeMap.{is_at}
 use Rattle.std.specs.Ordering.{nat_cmp}
-use Rattle.std.proofs.lemmas.Bool.{eqb-true}
+use Rattle.std.proofs.lemmas.Bool.{eqb-true, false≢true}
 use Rattle.std.proofs.lemmas.Bool.Decides.{nat_tests}
 use Rattle.std.proofs.lemmas.Map.Views.{any-filter_same}
 use Rattle.av_base.specs.Words.{is_in, renamed, without}
@@ -19,6 +19,15 @@ without-is xs f g = any-filter_same (λ y. f == y) (λ y. not (g == y)) (not (g 
     by : (f g : ℕ) (b : Bool) → (not (g == f) && b) ≡ cond (is_at (nat_cmp g) f) false b
     by f g true = grind (arith, nat_tests)
     by f g false = grind (arith, nat_tests)
+
+-- where it isn't there, all stay
+pub none-without : (g : ℕ) (xs : List ℕ) → is_in g xs ≡ false → without g xs ≡ xs
+none-without g [] none = refl
+none-without g (x ∷ xs) none = by (g == x) none
+  where
+    by : (b : Bool) → (b || is_in g xs) ≡ false → cond (not b) (x ∷ without g xs) (without g xs) ≡ x ∷ xs
+    by true h = absurd (false≢true (sym h))
+    by false h = ap (λ ys. x ∷ ys) (none-without g xs h)
 
 -- ---- one gives its places to another
 

@@ -90,6 +90,10 @@ impl MergedFrames {
     pub fn remove(&mut self, frame: u32)
         ensures { self.new ≡ without frame self.old }
     {
+        // Mostly it isn't merged, and often no frame is.
+        if !self.contains(frame) {
+            return;
+        }
         self.frames.remove(frame);
         self.numbers.remove(&frame);
     }

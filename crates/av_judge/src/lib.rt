@@ -12,9 +12,9 @@
 //! memory a book may have followed a part of a note.
 //!
 //! Whether a frame is of a locked page is asked of the memories when it is come to: no step of a
-//! pass or a reclaim changes that. So a locked page costs nothing where no pass comes to its frame,
-//! and where no frame can go at all none is looked at. These costs are read off the code, and no
-//! clause says them.
+//! pass or a reclaim changes that. The entries of the frame are asked then, where some process has
+//! a locked page; else none is, and no frame is looked at where none can go. These costs are read
+//! off the code, and no clause says them.
 //!
 //! Units of other commands are not judged here.
 //!

@@ -8,4 +8,4 @@
 
 mod locks;
 
-pub use locks::{completions_spare_frames, passes_spare_frames, reclaims_spare_frames};
+pub use locks::{frames_stay_over_completions, frames_stay_over_passes, frames_stay_over_reclaims};

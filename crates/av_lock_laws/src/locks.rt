@@ -11,20 +11,20 @@ ghost use Rattle.av_plain.specs.Reclaim.{Outcomes};
 ghost use Rattle.av_lock_laws.specs.Locks.{has_page};
 
 /// Where writes end, the frames of some pages stay the frames of these pages.
-pub fn completions_spare_frames()
+pub fn frames_stay_over_completions()
     ensures { (test : Key → Bool) (l : Ledger) (slots : List Slot) (notes : List Note)
         → Completes l slots notes → has_page test (after_notes l notes) ≡ has_page test l }
 {}
 
 /// So they do over a direct pass that spares them.
-pub fn passes_spare_frames()
+pub fn frames_stay_over_passes()
     ensures { (test : Key → Bool) (m : Setting) (spared : Spared) (l : Ledger)
         (notes : List Note) → spared.locked ≡ has_page test l → IsPass m spared l notes
         → has_page test (after_notes l notes) ≡ has_page test l }
 {}
 
 /// And over a reclaim of any frames that spares them.
-pub fn reclaims_spare_frames()
+pub fn frames_stay_over_reclaims()
     ensures { (test : Key → Bool) (m : Setting) (spared : Spared) (l : Ledger)
         (frames : List ℕ) (notes : List Note) → spared.locked ≡ has_page test l
         → Outcomes m spared l frames notes

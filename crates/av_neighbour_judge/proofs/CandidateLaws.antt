@@ -31,49 +31,23 @@ none-above memories w k h high = by (get nat_cmp memories.spaces k.0) refl
 
 -- ---- a page whose entry names a frame
 
-module _ (w : World) (l : Ledger) (k : Key) (f : ℕ) (seen : Bool) (o : Option Entry) (is : Some (InFrame f seen) ≡ o) where
-  abbrev may_join : Bool
-  may_join = may_merge (pages w k.0 k.1) && not (is_merged l f) && is_none (slot_of l f) && not (is_locked w l f)
-
-  by-test : candidate_by w l k o ≡ cond may_join (Some f) None
-  by-test = ap (candidate_by w l k) (sym is)
+module _ (w : World) (l : Ledger) (k : Key) (f : ℕ) (seen : Bool) (o : Option Entry) (is : Some (InFrame f seen) ≡ o) (may : Bool)
+    (asked : may ≡ (may_merge (pages w k.0 k.1) && not (is_merged l f) && is_none (slot_of l f))) where
+  by-test : (locked : Bool) → is_locked w l f ≡ locked → candidate_by w l k o ≡ cond (may && not locked) (Some f) None
+  by-test locked e = ap (candidate_by w l k) (sym is) ∙ (λ i. cond (sym asked i && not (e i)) (Some f) None)
 
   -- it is a candidate
-  pub joins : may_merge (pages w k.0 k.1) ≡ true → is_merged l f ≡ false → is_none (slot_of l f) ≡ true → is_locked w l f ≡ false
-      → Some f ≡ candidate_by w l k o
-  joins may apart uncached free = sym (by-test ∙ (λ i. cond (may i && not (apart i) && uncached i && not (free i)) (Some f) None))
+  pub joins : may ≡ true → is_locked w l f ≡ false → Some f ≡ candidate_by w l k o
+  joins yes' free = sym (by-test false free ∙ ap (λ b. cond (b && true) (Some f) None) yes')
 
-  -- or it isn't
-  pub stays : may_join ≡ false → None ≡ candidate_by w l k o
-  stays no' = sym (by-test ∙ ap (λ b. cond b (Some f) None) no')
+  -- or isn't, by itself
+  pub stays : may ≡ false → None ≡ candidate_by w l k o
+  stays no' = sym (by-test (is_locked w l f) refl ∙ ap (λ b. cond (b && not (is_locked w l f)) (Some f) None) no')
 
-  -- of a locked page
+  -- or since it has a locked page
   pub stays-locked : is_locked w l f ≡ true → None ≡ candidate_by w l k o
-  stays-locked locked = stays (ap (λ b. may_merge (pages w k.0 k.1) && not (is_merged l f) && is_none (slot_of l f) && not b) locked
-      ∙ last (may_merge (pages w k.0 k.1) && not (is_merged l f) && is_none (slot_of l f)))
+  stays-locked locked = sym (by-test true locked ∙ none may)
     where
-      last : (b : Bool) → (b && false) ≡ false
-      last true = refl
-      last false = refl
-
-  -- a cached one
-  pub stays-cached : is_none (slot_of l f) ≡ false → None ≡ candidate_by w l k o
-  stays-cached cached = stays (ap (λ b. may_merge (pages w k.0 k.1) && not (is_merged l f) && b && not (is_locked w l f)) cached
-      ∙ third (may_merge (pages w k.0 k.1) && not (is_merged l f)) (not (is_locked w l f)))
-    where
-      third : (a b : Bool) → (a && false && b) ≡ false
-      third true b = refl
-      third false b = refl
-
-  -- a merged one
-  pub stays-merged : is_merged l f ≡ true → None ≡ candidate_by w l k o
-  stays-merged merged = stays (ap (λ b. may_merge (pages w k.0 k.1) && not b && is_none (slot_of l f) && not (is_locked w l f)) merged
-      ∙ second (may_merge (pages w k.0 k.1)) (is_none (slot_of l f)) (not (is_locked w l f)))
-    where
-      second : (a b c : Bool) → (a && false && b && c) ≡ false
-      second true b c = refl
-      second false b c = refl
-
-  -- where the page may not be merged
-  pub stays-unadvised : may_merge (pages w k.0 k.1) ≡ false → None ≡ candidate_by w l k o
-  stays-unadvised none = stays (ap (λ b. b && not (is_merged l f) && is_none (slot_of l f) && not (is_locked w l f)) none)
+      none : (b : Bool) → cond (b && false) (Some f) None ≡ None
+      none true = refl
+      none false = refl

@@ -5,9 +5,6 @@ use Rattle.std.specs.Prelude.{IfSome, [], option_and_then, option_map, slice_ind
 use Rattle.std.specs.BTreeMap.{get}
 use Rattle.std.specs.List.{list_all, range_with_len}
 use Rattle.std.specs.Ordering.{nat_cmp}
-use Rattle.std.specs.declared.alloc.Global.{Global}
-use Rattle.std.specs.declared.vec.Vec.{Vec}
-use Rattle.std.proofs.lemmas.Bool.{ne_eqb}
 use Rattle.std.proofs.lemmas.Bool.Decides.{nat_tests}
 use Rattle.av_base.specs.Keys.{Key}
 use Rattle.av_base.specs.Page.{page_size}

@@ -12,7 +12,7 @@ use Rattle.av_trace.specs.declared.note.Note.{Note}
 use Rattle.av_trace.specs.declared.note.Note.TheVariants.{Joined, Shared}
 use Rattle.av_plain.specs.Event.{after_note, after_notes, change_frame}
 use Rattle.av_plain.specs.Ledger.{Entry, InFrame, Ledger, Setting, entry, is_merged, names_frame}
-use Rattle.av_plain.specs.Merge.{FrameBytes, candidate, hold_same, join_notes, merge_notes, merged_like, other_like}
+use Rattle.av_plain.specs.Merge.{FrameBytes, hold_same, join_notes, merge_notes, merged_like, other_like}
 use Rattle.av_plain.specs.Sound.{AllSound, mergings}
 use Rattle.av_plain.specs.World.{World}
 use Rattle.av_plain.proofs.Event.{changed-by}
@@ -20,12 +20,9 @@ use Rattle.av_plain.proofs.Ledger.{entry-set}
 use Rattle.av_plain.proofs.Ledger.NoSwap.{key_at-address}
 use Rattle.av_plain.proofs.Sound.Changes.{any-counts}
 use Rattle.av_plain.proofs.Sound.Counts.{same-is, same-itself, same-turned}
-use Rattle.av_plain.proofs.Sound.Frames.{IsCandidate, candidate-is, found-is, found-none, holds-itself, in_range-is, merged-joined, same-then, split}
+use Rattle.av_plain.proofs.Sound.Frames.{IsCandidate, found-is, found-none, in_range-is, merged-joined, same-then, split}
 use Rattle.av_plain.proofs.Sound.Means.{says}
-use Rattle.av_neighbour_judge.specs.Contents.{AreKept}
 use Rattle.av_neighbour_judge.specs.Known.{AreInRange, Knows, MayJoin, Waits, first_like, known_at_first, turn_notes}
-use Rattle.av_neighbour_judge.specs.Merging.{HasTurned, IsAware}
-use Rattle.av_neighbour_judge.specs.declared.contents.Contents.{Contents}
 
 none-some : {A : Type 0} (x : A) → None ≡ Some x → ⊥
 none-some x e = cc

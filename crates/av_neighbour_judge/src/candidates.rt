@@ -1,7 +1,8 @@
 //! Which pages are candidates.
 
-ghost use Rattle.std.specs.Prelude.{◌≡◌, ◌<◌, IfOk, IfSome, map, true};
+ghost use Rattle.std.specs.Prelude.{◌≡◌, ◌&&◌, ◌<◌, IfOk, IfSome, is_none, map, not, true};
 ghost use Rattle.av_base.specs.Limits.{top_page};
+ghost use Rattle.av_plain.specs.Ledger.{is_merged, slot_of};
 ghost use Rattle.av_plain.specs.Merge.{candidate as candidate_in, may_merge as may_merge_by};
 ghost use Rattle.av_plain.specs.World.{World, pages};
 ghost use Rattle.av_book.specs.Book.{ledger_of};
@@ -39,6 +40,16 @@ fn may_merge(memories: &Memories, key: (u16, u64)) -> bool
     }
 }
 
+/// Whether a page may be merged, and a frame is neither merged nor cached.
+fn may_join(book: &Book, memories: &Memories, key: (u16, u64), frame: u32) -> bool
+    ensures below { result ≡ true → key.1 < top_page }
+    ensures may { (w : World) → IsWorld memories.now w → result ≡ (may_merge_by (pages w key.0 key.1)
+        && not (is_merged (ledger_of book.now) frame)
+        && is_none (slot_of (ledger_of book.now) frame)) }
+{
+    may_merge(memories, key) && !book.is_merged(frame) && book.slot_of(frame).is_none()
+}
+
 /// The frame of a page, if it may join another.
 pub fn candidate(
     book: &Book,
@@ -51,11 +62,7 @@ pub fn candidate(
 {
     match book.entry(key.0, key.1) {
         Some(Entry::InFrame { frame, .. }) => {
-            if may_merge(memories, key)
-                && !book.is_merged(frame)
-                && book.slot_of(frame).is_none()
-                && !book.is_locked(memories, frame)?
-            {
+            if may_join(book, memories, key, frame) && !book.is_locked(memories, frame)? {
                 Ok(Some(frame))
             } else {
                 Ok(None)

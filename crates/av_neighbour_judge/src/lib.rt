@@ -9,8 +9,8 @@
 //! A compaction looks at each frame once or twice. A merge goes over all frames once, lists all
 //! pages that have an entry, and goes over these twice. It compares the bytes that are kept of each
 //! page with those of its frame. For each page that may be merged it looks at the entries of its
-//! frame, and seeks its bytes among those of the frames that are merged or were candidates, which
-//! stand in order.
+//! frame, if some process has a locked page, and seeks its bytes among those of the frames that are
+//! merged or were candidates, which stand in order.
 //!
 //! Only tested: nothing.
 #![tactic(auto)]

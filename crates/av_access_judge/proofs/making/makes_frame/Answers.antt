@@ -1,4 +1,4 @@
-use Rattle.std.proofs.Common.{None, Some, inl, inr, refl, ap, ◌∙◌}
+use Rattle.std.proofs.Common.{None, Some, inr, refl, ap, ◌∙◌}
 use Rattle.av_plain.specs.Fault.{sparing}
 use Rattle.av_book.specs.Book.{ledger_of}
 use Rattle.av_book.specs.Machine.{setting_of}

@@ -1,4 +1,4 @@
-use Rattle.std.proofs.Common.{inl, inr, true, false, Option, Some, None, refl, sym, ap, subst, ◌∙◌}
+use Rattle.std.proofs.Common.{inl, inr, true, false, Some, None, refl, sym, ap, subst, ◌∙◌}
 use Rattle.av_plain.specs.Ledger.{slots_in_use}
 use Rattle.av_plain.specs.Swapoff.{Closed, NoRoom, Unread, sparing_area}
 use Rattle.av_book.specs.Book.{ledger_of}
@@ -11,7 +11,6 @@ use Rattle.av_judge.proofs.FetchLaws.{some-left}
 use Rattle.av_swapoff_judge.specs.Close.{AreEmptied, IsWhole}
 use Rattle.av_swapoff_judge.specs.Empty.{Empties, IsStuck, emptied_of}
 use Rattle.av_book.specs.Filters.{IsFirst}
-use Rattle.av_swapoff_judge.specs.declared.emptying.Emptying.{Emptying}
 use Rattle.av_swapoff_judge.proofs.CloseLaws.{emptied-halt, emptied-more, emptied-neither, emptied-over, emptied-then, none-left}
 use Rattle.av_swapoff_judge.proofs.SparedLaws.{empties-as, starved-out}
 use Rattle.av_swapoff_judge.proofs.closing.empties_all.Goals as goal

@@ -1,5 +1,5 @@
 use Rattle.av_lock_laws.proofs.PassLaws.{has_page-pass}
-use Rattle.av_lock_laws.proofs.locks.passes_spare_frames.Goals as goal
+use Rattle.av_lock_laws.proofs.locks.frames_stay_over_passes.Goals as goal
 
 pub returns : goal.returns
 returns c = has_page-pass
