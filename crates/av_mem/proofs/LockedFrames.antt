@@ -1,5 +1,5 @@
 -- The frames of locked areas' entries are those of locked pages.
-use Rattle.std.proofs.Common.{◌≡◌, ℕ, zero, suc, ◌+◌, ◌-◌, ◌<◌, ◌≤◌, ◌==◌, ◌&&◌, ◌||◌, inl, inr, ◌⊎◌, Bool, true, false, cond, List, [], ◌∷◌, length, MatchBool, Option, Some, None, refl, sym, ap, subst, ◌∙◌, arith}
+use Rattle.std.proofs.Common.{◌≡◌, ℕ, zero, suc, ◌+◌, ◌-◌, ◌<◌, ◌≤◌, ◌==◌, ◌&&◌, ◌||◌, inl, inr, ◌⊎◌, Bool, true, false, cond, List, [], ◌∷◌, length, MatchBool, Option, refl, sym, ap, ◌∙◌, arith}
 use Rattle.std.proofs.lemmas.Bool.{cases_lt, false≢true}
 use Rattle.std.proofs.lemmas.Bool.Decides.{nat_tests}
 use Rattle.std.specs.BTreeMap.{is_at}
@@ -7,17 +7,13 @@ use Rattle.std.specs.List.{list_any, range_with_len}
 use Rattle.std.specs.Ordering.{nat_cmp}
 use Rattle.av_base.specs.Words.{is_in, within}
 use Rattle.av_pagetable.specs.Entries.{entry_at}
-use Rattle.av_pagetable.specs.Table.{IsFirst}
 use Rattle.av_pagetable.specs.declared.pte.Pte.{Pte}
-use Rattle.av_pagetable.specs.declared.pte.Pte.TheVariants.{Empty}
-use Rattle.av_rmap.specs.Locked.{IsLocked}
 use Rattle.av_rmap.specs.Walk.{names_frame}
-use Rattle.av_spaces.specs.Locked.{AreLockedAreas, PassesLocked}
+use Rattle.av_spaces.specs.Locked.{AreLockedAreas}
 use Rattle.av_vma.specs.Areas.{area_of, is_locked}
 use Rattle.av_vma.specs.Index.{first_of, past_of}
-use Rattle.av_vma.specs.Pages.{has_page}
 use Rattle.av_vma.specs.declared.area.Area.{Area}
-use Rattle.av_mem.specs.Chains.{HasLocked, reach}
+use Rattle.av_mem.specs.Chains.{HasLocked}
 use Rattle.av_mem.specs.Locked.{is_frame_of}
 use Rattle.av_mem.specs.declared.mem.Mem.{Mem}
 use Rattle.av_mem.proofs.Locks.{on-range}

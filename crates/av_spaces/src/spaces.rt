@@ -484,8 +484,8 @@ impl Spaces {
         areas_at(self.alloc, &self.areas, &spans)
     }
 
-    /// The locked areas of all processes. Where none is locked it looks at none, and takes no memory;
-    /// else it takes time linear in the number of all areas.
+    /// The locked areas of all processes. Where none is locked it looks at none, and takes no
+    /// memory; else it takes time linear in the number of all areas.
     pub fn locked_areas(&self) -> Result<Vec<Area>, AllocError>
         ensures areas { IfOk result (λ areas. AreLockedAreas self.now.areas areas.items) }
         ensures some { OnErr result ((number : ℕ)

@@ -1,6 +1,6 @@
 use Rattle.std.proofs.Common.{◌||◌, ◌∙◌, ap, sym}
 use Rattle.av_rmap.specs.Walk.{names_frame}
-use Rattle.av_mem.proofs.LockedFrames.{frame-comes, none-comes}
+use Rattle.av_mem.proofs.LockedFrames.{frame-comes}
 use Rattle.std.specs.BTreeSet.{contains}
 use Rattle.std.specs.Ordering.{nat_cmp}
 use Rattle.av_mem.proofs.locked.add_frame.Goals as goal
