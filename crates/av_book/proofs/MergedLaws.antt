@@ -1,5 +1,5 @@
 -- The set of merged frames has the members of their list.
-use Rattle.std.proofs.Common.{◌≡◌, ℕ, ◌==◌, absurd, Bool, true, false, cond, not, ◌&&◌, ◌||◌, List, [], ◌∷◌, map, refl, sym, ap, ◌∙◌, arith}
+use Rattle.std.proofs.Common.{◌≡◌, ℕ, ◌==◌, Bool, true, false, cond, not, ◌&&◌, ◌||◌, List, [], ◌∷◌, map, refl, sym, ap, ◌∙◌, arith}
 use Rattle.std.specs.Prelude.{Result, Ok, Err, OnErr, OnOk}
 use Rattle.std.specs.BTreeMap.{is_at}
 use Rattle.std.specs.Ordering.{nat_cmp}
@@ -23,11 +23,12 @@ without-is xs f g = any-filter_same (λ y. f == y) (λ y. not (g == y)) (not (g 
 -- where it isn't there, all stay
 pub none-without : (g : ℕ) (xs : List ℕ) → is_in g xs ≡ false → without g xs ≡ xs
 none-without g [] none = refl
-none-without g (x ∷ xs) none = by (g == x) none
+none-without g (x ∷ xs) none = by (g == x) none (none-without g xs)
   where
-    by : (b : Bool) → (b || is_in g xs) ≡ false → cond (not b) (x ∷ without g xs) (without g xs) ≡ x ∷ xs
-    by true h = absurd (false≢true (sym h))
-    by false h = ap (λ ys. x ∷ ys) (none-without g xs h)
+    by : (b : Bool) → (b || is_in g xs) ≡ false → (is_in g xs ≡ false → without g xs ≡ xs)
+        → cond (not b) (x ∷ without g xs) (without g xs) ≡ x ∷ xs
+    by true h same = absurd (false≢true (sym h))
+    by false h same = ap (λ ys. x ∷ ys) (same h)
 
 -- ---- one gives its places to another
 

@@ -5,10 +5,10 @@ use Rattle.av_base.specs.Words.{is_in}
 use Rattle.av_book.proofs.MergedLaws.{none-without, without-is}
 use Rattle.av_book.proofs.merged.MergedFrames.remove.Goals as goal
 
-pub returns-then-not-contains-clause : goal.returns-then-not-contains-clause
-returns-then-not-contains-clause c =
+pub returns-then-not-contains : goal.returns-then-not-contains
+returns-then-not-contains c =
     sym (none-without c.args.frame c.args.self.now (sym c.contains.ensures ∙ c.if-not-contains.true))
 
-pub invariant_of-self-2 : goal.invariant_of-self-2
-invariant_of-self-2 c = λ f. c.remove-2.ensures.updates.0 f ∙ ap (cond (is_at (nat_cmp c.args.frame) f) false) (c.self.invariant f)
+pub invariant_of-self : goal.invariant_of-self
+invariant_of-self c = λ f. c.remove-2.ensures.updates.0 f ∙ ap (cond (is_at (nat_cmp c.args.frame) f) false) (c.self.invariant f)
     ∙ sym (without-is c.self.inside.frames f c.args.frame) ∙ ap (is_in f) (sym c.remove.ensures)
