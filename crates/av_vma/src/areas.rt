@@ -80,8 +80,9 @@ impl Areas {
         ensures { (number : ℕ) → area_of self.new number ≡ with_at id (Some area) (area_of self.old)
             number }
     {
-        let before = locked_without(self.locked, &self.slab[id as usize]);
-        self.slab[id as usize] = area;
+        let place = &mut self.slab[id as usize];
+        let before = locked_without(self.locked, place);
+        *place = area;
         self.locked = locked_with(before, &area, self.slab.len());
     }
 

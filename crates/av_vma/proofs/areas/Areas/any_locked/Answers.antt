@@ -1,6 +1,3 @@
-use Rattle.std.proofs.Common.{List, Option, ℕ, ◌≡◌, true, false, nat_lt, MatchBool, subst}
-use Rattle.av_vma.specs.Areas.{area_of, is_locked}
-use Rattle.av_vma.specs.declared.area.Area.{Area}
 use Rattle.av_vma.proofs.Locked.{count-says}
 use Rattle.av_vma.proofs.areas.Areas.any_locked.Goals as goal
 
