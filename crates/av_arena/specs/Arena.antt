@@ -22,6 +22,10 @@ abbrev pub on_other : {T S : Type 0} → Side → Stored T S → Option (Link S)
 on_other Left v = v.right
 on_other Right v = v.left
 
+abbrev pub opposite : Side → Side
+opposite Left = Right
+opposite Right = Left
+
 -- a node with another tree on a side
 abbrev pub with_side : {T S : Type 0} → Side → Option (Link S) → Stored T S → Stored T S
 with_side Left link v = record v { left = link }
