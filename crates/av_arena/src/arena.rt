@@ -58,7 +58,8 @@ impl<T: Copy + Drop, S: Copy + Drop> Arena<T, S> {
     pub(crate) fn add_leaf(&mut self, entry: T) -> Result<u32, AllocError>
         ensures unused { IfOk result (λ number. store_of self.old number ≡ None) }
         ensures added { IfOk result
-            (λ number. store_of self.new ≡ with_at number (Some (leaf_of entry)) (store_of self.old)) }
+            (λ number. store_of self.new
+            ≡ with_at number (Some (leaf_of entry)) (store_of self.old)) }
         ensures kept { OnErr result (store_of self.new ≡ store_of self.old) }
     {
         self.add_cell(Cell {
