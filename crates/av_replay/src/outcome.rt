@@ -5,6 +5,7 @@ ghost use Rattle.av_replay.specs.Replay.{kernel_at};
 
 use crate::status::Status;
 use av_kernel::Kernel;
+use std::alloc::Global;
 
 /// How a run ended, and the kernel that it leaves.
 #[derive(Drop)]
@@ -20,6 +21,25 @@ impl Outcome {
         ensures { result ≡ self.status }
     {
         self.status
+    }
+
+    /// The status alone, for a program that ends. The kernel isn't taken apart: the host takes all
+    /// its memory at once.
+    pub fn leave_kernel(self, alloc: Global) -> Status
+        ensures { result ≡ self.status }
+    {
+        let Outcome { status, kernel } = self;
+        if let Some(kernel) = kernel {
+            leave_to_host(alloc, kernel);
+        }
+        status
+    }
+}
+
+/// Leaves a value where it is for good. Without memory for its place it goes.
+fn leave_to_host<T: Drop>(alloc: Global, value: T) {
+    if let Ok(place) = Box::new(alloc, value) {
+        let _ = Box::into_raw_with_allocator(place);
     }
 }
 
