@@ -89,7 +89,6 @@ fn run_program(rt: &HostRuntime) -> Status {
     );
     // Where memory was wanting the load wasn't made to its end.
     meter.clear();
-    // Chains of a long run have a part for each link: to free them would take a tenth of its time.
     outcome.leave_kernel(rt.alloc())
 }
 
