@@ -66,7 +66,7 @@ module _ {T S : Type 0} (key : T → ℕ) (unit : S) (op : S → S → S) (of : 
   ])
 
   -- one node stands under a number
-  same_node : (s : Store T S) (n : ℕ) (v w : Stored T S) → s n ≡ Some v → s n ≡ Some w → v ≡ w
+  pub same_node : (s : Store T S) (n : ℕ) (v w : Stored T S) → s n ≡ Some v → s n ≡ Some w → v ≡ w
   same_node s n v w p q = let d : Some v ≡ Some w = sym p ∙ q in cc
 
   -- a node whose sides are level settles as it stands
@@ -252,6 +252,26 @@ module _ {T S : Type 0} (key : T → ℕ) (unit : S) (op : S → S → S) (of : 
     used = λ i h. j.used i (a.used i h);
   }
 
+  -- a node is put above its sides, and settles
+  put_above : (s t : Store T S) (n : ℕ) (w : Stored T S) → IsSpot key unit op of s n w.left w.right → t ≡ with_at n (Some w) s →
+      IsAbove key unit op of s t n w (entries_at s w.left ++ w.entry ∷ entries_at s w.right)
+      (λ j. is n j + (count_at s w.left j + count_at s w.right j)) none
+  put_above s t n w spot e = above_put s s t n w _ _ none spot e refl (λ j. omega arith) (λ j z. refl) (λ j u. u)
+
+  pub put_ready : (s t : Store T S) (n : ℕ) (w : Stored T S) → IsSpot key unit op of s n w.left w.right → t ≡ with_at n (Some w) s →
+      DifferByAtMost 2 (height_of w.left) (height_of w.right) → max (height_of w.left) (height_of w.right) < 210 → IsUnsettled key unit op of 2 t n
+  put_ready s t n w spot e level low =
+      let a = put_above s t n w spot e in record { node = w; stored = a.stored; spot = a.spot; level = level; low = low }
+
+  pub put_joined : (s t u : Store T S) (n : ℕ) (w : Stored T S) (k : Link S) → IsSpot key unit op of s n w.left w.right →
+      t ≡ with_at n (Some w) s → IsSettled key unit op of t u n k → IsJoined key unit op of s u n w.left w.entry w.right k
+  put_joined s t u n w k spot e set =
+      let a = put_above s t n w spot e in whole_above s t u n w k _ _ none a (set w a.stored).0
+
+  pub put_height : (s t u : Store T S) (n : ℕ) (w : Stored T S) (k : Link S) → IsSpot key unit op of s n w.left w.right →
+      t ≡ with_at n (Some w) s → IsSettled key unit op of t u n k → IsHeightAfter (height_of w.left) (height_of w.right) k.height
+  put_height s t u n w k spot e set = (set w (put_above s t n w spot e).stored).1
+
   pub done_settled : {Put : Type 0} (s t u : Store T S) (m m' : Link S) (b : Bool) (xs : List T) (f g : ℕ → ℕ) (lower higher : ℕ) →
       IsChanged key unit op of s t m b xs f g lower higher Put → IsSettled key unit op of t u m.number m' → IsDone s u m m' xs f g lower higher
   done_settled s t u m m' b xs f g lower higher c set =
@@ -319,7 +339,7 @@ module _ {T S : Type 0} (key : T → ℕ) (unit : S) (op : S → S → S) (of : 
     pub node : Stored T S
     pub stored : s n ≡ Some node
 
-  node_cases : (s : Store T S) (n : ℕ) (o : Option (Stored T S)) → s n ≡ o → IsSome o → IsNode s n
+  pub node_cases : (s : Store T S) (n : ℕ) (o : Option (Stored T S)) → s n ≡ o → IsSome o → IsNode s n
   node_cases s n None e u = absurd (both_ways false refl u)
   node_cases s n (Some v) e u = record { node = v; stored = e }
 
@@ -339,7 +359,7 @@ module _ {T S : Type 0} (key : T → ℕ) (unit : S) (op : S → S → S) (of : 
     pub number : link.number ≡ n
     pub is : on_side side v ≡ Some link
 
-  child_cases : (side : Side) (v : Stored T S) (n : ℕ) (l : Option (Link S)) → on_side side v ≡ l → number_of l ≡ Some n → IsChild side v n
+  pub child_cases : (side : Side) (v : Stored T S) (n : ℕ) (l : Option (Link S)) → on_side side v ≡ l → number_of l ≡ Some n → IsChild side v n
   child_cases side v n None e d = cc
   child_cases side v n (Some m) e d = record { link = m; number = cc; is = e }
 

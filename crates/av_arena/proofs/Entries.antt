@@ -1,6 +1,6 @@
 -- Which entry stands under each number: what a change of one node makes of that.
 use Rattle.std.proofs.Common.{◌≡◌, ℕ, Bool, true, false, cond, eqb, Option, Some, None, refl, sym, ap, ◌∙◌}
-use Rattle.std.proofs.lemmas.Bool.{eqb-true, ne_eqb}
+use Rattle.std.proofs.lemmas.Bool.{eqb-true}
 use Rattle.av_base.specs.Words.{with_at}
 use Rattle.av_arena.specs.Arena.{KeepsEntries, PutsEntry, entry_of, side_put}
 use Rattle.av_arena.specs.Tree.{Store}
@@ -47,13 +47,3 @@ module _ {T S : Type 0} where
 
   pub puts_keeps : (s t u : Store T S) (n : ℕ) (x : T) → PutsEntry s t n x → KeepsEntries t u → PutsEntry s u n x
   puts_keeps s t u n x p q j = q j ∙ p j
-
-  pub keeps_puts : (s t u : Store T S) (n : ℕ) (x : T) → KeepsEntries s t → PutsEntry t u n x → PutsEntry s u n x
-  keeps_puts s t u n x p q j = q j ∙ ap (cond (eqb j n) (Some x)) (p j)
-
-  -- another node gets the entry that it has
-  pub puts_other : (s t u : Store T S) (n m : ℕ) (x y : T) → PutsEntry s t n x → (m ≡ n → ⊥) → entry_of (s m) ≡ Some y → PutsEntry t u m y →
-      PutsEntry s u n x
-  puts_other s t u n m x y p other e q =
-      let stays : entry_of (t m) ≡ entry_of (s m) = p m ∙ rw (ne_eqb m n other) refl in
-      puts_keeps s t u n x p (put_own t u m y q (stays ∙ e))

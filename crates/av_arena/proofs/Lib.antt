@@ -3,6 +3,7 @@ pub mod BelowLemmas
 pub mod CellLemmas
 pub mod Entries
 pub mod JoinLemmas
+pub mod LiftLemmas
 pub mod Monoid
 pub mod Order
 pub mod Shallow

@@ -13,6 +13,10 @@ use Rattle.av_arena.specs.declared.link.Stored.{Stored}
 abbrev pub store_of : {T S : Type 0} → List (Option (Cell T S)) → Store T S
 store_of cells n = option_map node_in (slice_index_or cells n None)
 
+-- a node without sides
+abbrev pub leaf_of : {T S : Type 0} → T → Stored T S
+leaf_of x = record { left = None; entry = x; right = None }
+
 -- the tree on a side of a node, and the one on its other side
 abbrev pub on_side : {T S : Type 0} → Side → Stored T S → Option (Link S)
 on_side Left v = v.left
@@ -21,6 +25,10 @@ on_side Right v = v.right
 abbrev pub on_other : {T S : Type 0} → Side → Stored T S → Option (Link S)
 on_other Left v = v.right
 on_other Right v = v.left
+
+abbrev pub opposite : Side → Side
+opposite Left = Right
+opposite Right = Left
 
 -- a node with another tree on a side
 abbrev pub with_side : {T S : Type 0} → Side → Option (Link S) → Stored T S → Stored T S

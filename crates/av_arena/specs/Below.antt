@@ -2,7 +2,7 @@
 use Rattle.std.specs.Prelude.{◌≡◌, ℕ, ◌+◌, ◌<◌, ◌≤◌, max, None, Bool, true, false, IsSome}
 use Rattle.std.specs.Prelude.{Option, Some, List, ◌∷◌, ◌++◌}
 use Rattle.av_base.specs.Words.{with_at}
-use Rattle.av_arena.specs.Arena.{on_side, side_put}
+use Rattle.av_arena.specs.Arena.{on_other, on_side, side_put, with_side}
 use Rattle.av_arena.specs.Order.{NoneBetween, NoneWithin, with_entry, with_joined, with_two}
 use Rattle.av_arena.specs.Order.{without_key}
 use Rattle.av_arena.specs.declared.link.Link.{Link}
@@ -22,6 +22,11 @@ in_order Right xs x ys = ys ++ x ∷ xs
 abbrev pub AreOn : {T : Type 0} → (T → ℕ) → Side → T → T → T → Type 0
 AreOn key Left x y w = key y < key w
 AreOn key Right x y w = key w < key x
+
+-- so high at most are the sides of the node n that the height of a node above them is still told
+abbrev pub IsLow : {T S : Type 0} → Store T S → ℕ → Type 0
+IsLow {T = T} {S = S} s n =
+    (v : Stored T S) → s n ≡ Some v → max (height_of v.left) (height_of v.right) < 220
 
 -- the number that a link tells
 abbrev pub number_of : {S : Type 0} → Option (Link S) → Option ℕ
@@ -60,6 +65,23 @@ module _ {T S : Type 0} (key : T → ℕ) (unit : S) (op : S → S → S) (of : 
         height = max (height_of v.left) (height_of v.right) + 1;
         sum = op (sum_of unit v.left) (op (of v.entry) (sum_of unit v.right));
       }
+
+  -- the node n gets another tree on a side, and the link k tells it
+  abbrev pub IsClosed : Side → Store T S → Store T S → ℕ → Option (Link S) → Link S → Type 0
+  IsClosed side old new n l k =
+      (v : Stored T S) → old n ≡ Some v →
+      IsSet key unit op of old new n (with_side side l v).left v.entry (with_side side l v).right k
+
+  -- the node n with a side that is two levels too high: m is the root there
+  pub record IsLeaning (side : Side) (s : Store T S) (n m : ℕ) : Type 0 where
+    pub node : Stored T S
+    pub high : Link S
+    pub stored : s n ≡ Some node
+    pub spot : IsSpot key unit op of s n node.left node.right
+    pub is : on_side side node ≡ Some high
+    pub number : high.number ≡ m
+    pub two_higher : high.height ≡ height_of (on_other side node) + 2
+    pub low : high.height < 210
 
   -- the link k is what the node n becomes, which stays as it is where its sides are level
   abbrev pub IsSettled : Store T S → Store T S → ℕ → Link S → Type 0

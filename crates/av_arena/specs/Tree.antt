@@ -42,10 +42,6 @@ abbrev pub IsHeightAfter : ℕ → ℕ → ℕ → Type 0
 IsHeightAfter l r h =
     (max l r ≤ h) × (h ≤ max l r + 1) × (DifferByAtMost 1 l r → h ≡ max l r + 1)
 
--- whether the root m of what the node n with sides l and r settles to is the node itself
-abbrev pub IsRootAfter : ℕ → ℕ → ℕ → ℕ → Type 0
-IsRootAfter l r n m = (DifferByAtMost 1 l r → m ≡ n) × (m ≡ n → DifferByAtMost 1 l r)
-
 -- at each node the heights of the sides differ by one at most
 abbrev pub IsLevel : {T : Type 0} → Tree T → Type 0
 IsLevel Leaf = Unit {0}

@@ -10,7 +10,7 @@ ghost use Rattle.av_arena.specs.Monoid.{total};
 use crate::arena::Arena;
 use crate::cell::Twig;
 use crate::entry::Entry;
-use crate::link::{Link, Stored};
+use crate::link::Link;
 use crate::tree::{join, open_cell, place, remove, replace, split, sum_in};
 use std::alloc::{AllocError, Global};
 use std::marker::Model;
@@ -86,12 +86,7 @@ impl<T: Entry> Avl<T> {
         ensures entries { self.new ≡ (if is_ok result then with_entry T.key entry self.old else
             self.old) }
     {
-        let leaf = Stored {
-            left: None,
-            entry,
-            right: None,
-        };
-        let number = match self.arena.add(leaf) {
+        let number = match self.arena.add_leaf(entry) {
             Ok(number) => number,
             Err(error) => return Err(error),
         };
@@ -110,12 +105,7 @@ impl<T: Entry> Avl<T> {
         ensures entries { self.new ≡ (if is_ok result then with_two T.key lower upper self.old else
             self.old) }
     {
-        let leaf = Stored {
-            left: None,
-            entry: upper,
-            right: None,
-        };
-        let number = match self.arena.add(leaf) {
+        let number = match self.arena.add_leaf(upper) {
             Ok(number) => number,
             Err(error) => return Err(error),
         };

@@ -6,19 +6,20 @@
 //! A step to either side is one function, in line and called with a constant, so that no side is
 //! kept over the call below.
 
-ghost use Rattle.std.specs.Prelude.{◌≡◌, true, false, IsSome, MatchOption, None, Some};
+ghost use Rattle.std.specs.Prelude.{◌≡◌, ◌<◌, true, false, IsSome, MatchOption, None, Some};
 ghost use Rattle.av_arena.specs.Arena.{KeepsEntries, PutsEntry, store_of};
 ghost use Rattle.av_arena.specs.Below.{HasKeyBelow, IsAt, IsBeside, IsBetween, IsHung};
 ghost use Rattle.av_arena.specs.Below.{IsJoinBelowFor, IsJoinedBelow, IsLevelAt, IsPlaceBelow};
 ghost use Rattle.av_arena.specs.Below.{IsPlacedBelow, IsRemovedBelow, IsReplacedBelow, IsSettled};
 ghost use Rattle.av_arena.specs.Below.{IsSideFor, IsSideSettled, IsSideTaken, IsSplitBelow};
 ghost use Rattle.av_arena.specs.Below.{IsSplitBelowFor, IsTaken, IsTold, IsUnsettled, HasSide};
-ghost use Rattle.av_arena.specs.Below.{child_number};
+ghost use Rattle.av_arena.specs.Below.{IsClosed, IsLeaning, IsLow, child_number};
+ghost use Rattle.av_arena.specs.Tree.{height_of};
 
 use crate::arena::Arena;
 use crate::entry::Entry;
 use crate::link::{Link, Side, Stored};
-use crate::tree::{balance, close, is_same_link, pop_first, sum_in};
+use crate::tree::{close, height, is_same_link, pop_first, sum_at};
 
 /// The link that tells a node, whose sides differ by two levels at most: none where they are not
 /// level.
@@ -38,11 +39,7 @@ fn level_link<T: Entry>(arena: &Arena<T, T::Sum>, number: u32) -> Option<Link<T:
     Some(Link {
         number,
         height: left.max(right) + 1,
-        sum: T::join_sums(
-            sum_in::<T>(&cell.left),
-            &cell.entry,
-            sum_in::<T>(&cell.right),
-        ),
+        sum: sum_at::<T>(cell),
     })
 }
 
@@ -72,8 +69,72 @@ fn rotate<T: Entry>(arena: &mut Arena<T, T::Sum>, number: u32) -> Link<T::Sum>
     ensures other { result.number ≡ number → ⊥ }
     ensures kept { KeepsEntries (store_of arena.old) (store_of arena.new) }
 {
-    let Stored { left, entry, right } = arena.get(number);
-    balance(arena, number, left, entry, right)
+    let cell = arena.cell(number);
+    if cell.left.height() > cell.right.height() {
+        let Some(high) = cell.left.number() else {
+            unreachable!()
+        };
+        return lift(arena, number, high, Side::Left);
+    }
+    let Some(high) = cell.right.number() else {
+        unreachable!()
+    };
+    lift(arena, number, high, Side::Right)
+}
+
+/// Puts another tree on a side of a node, and tells the node anew.
+#[inline(always)]
+fn close_side<T: Entry>(
+    arena: &mut Arena<T, T::Sum>,
+    number: u32,
+    side: Side,
+    tree: Option<Link<T::Sum>>,
+) -> Link<T::Sum>
+    requires used { IsSome (store_of arena.old number) }
+    requires low { IsLow (store_of arena.old) number }
+    requires low_tree { height_of tree < 220 }
+    ensures closed { IsClosed T.key T.unit T.op T.of side (store_of arena.old) (store_of arena.new)
+        number tree result }
+    ensures kept { KeepsEntries (store_of arena.old) (store_of arena.new) }
+{
+    arena.set_side(number, side, tree);
+    let cell = arena.cell(number);
+    Link {
+        number,
+        height: cell.left.height().max(cell.right.height()) + 1,
+        sum: sum_at::<T>(cell),
+    }
+}
+
+/// What becomes of a node with a side that is two levels too high. The root there, `high`, goes
+/// above the node, which takes what lies between them. Where that is the higher part of the side,
+/// its own root goes above both, and they take its sides.
+///
+/// Only the sides that change are written, each where it lies, and no entry moves.
+#[inline(always)]
+fn lift<T: Entry>(arena: &mut Arena<T, T::Sum>, number: u32, high: u32, side: Side) -> Link<T::Sum>
+    requires { IsLeaning T.key T.unit T.op T.of side (store_of arena.old) number high }
+    ensures settled { IsSettled T.key T.unit T.op T.of (store_of arena.old) (store_of arena.new)
+        number result }
+    ensures other { result.number ≡ number → ⊥ }
+    ensures kept { KeepsEntries (store_of arena.old) (store_of arena.new) }
+{
+    let other = side.other();
+    let cell = arena.cell(high);
+    let between = cell.twig(other).link();
+    if height(between) <= cell.twig(side).height() {
+        let low = close_side(arena, number, side, between);
+        return close_side(arena, high, other, Some(low));
+    }
+    let Some(middle) = between else {
+        unreachable!()
+    };
+    let inner = arena.cell(middle.number);
+    let (near, far) = (inner.twig(side).link(), inner.twig(other).link());
+    let outer = close_side(arena, high, other, near);
+    let low = close_side(arena, number, side, far);
+    arena.set_side(middle.number, side, Some(outer));
+    close_side(arena, middle.number, other, Some(low))
 }
 
 /// Settles a side of a node, whose root is `child`, by a rotation.
@@ -282,7 +343,15 @@ pub fn take<T: Entry>(arena: &mut Arena<T, T::Sum>, number: u32, like: &T) -> Op
         return before;
     };
     let (first, entry, rest) = pop_first(arena, right);
-    let whole = balance(arena, first, before, entry, rest);
+    arena.set(
+        first,
+        Stored {
+            left: before,
+            entry,
+            right: rest,
+        },
+    );
+    let whole = settle(arena, first);
     Some(whole)
 }
 

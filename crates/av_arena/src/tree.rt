@@ -1,10 +1,10 @@
-//! The root of a tree: opened, put together again, and turned where its sides are not level.
+//! The root of a tree: read, put above its sides, and told anew where the tree below it changes.
 
 ghost use Rattle.std.specs.Prelude.{◌≡◌, ◌+◌, ◌<◌, ◌≤◌, max, true, Some, IsSome};
 ghost use Rattle.av_arena.specs.Order.{without_key};
 ghost use Rattle.av_arena.specs.Tree.{DifferByAtMost, IsHeightAfter, HasKey, IsHeld, IsJoined};
 ghost use Rattle.av_arena.specs.Tree.{IsOpened, IsPlaceFor, IsPlaced, IsPopped, IsReplaced, IsRoot};
-ghost use Rattle.av_arena.specs.Tree.{IsRootAfter, IsSet, IsSpot, IsWithout, sum_of, height_of};
+ghost use Rattle.av_arena.specs.Tree.{IsSet, IsSpot, IsWithout, sum_of, height_of};
 ghost use Rattle.av_arena.specs.Tree.{tree_at, entries};
 ghost use Rattle.av_arena.specs.Cell.{link_in, node_in};
 ghost use Rattle.av_arena.specs.Arena.{KeepsEntries, PutsEntry, entry_of, store_of};
@@ -49,13 +49,17 @@ pub fn sum_in<T: Entry>(twig: &Twig<T::Sum>) -> T::Sum
     }
 }
 
-/// The node at the root of a tree.
+/// The summary of a node's entry and of those on both its sides.
 #[inline(always)]
-pub fn open<T: Entry>(arena: &Arena<T, T::Sum>, tree: Link<T::Sum>) -> Stored<T, T::Sum>
-    requires { IsHeld T.key T.unit T.op T.of (store_of arena.now) (Some tree) }
-    ensures { IsOpened T.key T.unit T.op T.of (store_of arena.now) tree result }
+pub fn sum_at<T: Entry>(cell: &Cell<T, T::Sum>) -> T::Sum
+    ensures { result ≡ T.op (sum_of T.unit (link_in cell.now.left))
+        (T.op (T.of cell.now.entry) (sum_of T.unit (link_in cell.now.right))) }
 {
-    open_cell(arena, tree).node()
+    T::join_sums(
+        sum_in::<T>(&cell.left),
+        &cell.entry,
+        sum_in::<T>(&cell.right),
+    )
 }
 
 /// The node at the root of a tree, as it lies in its arena.
@@ -98,124 +102,6 @@ pub fn close<T: Entry>(
         height: level,
         sum: total,
     }
-}
-
-/// A node, whose left side is two levels too high: one rotation, or two.
-// Apart, since few nodes lean, and `balance` is put in line only where it is short.
-#[inline(never)]
-fn lean_left<T: Entry>(
-    arena: &mut Arena<T, T::Sum>,
-    number: u32,
-    left: Link<T::Sum>,
-    entry: T,
-    right: Option<Link<T::Sum>>,
-) -> Link<T::Sum>
-    requires spot { IsSpot T.key T.unit T.op T.of (store_of arena.old) number (Some left) right }
-    requires two_higher { left.height ≡ height_of right + 2 }
-    requires low { left.height < 210 }
-    ensures joined { IsJoined T.key T.unit T.op T.of (store_of arena.old) (store_of arena.new)
-        number (Some left) entry right result }
-    ensures not_lower { left.height ≤ result.height }
-    ensures at_most_one_higher { result.height ≤ left.height + 1 }
-    ensures other { result.number ≡ number → ⊥ }
-    ensures put { PutsEntry (store_of arena.old) (store_of arena.new) number entry }
-{
-    let side = open(arena, left);
-    let Stored {
-        left: outer,
-        entry: below,
-        right: between,
-    } = side;
-    if height(between) <= height(outer) {
-        let low = close(arena, number, between, entry, right);
-        return close(arena, left.number, outer, below, Some(low));
-    }
-    let Some(middle) = between else {
-        unreachable!()
-    };
-    let inner = open(arena, middle);
-    let Stored {
-        left: lower,
-        entry: top,
-        right: upper,
-    } = inner;
-    let before = close(arena, left.number, outer, below, lower);
-    let after = close(arena, number, upper, entry, right);
-    close(arena, middle.number, Some(before), top, Some(after))
-}
-
-/// A node, whose right side is two levels too high: one rotation, or two.
-// Apart, since few nodes lean, and `balance` is put in line only where it is short.
-#[inline(never)]
-fn lean_right<T: Entry>(
-    arena: &mut Arena<T, T::Sum>,
-    number: u32,
-    left: Option<Link<T::Sum>>,
-    entry: T,
-    right: Link<T::Sum>,
-) -> Link<T::Sum>
-    requires spot { IsSpot T.key T.unit T.op T.of (store_of arena.old) number left (Some right) }
-    requires two_higher { right.height ≡ height_of left + 2 }
-    requires low { right.height < 210 }
-    ensures joined { IsJoined T.key T.unit T.op T.of (store_of arena.old) (store_of arena.new)
-        number left entry (Some right) result }
-    ensures not_lower { right.height ≤ result.height }
-    ensures at_most_one_higher { result.height ≤ right.height + 1 }
-    ensures other { result.number ≡ number → ⊥ }
-    ensures put { PutsEntry (store_of arena.old) (store_of arena.new) number entry }
-{
-    let side = open(arena, right);
-    let Stored {
-        left: between,
-        entry: above,
-        right: outer,
-    } = side;
-    if height(between) <= height(outer) {
-        let low = close(arena, number, left, entry, between);
-        return close(arena, right.number, Some(low), above, outer);
-    }
-    let Some(middle) = between else {
-        unreachable!()
-    };
-    let inner = open(arena, middle);
-    let Stored {
-        left: lower,
-        entry: top,
-        right: upper,
-    } = inner;
-    let before = close(arena, number, left, entry, lower);
-    let after = close(arena, right.number, upper, above, outer);
-    close(arena, middle.number, Some(before), top, Some(after))
-}
-
-/// A node, whose sides differ by two levels at most, is put above them.
-#[inline(always)]
-pub fn balance<T: Entry>(
-    arena: &mut Arena<T, T::Sum>,
-    number: u32,
-    left: Option<Link<T::Sum>>,
-    entry: T,
-    right: Option<Link<T::Sum>>,
-) -> Link<T::Sum>
-    requires spot { IsSpot T.key T.unit T.op T.of (store_of arena.old) number left right }
-    requires level { DifferByAtMost 2 (height_of left) (height_of right) }
-    requires low { max (height_of left) (height_of right) < 210 }
-    ensures joined { IsJoined T.key T.unit T.op T.of (store_of arena.old) (store_of arena.new)
-        number left entry right result }
-    ensures height { IsHeightAfter (height_of left) (height_of right) result.height }
-    ensures root { IsRootAfter (height_of left) (height_of right) number result.number }
-    ensures put { PutsEntry (store_of arena.old) (store_of arena.new) number entry }
-{
-    let (before, after) = (height(left), height(right));
-    if before > after + 1 {
-        let Some(left) = left else { unreachable!() };
-        return lean_left(arena, number, left, entry, right);
-    }
-    if after > before + 1 {
-        let Some(right) = right else { unreachable!() };
-        return lean_right(arena, number, left, entry, right);
-    }
-    close(arena, number, left, entry, right)
 }
 
 /// Whether the tree on a side of a node is the one that a link tells.
@@ -268,8 +154,8 @@ fn with_left<T: Entry>(
         return tree;
     }
     if cell.left.height() != height(left) {
-        let (middle, after) = (cell.entry, cell.right.link());
-        return balance(arena, tree.number, left, middle, after);
+        arena.set_side(tree.number, Side::Left, left);
+        return settle(arena, tree.number);
     }
     let total = T::join_sums(sum::<T>(left), &cell.entry, sum_in::<T>(&cell.right));
     arena.set_side(tree.number, Side::Left, left);

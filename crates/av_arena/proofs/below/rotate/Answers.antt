@@ -1,14 +1,18 @@
-use Rattle.av_arena.proofs.Entries.{put_own}
-use Rattle.av_arena.specs.Arena.{entry_of}
-use Rattle.std.proofs.Common.{refl, rules, ap}
-use Rattle.std.proofs.lemmas.Bool.{both_ways}
+use Rattle.std.proofs.Common.{sym, ◌∙◌, arith}
+use Rattle.av_arena.specs.declared.link.Side.TheVariants.{Left, Right}
+use Rattle.av_arena.specs.Arena.{store_of}
+use Rattle.av_arena.specs.Cell.{node_in}
+use Rattle.av_arena.proofs.LiftLemmas.{leaning}
 use Rattle.av_arena.proofs.below.rotate.Goals as goal
 
-pub returns-clause-other : goal.returns-clause-other
-returns-clause-other g c = λ e. both_ways _ refl ((c.requires.uneven _ c.get-left.ensures).1 (c.balance.ensures.root.1 e))
+pub lift-requires : goal.lift-requires
+lift-requires g c =
+    let m = g.T.Entry in
+    leaning m.key m.unit m.op m.of g.met.T.Entry.laws Left (store_of c.args.arena.now) c.args.number c.in-Some.high (node_in c.cell-cell.result.now)
+    c.requires.node c.requires.uneven c.cell-cell.ensures (omega arith) (sym c.number.ensures ∙ c.in-Some.is)
 
-pub returns-clause-settled : goal.returns-clause-settled
-returns-clause-settled g c = λ v e. (search rules, search rules, λ d. absurd (both_ways _ refl ((c.requires.uneven v e).1 d)))
-
-pub returns-clause-kept : goal.returns-clause-kept
-returns-clause-kept g c = put_own _ _ c.args.number _ c.balance.ensures.put (ap entry_of c.get-left.ensures)
+pub lift-requires-2 : goal.lift-requires-2
+lift-requires-2 g c =
+    let m = g.T.Entry in
+    leaning m.key m.unit m.op m.of g.met.T.Entry.laws Right (store_of c.args.arena.now) c.args.number c.in-Some-number.high
+    (node_in c.cell-cell.result.now) c.requires.node c.requires.uneven c.cell-cell.ensures (omega arith) (sym c.number-2.ensures ∙ c.in-Some-number.is)

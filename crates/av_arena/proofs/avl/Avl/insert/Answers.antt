@@ -9,7 +9,7 @@ pub place-root-requires-clause-place : goal.place-root-requires-clause-place
 place-root-requires-clause-place g c =
     let m = g.T.Entry in
     let is = c.self.view_is in
-    place_new m.key m.unit m.op m.of g.met.T.Entry.laws (store_of c.self.inside.arena) (store_of c.add.new.self) c.self.inside.root c.self.invariant.0
+    place_new m.key m.unit m.op m.of g.met.T.Entry.laws (store_of c.self.inside.arena) (store_of c.add_leaf.new.self) c.self.inside.root c.self.invariant.0
     c.in-Ok.number _ c.in-Ok.ensures.unused c.in-Ok.ensures.added c.args.entry (ap (entry_at m.key (m.key c.args.entry)) is ∙ c.requires.other)
 
 pub place-root-requires-clause-low : goal.place-root-requires-clause-low
@@ -27,7 +27,7 @@ invariant_of-self g c =
 pub invariant_of-self-2 : goal.invariant_of-self-2
 invariant_of-self-2 g c =
     let m = g.T.Entry in
-    (inserted m.key m.unit m.op m.of g.met.T.Entry.laws (store_of c.self.inside.arena) (store_of c.add.new.self) (store_of c.place-root.new.arena)
+    (inserted m.key m.unit m.op m.of g.met.T.Entry.laws (store_of c.self.inside.arena) (store_of c.add_leaf.new.self) (store_of c.place-root.new.arena)
     c.self.inside.root c.self.invariant c.in-Ok.number _ c.in-Ok.ensures.unused c.in-Ok.ensures.added c.args.entry c.place-root.result
     c.place-root.ensures.placed).0
 
@@ -35,7 +35,7 @@ pub returns : goal.returns
 returns g c =
     let m = g.T.Entry in
     record {
-      entries = (inserted m.key m.unit m.op m.of g.met.T.Entry.laws (store_of c.self.inside.arena) (store_of c.add.new.self)
+      entries = (inserted m.key m.unit m.op m.of g.met.T.Entry.laws (store_of c.self.inside.arena) (store_of c.add_leaf.new.self)
           (store_of c.place-root.new.arena) c.self.inside.root c.self.invariant c.in-Ok.number _ c.in-Ok.ensures.unused
           c.in-Ok.ensures.added c.args.entry
           c.place-root.result c.place-root.ensures.placed).1 ∙ ap (λ v. with_entry m.key c.args.entry v) c.self.view_is;

@@ -1,9 +1,9 @@
-use Rattle.std.proofs.Common.{rules, ◌≡◌, ◌++◌, ◌∷◌, [], length, slice_set, Some, sym, ap, ◌∙◌, subst}
+use Rattle.std.proofs.Common.{rules, ◌≡◌, ◌++◌, ◌∷◌, [], length, slice_set, sym, ap, ◌∙◌, subst, refl}
 use Rattle.std.proofs.lemmas.Option.{get_or_from_slice_get}
 use Rattle.av_arena.specs.Arena.{store_of}
 use Rattle.av_arena.specs.Cell.{AreListed, next_in}
 use Rattle.av_arena.proofs.CellLemmas.{first_free, pushed, put_node}
-use Rattle.av_arena.proofs.arena.Arena.add.Goals as goal
+use Rattle.av_arena.proofs.arena.Arena.add_cell.Goals as goal
 
 pub invariant_of-self : goal.invariant_of-self
 invariant_of-self g c =
@@ -11,7 +11,7 @@ invariant_of-self g c =
     let same : c.index.result.now ≡ t.cell =
     c.index.ensures ∙ get_or_from_slice_get c.self.inside.cells.items c.in-Some.number t.cell c.index.result.now t.at in
     let told : c.next-self-inside.result ≡ next_in t.cell.left = c.next-self-inside.ensures ∙ ap (λ x. next_in x.left) same in
-    subst (λ o. AreListed (slice_set c.self.inside.cells.items c.in-Some.number c.of-cell.result) o) (sym told) (t.rest c.of-cell.result)
+    subst (λ o. AreListed (slice_set c.self.inside.cells.items c.in-Some.number c.args.cell) o) (sym told) (t.rest c.args.cell)
 
 pub returns-in-Some-clause-unused : goal.returns-in-Some-clause-unused
 returns-in-Some-clause-unused g c =
@@ -21,11 +21,11 @@ returns-in-Some-clause-unused g c =
 pub returns-in-Some-clause-added : goal.returns-in-Some-clause-added
 returns-in-Some-clause-added g c =
     let t = first_free c.self.inside.cells.items c.in-Some.number c.self.inside.free c.in-Some.is c.self.invariant in
-    put_node c.self.inside.cells.items _ c.in-Some.number c.of-cell.result _ c.self.view_is t.within c.of-cell.ensures.used
-    (ap Some c.of-cell.ensures.node)
+    put_node c.self.inside.cells.items _ c.in-Some.number c.args.cell _ c.self.view_is t.within c.requires
+    refl
 
 pub returns-clause-added : goal.returns-clause-added
 returns-clause-added g c =
-    let all : c.push.new.self.items ≡ c.self.inside.cells.items ++ c.of-cell.result ∷ [] = search rules in
+    let all : c.push.new.self.items ≡ c.self.inside.cells.items ++ c.args.cell ∷ [] = search rules in
     let at : c.in-Ok.number ≡ length c.self.inside.cells.items = search rules in
-    pushed c.self.inside.cells.items _ _ c.in-Ok.number c.of-cell.result _ c.self.view_is all at c.of-cell.ensures.used c.of-cell.ensures.node
+    pushed c.self.inside.cells.items _ _ c.in-Ok.number c.args.cell _ c.self.view_is all at c.requires refl
