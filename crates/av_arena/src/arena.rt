@@ -1,8 +1,8 @@
 //! The nodes of all trees, in one keyed store.
 
-ghost use Rattle.std.specs.Prelude.{◌≡◌, ℕ, false, Some, None, IfOk, OnErr, IsSome};
+ghost use Rattle.std.specs.Prelude.{◌≡◌, ℕ, Some, None, IfOk, OnErr, IsSome};
 ghost use Rattle.av_arena.specs.Arena.{entry_put, leaf_of, side_put, store_of};
-ghost use Rattle.av_arena.specs.Cell.{is_free, node_in};
+ghost use Rattle.av_arena.specs.Cell.{node_in};
 ghost use Rattle.av_base.specs.Words.{with_at};
 
 use crate::cell::{Cell, Twig};
@@ -43,42 +43,31 @@ impl<T: Copy + Drop, S: Copy + Drop> Arena<T, S> {
         }
     }
 
-    /// Puts a node under a number that is not in use. Without memory all stays, and where 2^32
-    /// numbers are in use, too.
-    pub fn add(&mut self, node: Stored<T, S>) -> Result<u32, AllocError>
-        ensures unused { IfOk result (λ number. store_of self.old number ≡ None) }
-        ensures added { IfOk result
-            (λ number. store_of self.new ≡ with_at number (Some node) (store_of self.old)) }
-        ensures kept { OnErr result (store_of self.new ≡ store_of self.old) }
+    /// No node, and room for so many: while no more are in use, what is put in asks the host for no
+    /// memory and moves no node.
+    pub fn with_room(alloc: Global, count: usize) -> Result<Arena<T, S>, AllocError>
+        ensures { IfOk result (λ arena. (number : ℕ) → store_of arena number ≡ None) }
     {
-        self.add_cell(Cell::of(node))
+        Ok(Arena {
+            cells: Vec::with_capacity(alloc, count)?,
+            free: None,
+        })
     }
 
-    /// Does what `add` does, for a node without sides: no links are made, only to be read again.
-    pub(crate) fn add_leaf(&mut self, entry: T) -> Result<u32, AllocError>
+    /// Puts an entry, as a node without sides, under a number that is not in use. Without memory
+    /// all stays, and where 2^32 numbers are in use, too.
+    pub fn add_leaf(&mut self, entry: T) -> Result<u32, AllocError>
         ensures unused { IfOk result (λ number. store_of self.old number ≡ None) }
         ensures added { IfOk result
             (λ number. store_of self.new
             ≡ with_at number (Some (leaf_of entry)) (store_of self.old)) }
         ensures kept { OnErr result (store_of self.new ≡ store_of self.old) }
     {
-        self.add_cell(Cell {
+        let cell = Cell {
             left: Twig::Bare,
             entry,
             right: Twig::Bare,
-        })
-    }
-
-    /// Does what `add` does, for a node as it is to lie here.
-    #[inline(always)]
-    fn add_cell(&mut self, cell: Cell<T, S>) -> Result<u32, AllocError>
-        requires { is_free cell.left ≡ false }
-        ensures unused { IfOk result (λ number. store_of self.old number ≡ None) }
-        ensures added { IfOk result
-            (λ number. store_of self.new
-            ≡ with_at number (Some (node_in cell)) (store_of self.old)) }
-        ensures kept { OnErr result (store_of self.new ≡ store_of self.old) }
-    {
+        };
         if let Some(number) = self.free {
             self.free = self.cells[number as usize].left.next();
             self.cells[number as usize] = cell;

@@ -1,7 +1,7 @@
 //! An ordered set of entries as a balanced tree that owns its nodes.
 
 ghost use Rattle.std.specs.Prelude.{◌≡◌, ◌+◌, ◌^◌, ◌<◌, [], None, is_ok, length, IsSome};
-ghost use Rattle.std.specs.Prelude.{MatchOption, OnOk, ◌++◌, if◌then◌else◌};
+ghost use Rattle.std.specs.Prelude.{IfOk, MatchOption, OnOk, ◌++◌, if◌then◌else◌};
 ghost use Rattle.av_arena.specs.Order.{NoneBetween, NoneWithin, entry_at, with_entry, with_joined};
 ghost use Rattle.av_arena.specs.Order.{with_two, without_key};
 ghost use Rattle.av_arena.specs.Avl.{IsLonger, IsParts};
@@ -66,6 +66,17 @@ impl<T: Entry> Avl<T> {
             arena: Arena::new(alloc),
             root: None,
         }
+    }
+
+    /// A tree with no entry, and room for so many: while it has no more, what is put in asks the
+    /// host for no memory and moves no node.
+    pub fn with_room(alloc: Global, count: usize) -> Result<Avl<T>, AllocError>
+        ensures empty { IfOk result (λ tree. tree ≡ []) }
+    {
+        Ok(Avl {
+            arena: Arena::with_room(alloc, count)?,
+            root: None,
+        })
     }
 
     /// The whole tree, to be read.

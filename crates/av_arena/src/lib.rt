@@ -16,7 +16,8 @@
 //! says whether its root is stored otherwise than before, exactly but where the root itself gets an
 //! entry. That nothing above is written then is not proved: no clause counts writes.
 //!
-//! Nor is it proved that a number that is free is used again, as `Arena::add` does.
+//! Nor is it proved that a number that is free is used again, as `Arena::add_leaf` does, nor that
+//! what `with_room` makes asks for no memory while its nodes fit there: no clause tells the room.
 #![tactic(auto)]
 
 mod arena;

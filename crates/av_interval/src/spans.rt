@@ -18,7 +18,7 @@ use crate::nodes::{Node, Nodes};
 use crate::roots::{Root, Roots};
 use crate::search::search;
 use crate::span::Span;
-use av_arena::{Arena, Link, Stored, place, remove, replace};
+use av_arena::{Arena, Link, place, remove, replace};
 use av_base::Steps;
 use std::alloc::{AllocError, Global};
 use std::marker::Model;
@@ -74,7 +74,7 @@ impl Spans {
         let Some(len) = root.len.checked_add(1) else {
             return Err(AllocError);
         };
-        let number = match self.arena.add(leaf(span)) {
+        let number = match self.arena.add_leaf(span) {
             Ok(number) => number,
             Err(error) => return Err(error),
         };
@@ -91,7 +91,7 @@ impl Spans {
             then with_at anon (span ∷ []) (triples self.old) a else triples self.old a) }
         ensures kept { OnErr result ((a : ℕ) → tree_of self.new a ≡ tree_of self.old a) }
     {
-        let number = match self.arena.add(leaf(span)) {
+        let number = match self.arena.add_leaf(span) {
             Ok(number) => number,
             Err(error) => return Err(error),
         };
@@ -201,17 +201,6 @@ impl Spans {
 fn is_few(len: u64)
     ensures { len < 2 ^ 64 }
 {}
-
-// A node without sides.
-fn leaf(span: Span) -> Stored<Span, u64>
-    ensures { result ≡ record { left = None; entry = span; right = None } }
-{
-    Stored {
-        left: None,
-        entry: span,
-        right: None,
-    }
-}
 
 fn top(root: Option<Root>) -> Option<Link<u64>>
     ensures { result ≡ top_of root }

@@ -1,7 +1,7 @@
 //! The areas of one process in a tree, by their pages.
 
 ghost use Rattle.std.specs.Prelude.{◌≡◌, ℕ, ◌-◌, ◌<◌, ◌≤◌, ◌++◌, [], Some, None, true, false};
-ghost use Rattle.std.specs.Prelude.{is_ok, IfSome, IsSomeAnd, OnOk, if◌then◌else◌};
+ghost use Rattle.std.specs.Prelude.{is_ok, IfOk, IfSome, IsSomeAnd, OnOk, if◌then◌else◌};
 ghost use Rattle.av_base.specs.Limits.{low_page, top_page};
 ghost use Rattle.av_vma.specs.Gap.{IsGap};
 ghost use Rattle.av_base.specs.Words.{within, with_at};
@@ -46,6 +46,16 @@ impl Tree {
         Tree {
             spans: Avl::new(alloc),
         }
+    }
+
+    /// The areas of a process that has none, and room for so many: while it has no more, an area
+    /// that is put in asks the host for no memory and moves none of the others.
+    pub fn with_room(alloc: Global, count: usize) -> Result<Tree, AllocError>
+        ensures { IfOk result (λ tree. tree ≡ []) }
+    {
+        Ok(Tree {
+            spans: Avl::with_room(alloc, count)?,
+        })
     }
 
     /// Puts in an area, new to the process, with the pages from `from` to below `to`, all of them

@@ -12,11 +12,11 @@ use Rattle.av_interval.proofs.spans.Spans.add_first.Goals as goal
 
 pub returns-in-Err-clause-spans : goal.returns-in-Err-clause-spans
 returns-in-Err-clause-spans c =
-    λ a. subst (λ (w : Forest). entries (tree_at (store_of c.add.new.self) (top_of (root_of c.self.inside.roots a))) ≡ triples w a)
+    λ a. subst (λ (w : Forest). entries (tree_at (store_of c.add_leaf.new.self) (top_of (root_of c.self.inside.roots a))) ≡ triples w a)
     c.self.view_is (ap (λ s. entries (tree_at s (top_of (root_of c.self.inside.roots a)))) c.in-Err.ensures.kept)
 
 pub returns-in-Err-clause-kept : goal.returns-in-Err-clause-kept
-returns-in-Err-clause-kept c = λ a. subst (λ (w : Forest). tree_at (store_of c.add.new.self) (top_of (root_of c.self.inside.roots a)) ≡ tree_of w a)
+returns-in-Err-clause-kept c = λ a. subst (λ (w : Forest). tree_at (store_of c.add_leaf.new.self) (top_of (root_of c.self.inside.roots a)) ≡ tree_of w a)
     c.self.view_is (ap (λ s. tree_at s (top_of (root_of c.self.inside.roots a))) c.in-Err.ensures.kept)
 
 pub place-tree-requires-clause-place : goal.place-tree-requires-clause-place
