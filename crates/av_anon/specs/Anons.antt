@@ -1,7 +1,7 @@
 -- What the anon_vmas show: what is kept of each, the chain of each area and the users of each.
-use Rattle.std.specs.Prelude.{ℕ, suc, Bool, true, false, if◌then◌else◌, List, [], ◌∷◌, ◌++◌, Option}
+use Rattle.std.specs.Prelude.{ℕ, suc, Bool, true, false, List, [], ◌∷◌, Option}
 use Rattle.std.specs.Prelude.{Some, None, option_map}
-use Rattle.av_base.specs.Words.{is_in, with_at}
+use Rattle.av_base.specs.Words.{with_at}
 use Rattle.av_chain.specs.Links.{chain_of, users_of, users_with}
 use Rattle.av_arena.specs.Order as arena_order
 use Rattle.av_vma.specs.declared.area.Area.{Area}

@@ -19,6 +19,9 @@ pub struct Anons {
     pub(crate) infos: Infos,
     pub(crate) next: u64,
     pub(crate) alloc: Global,
+    // The list for the chain that a fork or a copy goes by. It is kept, as each of them would ask
+    // the host for memory and give it back. What stands in it is no part of the state.
+    pub(crate) chain: Vec<u64>,
 }
 
 impl Anons {
@@ -33,6 +36,7 @@ impl Anons {
             infos: Infos::new(alloc),
             next: 0,
             alloc,
+            chain: Vec::new(alloc),
         }
     }
 

@@ -1,6 +1,7 @@
 //! The chain of a child's area at fork (Linux's anon_vma_fork), and of a copy (anon_vma_clone).
 ghost use Rattle.std.specs.Prelude.{◌≡◌, ℕ, true, [], Some, None, IsSome, IfOk, OnOk, OnErr};
 ghost use Rattle.av_base.specs.Words.{is_in};
+ghost use Rattle.av_chain.specs.Links.{chain_of};
 ghost use Rattle.av_vma.specs.Areas.{area_of};
 ghost use Rattle.av_interval.specs.Spans.{IsNew};
 ghost use Rattle.av_anon.specs.Anons.{IsRising, family, own_of, with_links};
@@ -12,8 +13,10 @@ ghost use Rattle.av_anon.specs.Spans.{span_at, spans_of, spans_with, GoWithLinks
 
 use crate::anons::Anons;
 use crate::infos::{Info, Infos};
+use av_chain::Links;
 use av_vma::{Area, AreaId, Areas};
-use std::alloc::AllocError;
+use std::alloc::{AllocError, Global};
+use std::mem::replace;
 
 impl Anons {
     /// Gives an area without anon_vma another's chain and own anon_vma; where that one has none it
@@ -67,8 +70,10 @@ impl Anons {
             ≡ spans_with ((family self.old).chain src) (span_at dst this.now)
             (spans_of self.old) v) }
     {
-        let chain = self.links.chain(self.alloc, src)?;
-        self.link_area(dst, this, &chain)
+        let chain = take_chain(&mut self.chain, self.alloc, &self.links, src)?;
+        self.link_area(dst, this, &chain)?;
+        self.chain = chain;
+        Ok(())
     }
 
     /// Gives the child's area `dst`, without anon_vma, its chain and own anon_vma at a fork of
@@ -94,9 +99,10 @@ impl Anons {
             return Ok(());
         };
         let this = areas.get(dst);
-        let mut chain = self.links.chain(self.alloc, src)?;
+        let mut chain = take_chain(&mut self.chain, self.alloc, &self.links, src)?;
         let anon = self.own_for_child(own, &mut chain)?;
         self.link_area(dst, &this, &chain)?;
+        self.chain = chain;
         areas.change(
             dst,
             Area {
@@ -153,6 +159,22 @@ impl Anons {
         self.next = next;
         Ok(anon)
     }
+}
+
+/// An area's chain, in the list that is kept for it: an empty one stands in its place until it is
+/// put back. Without memory the kept list goes back to the host.
+fn take_chain(
+    kept: &mut Vec<u64>,
+    alloc: Global,
+    links: &Links,
+    area: AreaId,
+) -> Result<Vec<u64>, AllocError>
+    ensures { IfOk result (λ chain. chain.items ≡ chain_of links.now area) }
+{
+    let mut chain = replace(kept, Vec::new(alloc));
+    chain.clear();
+    links.push_chain(area, &mut chain)?;
+    Ok(chain)
 }
 
 /// The first of these anon_vmas that is idle: fewer than two children, no active area, and no root.

@@ -1,7 +1,7 @@
 //! The links, as two maps.
 ghost use Rattle.av_base.specs.Words.{is_in, with_at, without};
 ghost use Rattle.std.specs.Prelude.{◌≡◌, ℕ, ◌+◌, [], ◌∷◌, ◌++◌, true, false, IfOk, OnOk, OnErr};
-ghost use Rattle.std.specs.Prelude.{length};
+ghost use Rattle.std.specs.Prelude.{length, take};
 ghost use Rattle.av_chain.specs.Links.{chain_of, users_of, first_in, after_in, users_with};
 ghost use Rattle.av_chain.specs.Links.{AreMutual, AreNew, HasSome};
 
@@ -115,7 +115,19 @@ impl Links {
     pub fn chain(&self, alloc: Global, area: u64) -> Result<Vec<u64>, AllocError>
         ensures { IfOk result (λ chain. chain.items ≡ chain_of self.now area) }
     {
-        self.lists.chain(alloc, area)
+        let mut chain = Vec::new(alloc);
+        self.push_chain(area, &mut chain)?;
+        Ok(chain)
+    }
+
+    /// Puts the anon_vmas of an area behind these, in the order in which it was linked to them.
+    /// Without memory the first of them alone stand there, or none.
+    pub fn push_chain(&self, area: u64, chain: &mut Vec<u64>) -> Result<(), AllocError>
+        ensures ok { OnOk result (chain.new.items ≡ chain.old.items ++ chain_of self.now area) }
+        ensures err { OnErr result ((many : ℕ)
+            × (chain.new.items ≡ chain.old.items ++ take many (chain_of self.now area))) }
+    {
+        self.lists.push_chain(area, chain)
     }
 
     /// The areas that are linked to an anon_vma, in the order in which they were linked. It takes

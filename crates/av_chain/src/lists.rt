@@ -1,7 +1,7 @@
 //! The nodes with the heads of their lists.
 ghost use Rattle.av_base.specs.Words.{is_in};
 ghost use Rattle.std.specs.Prelude.{◌≡◌, ℕ, ◌-◌, ◌<◌, ◌^◌, [], ◌∷◌, ◌++◌, Some, None, true, false};
-ghost use Rattle.std.specs.Prelude.{IfOk, OnOk, OnErr, IfSome, IfNone, is_some, length, nat_eq};
+ghost use Rattle.std.specs.Prelude.{IfOk, OnOk, OnErr, IfSome, IfNone, is_some, length, nat_eq, take};
 ghost use Rattle.std.specs.HashMap.{get, spare};
 ghost use Rattle.av_chain.specs.declared.node.Way.TheVariants.{Area as AreaWay, Anon as AnonWay};
 ghost use Rattle.av_chain.specs.Nodes.{has_place, without_node};
@@ -226,19 +226,22 @@ impl Lists {
         None
     }
 
-    /// The anon_vmas of an area's list, in its order.
-    pub(crate) fn chain(&self, alloc: Global, area: u64) -> Result<Vec<u64>, AllocError>
+    /// Puts the anon_vmas of an area's list behind these, in its order. Without memory the first of
+    /// them alone stand there, or none.
+    pub(crate) fn push_chain(&self, area: u64, chain: &mut Vec<u64>) -> Result<(), AllocError>
         requires { AreKept self.now }
-        ensures { IfOk result (λ chain. chain.items ≡ chain_of (links_in self.now) area) }
+        ensures ok { OnOk result (chain.new.items
+            ≡ chain.old.items ++ chain_of (links_in self.now) area) }
+        ensures err { OnErr result ((many : ℕ) × (chain.new.items
+            ≡ chain.old.items ++ take many (chain_of (links_in self.now) area))) }
     {
-        let mut chain = Vec::new(alloc);
         let mut at = self.first(area);
         while let Some(place) = at {
             let node = *self.nodes.get(place);
             chain.push(node.anon)?;
             at = node.sides(Way::Area).after;
         }
-        Ok(chain)
+        Ok(())
     }
 
     /// The anon_vma of the node at a place, if there is one.

@@ -35,6 +35,7 @@ use av_vma::{Area, Areas};
 use av_vmatree::{Span, Tree};
 use std::alloc::{AllocError, Global};
 use std::marker::Model;
+use std::mem::replace;
 
 /// The areas of every process that lives, seen as the list of the processes, rising, each with its
 /// areas in the order of their pages, and the areas by number.
@@ -45,6 +46,9 @@ pub struct Spaces {
     // The tree of each process, by its number.
     trees: Vec<Option<Tree>>,
     alive: usize,
+    // The list for the spans that a fork goes by. It is kept, as each fork would ask the host for
+    // memory and give it back. What stands in it is no part of the state.
+    spans: Vec<Span>,
 }
 
 impl Model for Spaces {
@@ -70,6 +74,7 @@ impl Spaces {
             areas: Areas::new(alloc),
             trees: Vec::new(alloc),
             alive: 0,
+            spans: Vec::new(alloc),
         }
     }
 
@@ -168,10 +173,10 @@ impl Spaces {
         let Some(tree) = tree_of(&self.trees, parent) else {
             unreachable!()
         };
-        let mut spans = Vec::new(self.alloc);
-        tree.append_to(&mut spans)?;
+        let spans = take_spans(&mut self.spans, self.alloc, tree)?;
         let mut tree = Tree::new(self.alloc);
         let result = fork_each(&mut self.areas, &mut tree, anons, &spans, child);
+        self.spans = spans;
         put_tree(&mut self.trees, child, tree);
         self.alive += 1;
         result
@@ -552,6 +557,17 @@ fn put_tree(trees: &mut Vec<Option<Tree>>, process: u16, tree: Tree)
     ensures { trees.new.items ≡ slice_set trees.old.items process (Some tree) }
 {
     trees[process as usize] = Some(tree);
+}
+
+/// The spans of a tree, in the list that is kept for them: an empty one stands in its place until
+/// it is put back. Without memory the kept list goes back to the host.
+fn take_spans(kept: &mut Vec<Span>, alloc: Global, tree: &Tree) -> Result<Vec<Span>, AllocError>
+    ensures { IfOk result (λ spans. spans.items ≡ tree.now) }
+{
+    let mut spans = replace(kept, Vec::new(alloc));
+    spans.clear();
+    tree.append_to(&mut spans)?;
+    Ok(spans)
 }
 
 /// The areas of these spans of one process, in their order.

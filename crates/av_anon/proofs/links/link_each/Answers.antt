@@ -1,4 +1,4 @@
-use Rattle.std.proofs.Common.{◌≡◌, ◌++◌, [], length, sym, ap, ◌∙◌, subst}
+use Rattle.std.proofs.Common.{◌++◌, [], sym, ap, ◌∙◌, subst}
 use Rattle.av_base.specs.Words.{with_at}
 use Rattle.av_chain.specs.Links.{AreNew, chain_of}
 use Rattle.av_chain.proofs.TwoMaps.{new_by, on_ok}

@@ -5,7 +5,6 @@ use Rattle.av_arena.specs.Order.{entry_at, with_entry, without_key}
 use Rattle.av_interval.specs.Span.{key, key_of, triple}
 use Rattle.av_interval.specs.Spans.{triples}
 use Rattle.av_interval.specs.declared.span.Span.{Span}
-use Rattle.av_anon.specs.Spans.{spans_with, spans_without}
 use Rattle.av_anon.proofs.Words.{each_more, absent_before, in_list, take_all}
 use Rattle.av_anon.proofs.spans.respan_each.Goals as goal
 

@@ -1,4 +1,3 @@
-use Rattle.std.proofs.Common.{◌≡◌}
 use Rattle.av_chain.specs.Links.{chain_of, users_of}
 use Rattle.av_anon.proofs.anons.Anons.new.Goals as goal
 

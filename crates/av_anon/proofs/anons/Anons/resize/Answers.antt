@@ -1,4 +1,4 @@
-use Rattle.std.proofs.Common.{◌≡◌, ℕ, ◌-◌, ◌^◌, ◌<◌, List, [], refl, sym, ap, ◌∙◌, arith}
+use Rattle.std.proofs.Common.{◌≡◌, ℕ, ◌-◌, ◌^◌, ◌<◌, List, [], sym, ap, ◌∙◌, arith}
 use Rattle.av_base.specs.Words.{is_in, with_at}
 use Rattle.av_chain.specs.Links.{chain_of}
 use Rattle.av_interval.specs.Span.{key_of, triple}

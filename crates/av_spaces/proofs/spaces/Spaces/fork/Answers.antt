@@ -1,9 +1,8 @@
-use Rattle.std.proofs.Common.{◌∙◌, ◌+◌, ◌++◌, List, Some, is_some, subst, sym, ap, arith}
+use Rattle.std.proofs.Common.{◌∙◌, ◌+◌, Some, is_some, subst, sym, ap, arith}
 use Rattle.std.proofs.Math.ListN.{length-set}
 use Rattle.std.specs.Prelude.{IsSomeAnd}
 use Rattle.av_vma.specs.Areas.{area_of}
 use Rattle.av_vma.specs.Fork.{areas_to_fork}
-use Rattle.av_vmatree.specs.declared.span.Span.{Span}
 use Rattle.av_merge.proofs.LinkingLaws.{ok_both}
 use Rattle.av_spaces.specs.Fork.{IsForked}
 use Rattle.av_spaces.specs.Spaces.{areas_of}
@@ -51,8 +50,7 @@ invariant_of-self-2 c =
 
 pub returns-clause-forked : goal.returns-clause-forked
 returns-clause-forked c =
-    let spans = c.deref-2.ensures.value ∙ c.in_ok-append_to.ensures
-    ∙ ap (λ (spans : List Span). spans ++ c.in-Some.tree.now) c.new-spans.ensures.items in
+    let spans = c.deref-2.ensures.value ∙ c.in_ok-spans.ensures in
     let was = sym (c.make_place.ensures.grown.trees c.args.parent) ∙ ap (λ ts. tree_at ts c.args.parent) (sym c.deref.ensures.value)
     ∙ sym c.in-Some.ensures in
     on_ok c.fork_each-result.result (λ h. subst (λ (ts : Trees). IsSomeAnd (areas_of c.args.self.now.processes c.args.parent)
@@ -67,8 +65,7 @@ returns-clause-forked c =
 
 pub returns-clause-in_turn : goal.returns-clause-in_turn
 returns-clause-in_turn c =
-    let spans = c.deref-2.ensures.value ∙ c.in_ok-append_to.ensures
-    ∙ ap (λ (spans : List Span). spans ++ c.in-Some.tree.now) c.new-spans.ensures.items in
+    let spans = c.deref-2.ensures.value ∙ c.in_ok-spans.ensures in
     let was = sym (c.make_place.ensures.grown.trees c.args.parent) ∙ ap (λ ts. tree_at ts c.args.parent) (sym c.deref.ensures.value)
     ∙ sym c.in-Some.ensures in
     on_ok c.fork_each-result.result (λ h.
