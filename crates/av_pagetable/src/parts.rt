@@ -26,8 +26,8 @@ const FEW: usize = 4;
 #[derive(Drop)]
 pub(crate) enum Parts<C> {
     Alone((u16, C)),
-    // An array and not a queue: a look asks each level for its first part, and little else. It is
-    // empty where there is no part, and then takes no memory; where parts went it may have one.
+    // An array and not a queue: a look asks each level for its first part, and little else. A new
+    // one is empty and takes no memory. Where parts went, one or none may be left.
     Many(Vec<(u16, C)>),
 }
 
