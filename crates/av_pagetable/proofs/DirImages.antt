@@ -1,7 +1,9 @@
 -- Parts whose entries are those of other parts with a function applied to each.
-use Rattle.std.proofs.Common.{◌≡◌, ℕ, suc, ◌/◌, ◌%◌, List, [], ◌∷◌, length, refl, sym, ap, ◌∙◌, arith, cond, true, false, Bool, Some, None}
+use Rattle.std.proofs.Common.{◌≡◌, ℕ, suc, ◌+◌, ◌/◌, ◌%◌, ◌<◌, ◌≤◌, List, [], ◌∷◌, length, slice_set, get_or, refl, sym, ap, subst, ◌∙◌, arith, inl, inr, cond, true, false, Bool, Some, None, get_or-set_same, get_or-set_other}
 use Rattle.std.specs.Prelude.{nat_lt, nat_eq}
 use Rattle.std.specs.Map.{lookup}
+use Rattle.std.proofs.lemmas.Bool.{cases_eq}
+use Rattle.std.proofs.lemmas.List.{get_or_default}
 use Rattle.av_pagetable.specs.declared.pte.Pte.{Pte}
 use Rattle.av_pagetable.specs.declared.pte.Pte.TheVariants.{Empty, Zero, Here, Away}
 use Rattle.av_pagetable.specs.Table.{child_entry, read_only}
@@ -21,6 +23,23 @@ read_only_none Zero h = cc
 read_only_none (Here f write seen) h = cc
 read_only_none (Away s) h = cc
 
+-- one more part is changed in its place
+module _ {C : Type 0} (at : C → ℕ → Pte) (f : Pte → Pte) (olds news : List (ℕ × C)) (n : ℕ) (p x : ℕ × C) (len : length news ≡ length olds)
+    (within : n < length olds) (is : p ≡ get_or news n p)
+    (others : (i : ℕ) (d : ℕ × C) → n ≤ i → i < length olds → get_or news i d ≡ get_or olds i d) where
+  pub set_image : IsImage at f p x → AreImages at f n olds news → AreImages at f (n + 1) olds (slice_set news n x)
+  set_image image images i d low = elim (cases_eq i n) [
+    | inl e ↦ subst (λ k. IsImage at f (get_or olds k d) (get_or (slice_set news n x) k d)) (sym e)
+        (subst (λ a. IsImage at f a (get_or (slice_set news n x) n d)) (is ∙ sym (get_or_default news n d p (omega (arith, within, len)))
+        ∙ others n d (omega arith) within)
+        (subst (IsImage at f p) (sym (get_or-set_same news n x d (omega (arith, within, len)))) image))
+    | inr ne ↦ subst (IsImage at f (get_or olds i d)) (sym (get_or-set_other news n i x d ne)) (images i d (omega (arith, low, ne)))
+  ]
+
+  pub set_others : (i : ℕ) (d : ℕ × C) → n + 1 ≤ i → i < length olds → get_or (slice_set news n x) i d ≡ get_or olds i d
+  set_others i d low high = get_or-set_other news n i x d (λ e. omega (arith, e, low)) ∙ others i d (omega (arith, low)) high
+
+-- ---- all of them
 found_image : {C : Type 0} (at : C → ℕ → Pte) (f : Pte → Pte) (olds news : List (ℕ × C)) → length news ≡ length olds →
     AreImages at f (length olds) olds news → f Empty ≡ Empty
     → (n page : ℕ) → in_part at (lookup (nat_eq n) news) page ≡ f (in_part at (lookup (nat_eq n) olds) page)

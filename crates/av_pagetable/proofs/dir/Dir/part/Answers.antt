@@ -7,7 +7,7 @@ use Rattle.av_pagetable.proofs.dir.Dir.part.Goals as goal
 
 pub returns-in-Ok : goal.returns-in-Ok
 returns-in-Ok g c =
-    let parts = (parts_in c.self.inside.parts) in
+    let parts = parts_in c.self.inside.parts in
     let C = g.C.Level in
     let k = c.in-Ok.place in
     let p = c.at.result.now in

@@ -5,7 +5,7 @@ use Rattle.av_pagetable.proofs.dir.Dir.place_past.Goals as goal
 
 pub returns-then-number-first : goal.returns-then-number-first
 returns-then-number-first g c =
-    let parts = (parts_in c.self.inside.parts) in
+    let parts = parts_in c.self.inside.parts in
     let less : c.args.number < c.at.result.now.0 = subst (λ n. c.args.number < n) c.from-first.ensures c.if-number-first.true in
     rw (← c.self.view_is) (
       omega arith,
@@ -16,7 +16,7 @@ returns-then-number-first g c =
 
 pub returns-then-from-number : goal.returns-then-from-number
 returns-then-from-number g c =
-    let parts = (parts_in c.self.inside.parts) in
+    let parts = parts_in c.self.inside.parts in
     let len = c.len-len.ensures in
     let less : c.at-2.result.now.0 < c.args.number = subst (λ n. n < c.args.number) c.from.ensures c.if-from-number.true in
     let last : c.at-2.result.now ≡ get_or parts (length parts - 1) c.at-2.result.now =
