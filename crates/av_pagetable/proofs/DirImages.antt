@@ -1,14 +1,14 @@
 -- Parts whose entries are those of other parts with a function applied to each.
-use Rattle.std.proofs.Common.{◌≡◌, ℕ, suc, ◌+◌, ◌/◌, ◌%◌, ◌<◌, ◌≤◌, List, [], ◌∷◌, ◌++◌, length, slice_set, get_or, refl, sym, ap, subst, ◌∙◌, arith, inl, inr, cond, true, false, Bool, Some, None, get_or-set_same, get_or-set_other}
+use Rattle.std.proofs.Common.{◌≡◌, ℕ, suc, ◌+◌, ◌/◌, ◌%◌, ◌<◌, ◌≤◌, List, [], ◌∷◌, length, slice_set, get_or, refl, sym, ap, subst, ◌∙◌, arith, inl, inr, cond, true, false, Bool, Some, None, get_or-set_same, get_or-set_other}
 use Rattle.std.specs.Prelude.{nat_lt, nat_eq}
 use Rattle.std.specs.Map.{lookup}
-use Rattle.std.proofs.Math.Seq.{get_or-append_seam}
 use Rattle.std.proofs.lemmas.Bool.{cases_eq}
-use Rattle.std.proofs.lemmas.List.{get_or_append_left, get_or_default}
+use Rattle.std.proofs.lemmas.List.{get_or_default}
 use Rattle.av_pagetable.specs.declared.pte.Pte.{Pte}
 use Rattle.av_pagetable.specs.declared.pte.Pte.TheVariants.{Empty, Zero, Here, Away}
 use Rattle.av_pagetable.specs.Table.{child_entry, read_only}
 use Rattle.av_pagetable.specs.Dir.{in_part, entries, AreParts}
+use Rattle.av_pagetable.specs.Images.{IsImage, AreImages, AreAllImages}
 
 -- no entry comes of an entry that is there
 pub child_none : (e : Pte) → child_entry e ≡ Empty → e ≡ Empty
@@ -22,27 +22,6 @@ read_only_none Empty h = refl
 read_only_none Zero h = cc
 read_only_none (Here f write seen) h = cc
 read_only_none (Away s) h = cc
-
--- a part has another's number, and its entries with the function applied
-pub record IsImage {C : Type 0} (at : C → ℕ → Pte) (f : Pte → Pte) (p q : ℕ × C) : Type 0 where
-  pub number : q.0 ≡ p.0
-  pub each : (page : ℕ) → at q.1 page ≡ f (at p.1 page)
-
--- the first n parts do
-abbrev pub AreImages : {C : Type 0} → (C → ℕ → Pte) → (Pte → Pte) → ℕ → List (ℕ × C) → List (ℕ × C) → Type 0
-AreImages {C} at f n olds news = (i : ℕ) (d : ℕ × C) → i < n → IsImage at f (get_or olds i d) (get_or news i d)
-
--- one more part stands at the end
-pub pushed : {C : Type 0} (at : C → ℕ → Pte) (f : Pte → Pte) (olds news : List (ℕ × C)) (n : ℕ) (p x : ℕ × C) → length news ≡ n →
-    n < length olds → p ≡ get_or olds n p
-    → IsImage at f p x → AreImages at f n olds news → AreImages at f (n + 1) olds (news ++ x ∷ [])
-pushed at f olds news n p x len within is image images i d low = elim (cases_eq i n) [
-  | inl e ↦ subst (λ k. IsImage at f (get_or olds k d) (get_or (news ++ x ∷ []) k d)) (sym e)
-      (subst (λ a. IsImage at f a (get_or (news ++ x ∷ []) n d)) (is ∙ sym (get_or_default olds n d p within))
-      (subst (IsImage at f p) (sym (ap (λ k. get_or (news ++ x ∷ []) k d) (sym len) ∙ get_or-append_seam news x [] d)) image))
-  | inr ne ↦ subst (IsImage at f (get_or olds i d)) (sym (get_or_append_left news (x ∷ []) d i (omega (arith, low, ne, len))))
-      (images i d (omega (arith, low, ne)))
-]
 
 -- one more part is changed in its place
 module _ {C : Type 0} (at : C → ℕ → Pte) (f : Pte → Pte) (olds news : List (ℕ × C)) (n : ℕ) (p x : ℕ × C) (len : length news ≡ length olds)
@@ -77,23 +56,22 @@ found_image at f (p ∷ ps) (q ∷ qs) len images none n page =
     by true head rest = head
     by false head rest = rest
 
-module _ {C : Type 0} (at : C → ℕ → Pte) (span : ℕ) (f : Pte → Pte) (olds news : List (ℕ × C)) (len : length news ≡ length olds)
-    (images : AreImages at f (length olds) olds news) where
+module _ {C : Type 0} (at : C → ℕ → Pte) (span : ℕ) (f : Pte → Pte) (olds news : List (ℕ × C)) (images : AreAllImages at f olds news) where
   pub entries_image : f Empty ≡ Empty → (page : ℕ) → entries at span news page ≡ f (entries at span olds page)
   entries_image none page = by (nat_lt (page / span) 512)
     where
       by : (b : Bool) → in_part at (cond b (lookup (nat_eq (page / span)) news) None) (page % span) ≡ f
           (in_part at (cond b (lookup (nat_eq (page / span)) olds) None) (page % span))
-      by true = found_image at f olds news len images none (page / span) (page % span)
+      by true = found_image at f olds news images.many images.each none (page / span) (page % span)
       by false = sym none
 
   pub good_image : ((e : Pte) → f e ≡ Empty → e ≡ Empty) → AreParts at span olds → AreParts at span news
   good_image still good = record {
-    rising = λ i j d lt high. let one = (images i d (omega (arith, lt, high, len))).number in let two =
-        (images j d (omega (arith, high, len))).number in
-        let old = good.rising i j d lt (omega (arith, high, len)) in omega (arith, one, two, old);
-    below = λ i d high. let one = (images i d (omega (arith, high, len))).number in let old = good.below i d (omega (arith, high, len)) in
+    rising = λ i j d lt high. let one = (images.each i d (omega (arith, lt, high, images.many))).number in let two =
+        (images.each j d (omega (arith, high, images.many))).number in
+        let old = good.rising i j d lt (omega (arith, high, images.many)) in omega (arith, one, two, old);
+    below = λ i d high. let one = (images.each i d (omega (arith, high, images.many))).number in let old = good.below i d (omega (arith, high, images.many)) in
         omega (arith, one, old);
-    full = λ i d high none. good.full i d (omega (arith, high, len))
-        (λ page low. still _ (sym ((images i d (omega (arith, high, len))).each page) ∙ none page low));
+    full = λ i d high none. good.full i d (omega (arith, high, images.many))
+        (λ page low. still _ (sym ((images.each i d (omega (arith, high, images.many))).each page) ∙ none page low));
   }

@@ -8,20 +8,22 @@ ghost use Rattle.av_pagetable.specs.Dir.{IsFullGroup, no_entry};
 ghost use Rattle.av_pagetable.specs.declared.pte.Pte.{Pte};
 
 use crate::level::Level;
+use crate::parts::Parts;
 use crate::pte::Pte;
 use crate::table::{GROUP, no_entries};
 use std::alloc::{AllocError, Global};
 use std::marker::Model;
 
 /// A table of 512 parts: of a page table's tables below, or of its entries. It keeps the parts that
-/// have an entry, by rising number, and gives back the others.
+/// have an entry, by rising number, and gives back the others. One that is alone lies in the table
+/// itself, and more in an array (`Parts`), so that a table where pages stand far apart takes no
+/// memory, and a new one none.
 ///
 /// It is seen as the list of these parts with their numbers.
 #[derive(Drop)]
 pub struct Dir<C: Level> {
     alloc: Global,
-    // An array and not a queue: a look asks each level for its first part, and little else.
-    parts: Vec<(u16, C)>,
+    parts: Parts<C>,
 }
 
 impl<C: Level> Model for Dir<C> {
@@ -30,10 +32,11 @@ impl<C: Level> Model for Dir<C> {
     ghost Value = { List (ℕ × C) };
 
     ghost use Rattle.av_pagetable.specs.Dir.{AreParts};
+    ghost use Rattle.av_pagetable.specs.Parts.{parts_in};
 
-    ghost view = { λ d. d.parts.items };
+    ghost view = { λ d. parts_in d.parts };
 
-    ghost invariant = { λ d. AreParts C.at C.span d.parts.items };
+    ghost invariant = { λ d. AreParts C.at C.span (parts_in d.parts) };
 }
 
 impl<C: Level> Level for Dir<C> {
@@ -52,9 +55,10 @@ impl<C: Level> Level for Dir<C> {
     }
 
     fn new(alloc: Global) -> Result<Self, AllocError> {
-        // Where pages stand far apart, each part has one below it.
-        let parts = Vec::with_capacity(alloc, 1)?;
-        Ok(Dir { alloc, parts })
+        Ok(Dir {
+            alloc,
+            parts: Parts::new(alloc),
+        })
     }
 
     #[inline]
@@ -84,12 +88,12 @@ impl<C: Level> Level for Dir<C> {
         let there = page % span;
         match self.place(number) {
             Ok(place) => {
-                let part = &mut self.parts[place];
+                let part = self.parts.at_mut(place);
                 part.1.set(there, entry)
             }
             Err(place) => {
                 let part = with_one(self.alloc, there, entry)?;
-                self.parts.insert(place, (number as u16, part))?;
+                self.parts.insert(self.alloc, place, (number as u16, part))?;
                 Ok(())
             }
         }
@@ -100,7 +104,7 @@ impl<C: Level> Level for Dir<C> {
         let span = C::span();
         match self.place(page / span) {
             Ok(place) => {
-                let part = &mut self.parts[place];
+                let part = self.parts.at_mut(place);
                 part.1.change(page % span, entry);
             }
             Err(_) => {}
@@ -113,7 +117,7 @@ impl<C: Level> Level for Dir<C> {
         let Some(place) = self.near_place(page / span) else {
             return false;
         };
-        let part = &mut self.parts[place];
+        let part = self.parts.at_mut(place);
         part.1.change_near(page % span, entry)
     }
 
@@ -122,10 +126,10 @@ impl<C: Level> Level for Dir<C> {
         let span = C::span();
         match self.place(page / span) {
             Ok(place) => {
-                let part = &mut self.parts[place];
+                let part = self.parts.at_mut(place);
                 let entry = part.1.take(page % span);
                 if part.1.is_empty() {
-                    self.parts.remove(place);
+                    self.parts.remove(self.alloc, place);
                 }
                 entry
             }
@@ -158,10 +162,7 @@ impl<C: Level> Level for Dir<C> {
     }
 
     fn for_child(&self) -> Result<Self, AllocError> {
-        let mut parts = Vec::with_capacity(self.alloc, self.parts.len())?;
-        for part in &self.parts {
-            parts.push_reserved((part.0, part.1.for_child()?));
-        }
+        let parts = self.parts.for_child(self.alloc)?;
         Ok(Dir {
             alloc: self.alloc,
             parts,
@@ -169,10 +170,7 @@ impl<C: Level> Level for Dir<C> {
     }
 
     fn write_protect(&mut self) {
-        for place in 0..self.parts.len() {
-            let part = &mut self.parts[place];
-            part.1.write_protect();
-        }
+        self.parts.write_protect();
     }
 
     fn held(&self) -> u64 {
@@ -192,7 +190,7 @@ impl<C: Level> Dir<C> {
     pub fn clear(&mut self)
         ensures { self.new ≡ [] }
     {
-        self.parts.clear();
+        self.parts.clear(self.alloc);
     }
 
     /// The part of this number, if there is one.
@@ -208,7 +206,7 @@ impl<C: Level> Dir<C> {
             return None;
         }
         match self.place_past(number) {
-            Ok(place) => Some(&parts[place].1),
+            Ok(place) => Some(&parts.at(place).1),
             Err(_) => None,
         }
     }
@@ -223,13 +221,13 @@ impl<C: Level> Dir<C> {
         if parts.is_empty() {
             return None;
         }
-        let first = &parts[0];
+        let first = parts.at(0);
         if u64::from(first.0) == number {
             return Some(&first.1);
         }
         let reach = number.wrapping_sub(u64::from(first.0));
         if reach < parts.len() as u64 {
-            let part = &parts[reach as usize];
+            let part = parts.at(reach as usize);
             if u64::from(part.0) == number {
                 return Some(&part.1);
             }
@@ -247,12 +245,12 @@ impl<C: Level> Dir<C> {
         if parts.is_empty() {
             return None;
         }
-        let first = u64::from(parts[0].0);
+        let first = u64::from(parts.at(0).0);
         if first == number {
             return Some(0);
         }
         let reach = number.wrapping_sub(first);
-        if reach < parts.len() as u64 && u64::from(parts[reach as usize].0) == number {
+        if reach < parts.len() as u64 && u64::from(parts.at(reach as usize).0) == number {
             return Some(reach as usize);
         }
         None
@@ -279,24 +277,24 @@ impl<C: Level> Dir<C> {
         ensures { IsPlace number self.now result }
     {
         let parts = &self.parts;
-        let first = u64::from(parts[0].0);
+        let first = u64::from(parts.at(0).0);
         if number < first {
             return Err(0);
         }
         let len = parts.len();
-        if u64::from(parts[len - 1].0) < number {
+        if u64::from(parts.at(len - 1).0) < number {
             return Err(len);
         }
         // Where the numbers stand evenly.
         let reach = number.wrapping_sub(first);
-        let width = u64::from(parts[len - 1].0).wrapping_sub(first);
+        let width = u64::from(parts.at(len - 1).0).wrapping_sub(first);
         let steps = reach.wrapping_mul(len as u64 - 1).wrapping_add(width / 2);
         if let Some(guess) = steps.checked_div(width) {
-            if guess < len as u64 && u64::from(parts[guess as usize].0) == number {
+            if guess < len as u64 && u64::from(parts.at(guess as usize).0) == number {
                 return Ok(guess as usize);
             }
         }
-        parts.binary_search_by_key(&(number as u16), |part| part.0)
+        parts.search(number as u16)
     }
 
     // The least page with an entry in the part at a place, from this one of the part on.
@@ -310,7 +308,7 @@ impl<C: Level> Dir<C> {
         if place >= self.parts.len() {
             return None;
         }
-        let part = &self.parts[place];
+        let part = self.parts.at(place);
         let found = part.1.next_from(from)?;
         Some(u64::from(part.0) * C::span() + found)
     }
@@ -326,7 +324,7 @@ impl<C: Level> Dir<C> {
         if place >= self.parts.len() {
             return None;
         }
-        let part = &self.parts[place];
+        let part = self.parts.at(place);
         let found = part.1.first()?;
         Some(u64::from(part.0) * C::span() + found)
     }
@@ -340,7 +338,7 @@ impl<C: Level> Dir<C> {
         let _span = C::span();
         let mut total = 0;
         for place in 0..self.parts.len() {
-            total += self.parts[place].1.held();
+            total += self.parts.at(place).1.held();
         }
         total
     }

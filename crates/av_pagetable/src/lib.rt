@@ -6,6 +6,10 @@
 //! call answers and changes, that nothing else changes, that want of memory changes nothing, and
 //! how many tables a `RadixTable` holds.
 //!
+//! A table of a `RadixTable` keeps the parts that have an entry: one alone in itself, more in an
+//! array (`Parts`). Many a process has few pages, and a fork copies each of its tables: with one
+//! page it takes no memory for any of the four.
+//!
 //! `Tables` also keeps a mark for each frame of which no entry is seen, so that nobody has to walk
 //! to find that out (`may_be_seen`). Proved: where there is a mark, none is. Not proved: that a
 //! mark is ever set; without memory it is not.
@@ -15,6 +19,7 @@ mod dir;
 mod level;
 mod marks;
 mod middle;
+mod parts;
 mod places;
 mod pte;
 mod radix;

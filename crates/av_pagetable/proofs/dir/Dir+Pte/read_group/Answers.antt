@@ -14,7 +14,7 @@ returns-then-is_whole c = λ i under.
     let k = c.match-place.start in
     let found = c.if-is_whole.ensures in
     let front = c.as_slice-parts.result.now in
-    let all : front ≡ v = c.as_slice-parts.ensures.value ∙ c.self.view_is in
+    let all : front ≡ v = c.as_slice-parts.ensures ∙ c.self.view_is in
     let same : (j : ℕ) (d : ℕ × Pte) → get_or v j d ≡ get_or front j d = λ j d. ap (λ l. get_or l j d) (sym all) in
     let many : k + 63 < length v = omega (arith, found.0, ap length all) in
     let d : ℕ × Pte = (0, Empty) in
@@ -35,7 +35,7 @@ loop-part-init c =
     let k = c.match-place.start in
     let front = c.as_slice-parts.result.now in
     let left : take (length front - k) (drop k front) ≡ drop k v = take_all _ (drop k front) (omega (arith, length-drop k front))
-    ∙ ap (drop k) (c.as_slice-parts.ensures.value ∙ c.self.view_is) in
+    ∙ ap (drop k) (c.as_slice-parts.ensures ∙ c.self.view_is) in
     record {
       long = omega (arith, c.no_entries.type_inv);
       gathered = at_start v good c.args.first k _ _ (elim c.match-place.branch [

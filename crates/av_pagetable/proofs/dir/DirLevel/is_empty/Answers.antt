@@ -1,6 +1,7 @@
 use Rattle.av_pagetable.specs.Table.{HasSome}
-use Rattle.std.proofs.Common.{arith, ◌≡◌, ◌<◌, ◌*◌, ◌∙◌, sym, ap, subst, ℕ}
+use Rattle.std.proofs.Common.{arith, ◌≡◌, ◌<◌, ◌*◌, ◌∙◌, sym, ap, subst, length, ℕ}
 use Rattle.av_pagetable.specs.Dir.{entries}
+use Rattle.av_pagetable.specs.Parts.{parts_in}
 use Rattle.std.proofs.Common.{Bool, true, false, MatchBool, ◌==◌}
 use Rattle.std.proofs.lemmas.Bool.Decides.{nat_tests}
 use Rattle.av_pagetable.proofs.DirEntries.{no_entries, some_entry}
@@ -14,7 +15,7 @@ pub returns : goal.returns
 returns g c =
     let d = c.self.inside in
     let C = g.C.Level in
-    by_test d.parts.len c.is_empty.result _ _ c.is_empty.ensures
-    (λ none q. ap (λ v. entries C.at C.span v q) (sym c.self.view_is) ∙ no_entries C.at C.span d.parts.items (omega (arith, none, d.parts.ok.0)) q)
+    by_test (length (parts_in d.parts)) c.is_empty.result _ _ c.is_empty.ensures
+    (λ none q. ap (λ v. entries C.at C.span v q) (sym c.self.view_is) ∙ no_entries C.at C.span (parts_in d.parts) none q)
     (λ more. subst (λ v. HasSome (C.span * 512) (entries C.at C.span v)) c.self.view_is
-    (some_entry C.at C.span d.parts.items c.self.invariant (omega (arith, more, d.parts.ok.0))))
+    (some_entry C.at C.span (parts_in d.parts) c.self.invariant more))

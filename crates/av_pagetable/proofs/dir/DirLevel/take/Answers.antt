@@ -1,10 +1,12 @@
 use Rattle.std.proofs.Common.{◌≡◌, ◌<◌, ◌≤◌, ◌/◌, ◌%◌, ◌∙◌, sym, ap, refl, length}
-use Rattle.std.specs.List.{AllWithin}
+use Rattle.std.specs.List.{AllWithin, remove}
 use Rattle.std.proofs.lemmas.Nat.{mod_below}
 use Rattle.av_base.specs.Words.{with_at}
 use Rattle.av_pagetable.specs.declared.pte.Pte.TheVariants.{Empty}
 use Rattle.av_pagetable.specs.Dir.{entries}
+use Rattle.av_pagetable.specs.Parts.{parts_in}
 use Rattle.av_pagetable.proofs.DirParts.{set_good, remove_good, set_removed}
+use Rattle.av_pagetable.proofs.PartsLaws.{parts_in-with_part}
 use Rattle.av_pagetable.proofs.DirEntries.{written, dropped, entry_there, absent}
 use Rattle.av_pagetable.proofs.dir.DirLevel.take.Goals as goal
 
@@ -13,40 +15,42 @@ invariant_of-self g c =
     let d = c.self.inside in
     let C = g.C.Level in
     let k = c.in-Ok.place in
-    let p = c.index_mut-part.result.now in
-    let is = c.index_mut-part.ensures.value in
-    let within : k < length d.parts.items = rw c.self.view_is c.in-Ok.ensures.0 in
+    let p = c.at_mut-part.result.now in
+    let is = c.at_mut-part.ensures.value in
+    let within : k < length (parts_in d.parts) = rw c.self.view_is c.in-Ok.ensures.0 in
     let here : p.0 ≡ c.args.page / C.span = ap (λ part. part.0) is ∙ rw (c.self.view_is, ← c.span-span.ensures.is) (c.in-Ok.ensures.1 p) in
     let under : c.args.page % c.span-span.result < C.span = rw c.span-span.ensures.is (mod_below c.args.page C.span c.span-span.ensures.some) in
     rw (
-      c.remove.ensures.items,
-      set_removed d.parts.items k (p.0, c.take-entry.new.self),
-    ) (remove_good C.at C.span d.parts.items c.self.invariant k p within is)
+      c.remove.ensures,
+      parts_in-with_part d.parts k (p.0, c.take-entry.new.self) within,
+      set_removed (parts_in d.parts) k (p.0, c.take-entry.new.self),
+    ) (remove_good C.at C.span (parts_in d.parts) c.self.invariant k p within is)
 
 pub invariant_of-self-else-is_empty : goal.invariant_of-self-else-is_empty
 invariant_of-self-else-is_empty g c =
     let d = c.self.inside in
     let C = g.C.Level in
     let k = c.in-Ok.place in
-    let p = c.index_mut-part.result.now in
-    let is = c.index_mut-part.ensures.value in
-    let within : k < length d.parts.items = rw c.self.view_is c.in-Ok.ensures.0 in
+    let p = c.at_mut-part.result.now in
+    let is = c.at_mut-part.ensures.value in
+    let within : k < length (parts_in d.parts) = rw c.self.view_is c.in-Ok.ensures.0 in
     let here : p.0 ≡ c.args.page / C.span = ap (λ part. part.0) is ∙ rw (c.self.view_is, ← c.span-span.ensures.is) (c.in-Ok.ensures.1 p) in
     let under : c.args.page % c.span-span.result < C.span = rw c.span-span.ensures.is (mod_below c.args.page C.span c.span-span.ensures.some) in
-    set_good C.at C.span d.parts.items c.self.invariant k p within is (p.0, c.take-entry.new.self) refl c.if-is_empty.ensures
+    rw (parts_in-with_part d.parts k (p.0, c.take-entry.new.self) within)
+    (set_good C.at C.span (parts_in d.parts) c.self.invariant k p within is (p.0, c.take-entry.new.self) refl c.if-is_empty.ensures)
 
 pub returns-then-is_empty-clause-gives : goal.returns-then-is_empty-clause-gives
 returns-then-is_empty-clause-gives g c =
     let d = c.self.inside in
     let C = g.C.Level in
     let k = c.in-Ok.place in
-    let p = c.index_mut-part.result.now in
-    let is = c.index_mut-part.ensures.value in
-    let within : k < length d.parts.items = rw c.self.view_is c.in-Ok.ensures.0 in
+    let p = c.at_mut-part.result.now in
+    let is = c.at_mut-part.ensures.value in
+    let within : k < length (parts_in d.parts) = rw c.self.view_is c.in-Ok.ensures.0 in
     let here : p.0 ≡ c.args.page / C.span = ap (λ part. part.0) is ∙ rw (c.self.view_is, ← c.span-span.ensures.is) (c.in-Ok.ensures.1 p) in
     let under : c.args.page % c.span-span.result < C.span = rw c.span-span.ensures.is (mod_below c.args.page C.span c.span-span.ensures.some) in
     c.take-entry.ensures.gives ∙ ap (λ s. C.at p.1 (c.args.page % s)) c.span-span.ensures.is
-    ∙ sym (entry_there C.at C.span d.parts.items c.self.invariant k p within is c.args.page here)
+    ∙ sym (entry_there C.at C.span (parts_in d.parts) c.self.invariant k p within is c.args.page here)
     ∙ ap (λ v. entries C.at C.span v c.args.page) c.self.view_is
 
 pub returns-else-is_empty-clause-gives : goal.returns-else-is_empty-clause-gives
@@ -54,13 +58,13 @@ returns-else-is_empty-clause-gives g c =
     let d = c.self.inside in
     let C = g.C.Level in
     let k = c.in-Ok.place in
-    let p = c.index_mut-part.result.now in
-    let is = c.index_mut-part.ensures.value in
-    let within : k < length d.parts.items = rw c.self.view_is c.in-Ok.ensures.0 in
+    let p = c.at_mut-part.result.now in
+    let is = c.at_mut-part.ensures.value in
+    let within : k < length (parts_in d.parts) = rw c.self.view_is c.in-Ok.ensures.0 in
     let here : p.0 ≡ c.args.page / C.span = ap (λ part. part.0) is ∙ rw (c.self.view_is, ← c.span-span.ensures.is) (c.in-Ok.ensures.1 p) in
     let under : c.args.page % c.span-span.result < C.span = rw c.span-span.ensures.is (mod_below c.args.page C.span c.span-span.ensures.some) in
     c.take-entry.ensures.gives ∙ ap (λ s. C.at p.1 (c.args.page % s)) c.span-span.ensures.is
-    ∙ sym (entry_there C.at C.span d.parts.items c.self.invariant k p within is c.args.page here)
+    ∙ sym (entry_there C.at C.span (parts_in d.parts) c.self.invariant k p within is c.args.page here)
     ∙ ap (λ v. entries C.at C.span v c.args.page) c.self.view_is
 
 pub returns-then-is_empty-clause-takes : goal.returns-then-is_empty-clause-takes
@@ -68,15 +72,15 @@ returns-then-is_empty-clause-takes g c =
     let d = c.self.inside in
     let C = g.C.Level in
     let k = c.in-Ok.place in
-    let p = c.index_mut-part.result.now in
-    let is = c.index_mut-part.ensures.value in
-    let within : k < length d.parts.items = rw c.self.view_is c.in-Ok.ensures.0 in
+    let p = c.at_mut-part.result.now in
+    let is = c.at_mut-part.ensures.value in
+    let within : k < length (parts_in d.parts) = rw c.self.view_is c.in-Ok.ensures.0 in
     let here : p.0 ≡ c.args.page / C.span = ap (λ part. part.0) is ∙ rw (c.self.view_is, ← c.span-span.ensures.is) (c.in-Ok.ensures.1 p) in
     let under : c.args.page % c.span-span.result < C.span = rw c.span-span.ensures.is (mod_below c.args.page C.span c.span-span.ensures.some) in
     ap (entries C.at C.span)
-    (c.remove.ensures.items
-    ∙ set_removed d.parts.items k (p.0, c.take-entry.new.self))
-    ∙ dropped C.at C.span d.parts.items c.self.invariant k p within is c.args.page c.take-entry.new.self here
+    (c.remove.ensures ∙ ap (λ l. remove l k) (parts_in-with_part d.parts k (p.0, c.take-entry.new.self) within)
+    ∙ set_removed (parts_in d.parts) k (p.0, c.take-entry.new.self))
+    ∙ dropped C.at C.span (parts_in d.parts) c.self.invariant k p within is c.args.page c.take-entry.new.self here
     (rw (← c.span-span.ensures.is) c.take-entry.ensures.takes) c.if-is_empty.ensures
     ∙ ap (λ v. with_at c.args.page Empty (entries C.at C.span v)) c.self.view_is
 
@@ -85,12 +89,13 @@ returns-else-is_empty-clause-takes g c =
     let d = c.self.inside in
     let C = g.C.Level in
     let k = c.in-Ok.place in
-    let p = c.index_mut-part.result.now in
-    let is = c.index_mut-part.ensures.value in
-    let within : k < length d.parts.items = rw c.self.view_is c.in-Ok.ensures.0 in
+    let p = c.at_mut-part.result.now in
+    let is = c.at_mut-part.ensures.value in
+    let within : k < length (parts_in d.parts) = rw c.self.view_is c.in-Ok.ensures.0 in
     let here : p.0 ≡ c.args.page / C.span = ap (λ part. part.0) is ∙ rw (c.self.view_is, ← c.span-span.ensures.is) (c.in-Ok.ensures.1 p) in
     let under : c.args.page % c.span-span.result < C.span = rw c.span-span.ensures.is (mod_below c.args.page C.span c.span-span.ensures.some) in
-    written C.at C.span d.parts.items c.self.invariant k p within is c.args.page Empty c.take-entry.new.self here
+    ap (entries C.at C.span) (parts_in-with_part d.parts k (p.0, c.take-entry.new.self) within)
+    ∙ written C.at C.span (parts_in d.parts) c.self.invariant k p within is c.args.page Empty c.take-entry.new.self here
     (rw (← c.span-span.ensures.is) c.take-entry.ensures.takes)
     ∙ ap (λ v. with_at c.args.page Empty (entries C.at C.span v)) c.self.view_is
 
@@ -101,11 +106,11 @@ returns-in-Err-clause-gives g c =
     let k = c.in-Err.field-0 in
     let n = c.args.page / c.span-span.result in
     let here : n ≡ c.args.page / C.span = ap (λ s. c.args.page / s) c.span-span.ensures.is in
-    let within : k ≤ length d.parts.items = rw c.self.view_is c.in-Err.ensures.0 in
-    let lower : AllWithin (λ part. part.0 < n) d.parts.items 0 k = rw c.self.view_is c.in-Err.ensures.1 in
-    let higher : AllWithin (λ part. n < part.0) d.parts.items k (length d.parts.items) = rw c.self.view_is c.in-Err.ensures.2 in
+    let within : k ≤ length (parts_in d.parts) = rw c.self.view_is c.in-Err.ensures.0 in
+    let lower : AllWithin (λ part. part.0 < n) (parts_in d.parts) 0 k = rw c.self.view_is c.in-Err.ensures.1 in
+    let higher : AllWithin (λ part. n < part.0) (parts_in d.parts) k (length (parts_in d.parts)) = rw c.self.view_is c.in-Err.ensures.2 in
     let none = ap (λ v. entries C.at C.span v c.args.page) (sym c.self.view_is)
-    ∙ absent C.at C.span d.parts.items k n c.args.page within lower higher here in
+    ∙ absent C.at C.span (parts_in d.parts) k n c.args.page within lower higher here in
     sym none
 
 pub returns-in-Err-clause-takes : goal.returns-in-Err-clause-takes
@@ -115,11 +120,11 @@ returns-in-Err-clause-takes g c =
     let k = c.in-Err.field-0 in
     let n = c.args.page / c.span-span.result in
     let here : n ≡ c.args.page / C.span = ap (λ s. c.args.page / s) c.span-span.ensures.is in
-    let within : k ≤ length d.parts.items = rw c.self.view_is c.in-Err.ensures.0 in
-    let lower : AllWithin (λ part. part.0 < n) d.parts.items 0 k = rw c.self.view_is c.in-Err.ensures.1 in
-    let higher : AllWithin (λ part. n < part.0) d.parts.items k (length d.parts.items) = rw c.self.view_is c.in-Err.ensures.2 in
+    let within : k ≤ length (parts_in d.parts) = rw c.self.view_is c.in-Err.ensures.0 in
+    let lower : AllWithin (λ part. part.0 < n) (parts_in d.parts) 0 k = rw c.self.view_is c.in-Err.ensures.1 in
+    let higher : AllWithin (λ part. n < part.0) (parts_in d.parts) k (length (parts_in d.parts)) = rw c.self.view_is c.in-Err.ensures.2 in
     let none = ap (λ v. entries C.at C.span v c.args.page) (sym c.self.view_is)
-    ∙ absent C.at C.span d.parts.items k n c.args.page within lower higher here in
+    ∙ absent C.at C.span (parts_in d.parts) k n c.args.page within lower higher here in
     absurd (c.requires.there none)
 
 pub take-entry-requires-clause-there : goal.take-entry-requires-clause-there
@@ -127,10 +132,10 @@ take-entry-requires-clause-there g c =
     let d = c.self.inside in
     let C = g.C.Level in
     let k = c.in-Ok.place in
-    let p = c.index_mut-part.result.now in
-    let is = c.index_mut-part.ensures.value in
-    let within : k < length d.parts.items = rw c.self.view_is c.in-Ok.ensures.0 in
+    let p = c.at_mut-part.result.now in
+    let is = c.at_mut-part.ensures.value in
+    let within : k < length (parts_in d.parts) = rw c.self.view_is c.in-Ok.ensures.0 in
     let here : p.0 ≡ c.args.page / C.span = ap (λ part. part.0) is ∙ rw (c.self.view_is, ← c.span-span.ensures.is) (c.in-Ok.ensures.1 p) in
     λ none. c.requires.there
-    (ap (λ v. entries C.at C.span v c.args.page) (sym c.self.view_is) ∙ entry_there C.at C.span d.parts.items c.self.invariant k p
+    (ap (λ v. entries C.at C.span v c.args.page) (sym c.self.view_is) ∙ entry_there C.at C.span (parts_in d.parts) c.self.invariant k p
     within is c.args.page here ∙ ap (λ s. C.at p.1 (c.args.page % s)) (sym c.span-span.ensures.is) ∙ none)
