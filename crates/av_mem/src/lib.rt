@@ -34,8 +34,8 @@
 //! look through the trait `Look` alone, no more often than they take steps. Not proved: that
 //! nothing which holds a `Mem`, `walk` among it, asks the tables past that trait; and how often
 //! `unmap`, `unsee`, `is_locked`, `locked_frames` and `namers` look, whose steps nobody counts.
-//! `unsee` does not look where the tables have a mark that no entry of the frame is seen, and leaves
-//! one: that there ever is one is not proved either.
+//! `unsee` does not look where the tables have a mark that no entry of the frame is seen, and
+//! leaves one: that there ever is one is not proved either.
 #![tactic(auto)]
 
 mod cache;

@@ -9,4 +9,5 @@ use Rattle.av_pagetable.specs.Parts.{with_part}
 -- once the borrow r ends, the part at the place is what r shows last
 abbrev pub LendsPart : (C : RattleType) → MutBor (Parts C.Denot) → ℕ → MutBor (ℕ × C.Denot)
     → Fml
-LendsPart C parts place r = Lends (the_row C) (Tuple (u16 ∷ C ∷ [])) parts r (with_part parts.now place)
+LendsPart C parts place r =
+    Lends (the_row C) (Tuple (u16 ∷ C ∷ [])) parts r (with_part parts.now place)

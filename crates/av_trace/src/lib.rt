@@ -3,8 +3,8 @@
 //! Proved: a line is accepted exactly where it is one of the grammar (`specs/Command.antt`), and
 //! says one thing (`parse_line`, `one_meaning`); the text of every reply, exactly (`reply_text`),
 //! of its answer (`answer_line`) and of each note (`note_text`); two replies with one text are
-//! equal, whatever the commands (`one_reply`). Without memory `parse_line` fails only at a write, and what
-//! adds a text may have added a part of it.
+//! equal, whatever the commands (`one_reply`). Without memory `parse_line` fails only at a write,
+//! and what adds a text may have added a part of it.
 //!
 //! Only tested: nothing. Which reply a command has is no matter of this crate.
 #![tactic(auto)]
