@@ -1,7 +1,8 @@
 //! The nodes with the heads of their lists.
 ghost use Rattle.av_base.specs.Words.{is_in};
 ghost use Rattle.std.specs.Prelude.{◌≡◌, ℕ, ◌-◌, ◌<◌, ◌^◌, [], ◌∷◌, ◌++◌, Some, None, true, false};
-ghost use Rattle.std.specs.Prelude.{IfOk, OnOk, OnErr, IfSome, IfNone, is_some, length, nat_eq, take};
+ghost use Rattle.std.specs.Prelude.{IfOk, OnOk, OnErr, IfSome, IfNone, is_some, length, nat_eq};
+ghost use Rattle.std.specs.Prelude.{take};
 ghost use Rattle.std.specs.HashMap.{get, spare};
 ghost use Rattle.av_chain.specs.declared.node.Way.TheVariants.{Area as AreaWay, Anon as AnonWay};
 ghost use Rattle.av_chain.specs.Nodes.{has_place, without_node};
