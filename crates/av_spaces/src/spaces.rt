@@ -174,7 +174,7 @@ impl Spaces {
             unreachable!()
         };
         let spans = take_spans(&mut self.spans, self.alloc, tree)?;
-        let mut tree = Tree::new(self.alloc);
+        let mut tree = Tree::with_room(self.alloc, spans.len())?;
         let result = fork_each(&mut self.areas, &mut tree, anons, &spans, child);
         self.spans = spans;
         put_tree(&mut self.trees, child, tree);
