@@ -15,4 +15,5 @@ trees_row = vec.the_row (option.the_row tree.the_row) global.the_row ghosts
 
 -- the tree that is lent comes back to its place, and no other changes
 abbrev pub LendsTree : MutBor trees_row.Denot → ℕ → MutBor tree.the_row.Denot → Fml
-LendsTree trees p r = Lends trees_row tree.the_row trees r (λ tree. with_item trees.now p (Some tree))
+LendsTree trees p r =
+    Lends trees_row tree.the_row trees r (λ spans. with_item trees.now p (Some spans))

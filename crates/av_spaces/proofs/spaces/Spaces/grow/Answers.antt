@@ -42,4 +42,5 @@ pub returns-clause-anons : goal.returns-clause-anons
 returns-clause-anons c =
     let lent = is_lent c.self.inside.areas c.self.inside.trees.items c.self.inside.alive c.args.self.now c.args.process c.tree_mut-tree.result.now
     c.self.view_is c.self.invariant c.tree_mut-tree.ensures.tree in
-    on_ok c.grow.result (λ kin. anons_back lent c.grow.new.areas c.grow.new.tree (c.grow.ensures.stands c.args.process) c.args.anons.now c.grow.new.anons c.requires.order kin) c.grow.ensures.kin
+    on_ok c.grow.result (λ kin. anons_back lent c.grow.new.areas c.grow.new.tree (c.grow.ensures.stands c.args.process)
+    c.args.anons.now c.grow.new.anons c.requires.order kin) c.grow.ensures.kin

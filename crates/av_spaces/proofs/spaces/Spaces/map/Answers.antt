@@ -46,4 +46,5 @@ pub returns-clause-anons : goal.returns-clause-anons
 returns-clause-anons c =
     let lent = is_lent c.self.inside.areas c.self.inside.trees.items c.self.inside.alive c.args.self.now c.args.process c.tree_mut-tree.result.now
     c.self.view_is c.self.invariant c.tree_mut-tree.ensures.tree in
-    on_ok c.map.result (λ kin. anons_back lent c.map.new.areas c.map.new.tree (λ _. c.map.ensures.stands) c.args.anons.now c.map.new.anons c.requires.order kin) c.map.ensures.kin
+    on_ok c.map.result (λ kin. anons_back lent c.map.new.areas c.map.new.tree (λ _. c.map.ensures.stands)
+    c.args.anons.now c.map.new.anons c.requires.order kin) c.map.ensures.kin

@@ -57,4 +57,5 @@ pub returns-clause-anons : goal.returns-clause-anons
 returns-clause-anons c =
     let lent = is_lent c.self.inside.areas c.self.inside.trees.items c.self.inside.alive c.args.self.now c.args.process c.tree_mut-tree.result.now
     c.self.view_is c.self.invariant c.tree_mut-tree.ensures.tree in
-    on_ok c.map_like.result (λ kin. anons_back lent c.map_like.new.areas c.map_like.new.tree (λ _. c.map_like.ensures.stands) c.args.anons.now c.map_like.new.anons c.requires.order kin) c.map_like.ensures.kin
+    on_ok c.map_like.result (λ kin. anons_back lent c.map_like.new.areas c.map_like.new.tree (λ _. c.map_like.ensures.stands)
+    c.args.anons.now c.map_like.new.anons c.requires.order kin) c.map_like.ensures.kin

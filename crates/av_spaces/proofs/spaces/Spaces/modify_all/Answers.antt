@@ -61,4 +61,5 @@ returns-clause-anons c =
     let lent = is_lent c.self.inside.areas c.self.inside.trees.items c.self.inside.alive c.args.self.now c.args.process c.tree_mut-tree.result.now
     c.self.view_is c.self.invariant c.tree_mut-tree.ensures.tree in
     on_ok c.modify_all.result
-    (λ kin. anons_back lent c.modify_all.new.areas c.modify_all.new.tree (c.modify_all.ensures.stands c.args.process) c.args.anons.now c.modify_all.new.anons c.requires.order kin) c.modify_all.ensures.kin
+    (λ kin. anons_back lent c.modify_all.new.areas c.modify_all.new.tree (c.modify_all.ensures.stands c.args.process)
+    c.args.anons.now c.modify_all.new.anons c.requires.order kin) c.modify_all.ensures.kin

@@ -37,4 +37,5 @@ pub returns-clause-anons : goal.returns-clause-anons
 returns-clause-anons c =
     let lent = is_lent c.self.inside.areas c.self.inside.trees.items c.self.inside.alive c.args.self.now c.args.process c.tree_mut-tree.result.now
     c.self.view_is c.self.invariant c.tree_mut-tree.ensures.tree in
-    on_ok c.unmap.result (λ kin. anons_back lent c.unmap.new.areas c.unmap.new.tree (c.unmap.ensures.stands c.args.process) c.args.anons.now c.unmap.new.anons c.requires.order kin) c.unmap.ensures.kin
+    on_ok c.unmap.result (λ kin. anons_back lent c.unmap.new.areas c.unmap.new.tree (c.unmap.ensures.stands c.args.process)
+    c.args.anons.now c.unmap.new.anons c.requires.order kin) c.unmap.ensures.kin
