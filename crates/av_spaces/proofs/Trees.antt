@@ -1,10 +1,9 @@
 -- The areas of all processes: what the trees and the numbered areas say of them, and what a change of one tree leaves.
 use Rattle.std.proofs.Common.{◌≡◌, ◌≢◌, ℕ, zero, suc, ◌+◌, ◌^◌, ◌<◌, ◌≤◌, ◌==◌, Bool, true, false, cond, List, [], ◌∷◌, ◌++◌, length, Option, Some, None, is_some, option_map, slice_set, IfSome, Result, Ok, Err, refl, sym, ap, subst, ◌∙◌, arith}
-use Rattle.std.proofs.Math.ListN.{length-set}
 use Rattle.std.proofs.lemmas.List.{length-append}
 use Rattle.std.proofs.lemmas.Bool.Decides.{nat_tests}
 use Rattle.std.proofs.lemmas.Bool.{eqb-true, false≢true}
-use Rattle.std.specs.Prelude.{IsSomeAnd, MatchOption, option_and_then, IfOk, OnOk, OnErr}
+use Rattle.std.specs.Prelude.{slice_index_or, IsSomeAnd, MatchOption, option_and_then, IfOk, OnOk, OnErr}
 use Rattle.std.specs.Ordering.{nat_cmp, is_eq}
 use Rattle.std.specs.List.{cons_option, filter_map, enumerate_from}
 use Rattle.av_base.specs.Words.{how_many}
@@ -41,6 +40,12 @@ pub place_there : (ts : Trees) (p : ℕ) → is_some (tree_at ts p) ≡ true →
 place_there [] p h = absurd (false≢true h)
 place_there (t ∷ ts) zero h = omega arith
 place_there (t ∷ ts) (suc p) h = let rest = place_there ts p h in omega (arith, rest)
+
+-- what stands in that place does not depend on what would stand past the last one
+pub tree_or : (ts : Trees) (p : ℕ) (other : Option (List Span)) → is_some (tree_at ts p) ≡ true → slice_index_or ts p other ≡ tree_at ts p
+tree_or [] p other h = absurd (false≢true h)
+tree_or (t ∷ ts) zero other h = refl
+tree_or (t ∷ ts) (suc p) other h = tree_or ts p other h
 
 tree_set : (ts : Trees) (p : ℕ) (x : Option (List Span)) → p < length ts → (q : ℕ) → tree_at (slice_set ts p x) q ≡ cond (q == p) x (tree_at ts q)
 tree_set [] p x below q = absurd (omega (arith, below))
@@ -394,44 +399,34 @@ module _ (f f' : ℕ → Option Area) (old : Trees) (p : ℕ) (before after : Li
       (ended f f' p stays_now.others old (slice_set old p None) None trees (none_left f' p (subst (AreAreasOf p f') empty stays_now.areas))
       (tree_set old p None place) refl count_left)
 
--- the tree of p is changed: it has gone from its place, and another is put there
+-- the tree of p is changed where it lies
 module _ (f f' : ℕ → Option Area) (old : Trees) (p : ℕ) (before after : List Span) (trees : AreTrees f old) (was : tree_at old p ≡ Some before)
     (stays : AreAreasOf p f before → Stays p f f' after) where
   held_place : p < length old
   held_place = place_there old p (ap is_some was)
 
-  pub place_still : p < length (slice_set old p None)
-  place_still = subst (λ n. p < n) (sym (length-set old p None)) held_place
-
   areas_before : AreAreasOf p f before
   areas_before = tree_of f old p before trees was
 
-  lent_now : (q : ℕ) → tree_at (slice_set (slice_set old p None) p (Some after)) q ≡ cond (q == p) (Some after) (tree_at old q)
-  lent_now q = tree_set (slice_set old p None) p (Some after) place_still q ∙ ap (cond (q == p) (Some after))
-      (tree_set old p None held_place q) ∙ twice (q == p)
-    where
-      twice : (b : Bool) → cond b (Some after) (cond b None (tree_at old q)) ≡ cond b (Some after) (tree_at old q)
-      twice true = refl
-      twice false = refl
+  lent_now : (q : ℕ) → tree_at (slice_set old p (Some after)) q ≡ cond (q == p) (Some after) (tree_at old q)
+  lent_now = tree_set old p (Some after) held_place
 
-  pub trees_lent : AreTrees f' (slice_set (slice_set old p None) p (Some after))
-  trees_lent = trees_changed f f' p (stays areas_before).others old (slice_set (slice_set old p None) p (Some after)) (Some after) trees
+  pub trees_lent : AreTrees f' (slice_set old p (Some after))
+  trees_lent = trees_changed f f' p (stays areas_before).others old (slice_set old p (Some after)) (Some after) trees
       (stays areas_before).areas lent_now
 
-  pub count_lent : how_many is_some (slice_set (slice_set old p None) p (Some after)) ≡ how_many is_some old
-  count_lent = counted _ _ _ _ _ (count_set (slice_set old p None) p (Some after) place_still)
-      (ap one_if (tree_set old p None held_place p ∙ ap (λ b. cond b None (tree_at old p)) (itself p))) (count_set old p None held_place)
-      (ap one_if was)
+  pub count_lent : how_many is_some (slice_set old p (Some after)) ≡ how_many is_some old
+  count_lent = counted _ _ _ (count_set old p (Some after) held_place) (ap one_if was)
     where
-      counted : (n w m v k : ℕ) → n + w ≡ m + 1 → w ≡ 0 → m + v ≡ k + 0 → v ≡ 1 → n ≡ k
-      counted n w m v k a b c d = omega arith
+      counted : (n w m : ℕ) → n + w ≡ m + 1 → w ≡ 1 → n ≡ m
+      counted n w m a b = omega arith
 
   -- what holds of the pages, by what they were
   pub changes : (s : Spaces) → spaces_by f old ≡ s → (IsSo : Pages → Pages → Type 0) → IsSo (pages_by f before) (pages_by f' after) →
-      IsChanged s (spaces_by f' (slice_set (slice_set old p None) p (Some after))) p (IsSo (pages_of s p))
+      IsChanged s (spaces_by f' (slice_set old p (Some after))) p (IsSo (pages_of s p))
   changes s is IsSo so =
-      subst (λ (t : Spaces). IsChanged t (spaces_by f' (slice_set (slice_set old p None) p (Some after))) p (IsSo (pages_of s p))) is
-      (changed f f' p (stays areas_before).others old (slice_set (slice_set old p None) p (Some after)) (Some after) trees
+      subst (λ (t : Spaces). IsChanged t (spaces_by f' (slice_set old p (Some after))) p (IsSo (pages_of s p))) is
+      (changed f f' p (stays areas_before).others old (slice_set old p (Some after)) (Some after) trees
       (stays areas_before).areas lent_now
       after refl count_lent (IsSo (pages_of s p))
       (subst (λ (on : Pages). IsSo on (pages_by f' after)) (λ i page. sym (pages_there f old p before s trees (sym was) is page) i) so))

@@ -1,5 +1,6 @@
 pub mod Fork
 pub mod Kin
+pub mod Lending
 pub mod Spaces
 pub mod Trees
 pub mod Locked

@@ -4,6 +4,7 @@ ghost use Rattle.std.specs.Prelude.{◌≡◌, ℕ, ◌+◌, ◌-◌, ◌^◌, �
 ghost use Rattle.std.specs.Prelude.{is_some, option_map, slice_set, length, IsSome, IsSomeAnd};
 ghost use Rattle.std.specs.Prelude.{OnOk, OnErr, IfOk, IfSome};
 ghost use Rattle.std.specs.List.{AllByRecursion};
+ghost use Rattle.std.specs.Borrow.{sem};
 ghost use Rattle.av_vma.specs.Areas.{area_of, is_locked};
 ghost use Rattle.av_base.specs.Flags.{no_flags};
 ghost use Rattle.av_base.specs.Limits.{low_page, top_page};
@@ -18,6 +19,7 @@ ghost use Rattle.av_anon.specs.declared.anons.Anons.{Anons};
 ghost use Rattle.av_merge.specs.Kin.{lengths};
 ghost use Rattle.av_spaces.specs.Fork.{AreKept, GoInTurn, IsForked};
 ghost use Rattle.av_spaces.specs.Kin.{AnonsPrepare, AnonsStay, InOrder, chain_at};
+ghost use Rattle.av_spaces.specs.Lending.{LendsTree};
 ghost use Rattle.av_spaces.specs.Locked.{AreLockedAreas, locked_by, spans_in};
 ghost use Rattle.av_spaces.specs.Spaces.{areas_of, pages_of, is_taken, AllRising, AreNumbered};
 ghost use Rattle.av_spaces.specs.Spaces.{AreThese, AreRising, IsSpawned, IsChanged, IsEnded};
@@ -174,7 +176,7 @@ impl Spaces {
             unreachable!()
         };
         let spans = take_spans(&mut self.spans, self.alloc, tree)?;
-        let mut tree = Tree::new(self.alloc);
+        let mut tree = Tree::with_room(self.alloc, spans.len())?;
         let result = fork_each(&mut self.areas, &mut tree, anons, &spans, child);
         self.spans = spans;
         put_tree(&mut self.trees, child, tree);
@@ -233,19 +235,17 @@ impl Spaces {
             prot no_flags (pages_of self.old.processes process)))) }
         ensures anons { OnOk result (AnonsStay self.old anons.old self.new anons.new) }
     {
-        let mut tree = take_tree(&mut self.trees, process);
-        let result = av_merge::map(
+        let tree = tree_mut(&mut self.trees, process);
+        av_merge::map(
             &mut self.areas,
-            &mut tree,
+            tree,
             anons,
             process,
             from,
             from + pages,
             prot,
             Flags::NONE,
-        );
-        put_tree(&mut self.trees, process, tree);
-        result
+        )
     }
 
     /// Maps free pages of a process that lives, each like the page that is as far from `like` on:
@@ -273,18 +273,16 @@ impl Spaces {
             (pages_of self.old.processes process)))) }
         ensures anons { OnOk result (AnonsStay self.old anons.old self.new anons.new) }
     {
-        let mut tree = take_tree(&mut self.trees, process);
-        let result = av_merge::map_like(
+        let tree = tree_mut(&mut self.trees, process);
+        av_merge::map_like(
             &mut self.areas,
-            &mut tree,
+            tree,
             anons,
             process,
             from,
             from + pages,
             like,
-        );
-        put_tree(&mut self.trees, process, tree);
-        result
+        )
     }
 
     /// Takes these pages away from a process that lives, those of them that are mapped. Without
@@ -303,10 +301,8 @@ impl Spaces {
             (AreThese (after_unmap from (from + pages) (pages_of self.old.processes process)))) }
         ensures anons { OnOk result (AnonsStay self.old anons.old self.new anons.new) }
     {
-        let mut tree = take_tree(&mut self.trees, process);
-        let result = av_merge::unmap(&mut self.areas, &mut tree, anons, from, from + pages);
-        put_tree(&mut self.trees, process, tree);
-        result
+        let tree = tree_mut(&mut self.trees, process);
+        av_merge::unmap(&mut self.areas, tree, anons, from, from + pages)
     }
 
     /// Changes these pages of a process that lives, up to the first one that is not mapped, and
@@ -331,17 +327,8 @@ impl Spaces {
         ensures mapping { IfOk result (λ reached. IsRemapped from reached (effect_of change)
             (pages_of self.old.processes process) (pages_of self.new.processes process)) }
     {
-        let mut tree = take_tree(&mut self.trees, process);
-        let result = av_merge::modify(
-            &mut self.areas,
-            &mut tree,
-            anons,
-            from,
-            from + pages,
-            change,
-        );
-        put_tree(&mut self.trees, process, tree);
-        result
+        let tree = tree_mut(&mut self.trees, process);
+        av_merge::modify(&mut self.areas, tree, anons, from, from + pages, change)
     }
 
     /// Changes those of these pages of a process that lives that are mapped, and tells the first
@@ -366,17 +353,8 @@ impl Spaces {
         ensures mapping { OnOk result (IsRemapped from (from + pages) (effect_of change)
             (pages_of self.old.processes process) (pages_of self.new.processes process)) }
     {
-        let mut tree = take_tree(&mut self.trees, process);
-        let result = av_merge::modify_all(
-            &mut self.areas,
-            &mut tree,
-            anons,
-            from,
-            from + pages,
-            change,
-        );
-        put_tree(&mut self.trees, process, tree);
-        result
+        let tree = tree_mut(&mut self.trees, process);
+        av_merge::modify_all(&mut self.areas, tree, anons, from, from + pages, change)
     }
 
     /// Moves `pages` pages of a process that lives, all of them mapped, from the page `from` to the
@@ -399,18 +377,8 @@ impl Spaces {
             (pages_of self.old.processes process)))) }
         ensures anons { OnOk result (AnonsStay self.old anons.old self.new anons.new) }
     {
-        let mut tree = take_tree(&mut self.trees, process);
-        let result = av_merge::move_range(
-            &mut self.areas,
-            &mut tree,
-            anons,
-            from,
-            pages,
-            to,
-            new_pages,
-        );
-        put_tree(&mut self.trees, process, tree);
-        result
+        let tree = tree_mut(&mut self.trees, process);
+        av_merge::move_range(&mut self.areas, tree, anons, from, pages, to, new_pages)
     }
 
     /// Makes the area of a page of a process that lives longer, from that page on, which is its
@@ -430,10 +398,8 @@ impl Spaces {
             (pages_of self.old.processes process last) (pages_of self.old.processes process)))) }
         ensures anons { OnOk result (AnonsStay self.old anons.old self.new anons.new) }
     {
-        let mut tree = take_tree(&mut self.trees, process);
-        let result = av_merge::grow(&mut self.areas, &mut tree, anons, last, past);
-        put_tree(&mut self.trees, process, tree);
-        result
+        let tree = tree_mut(&mut self.trees, process);
+        av_merge::grow(&mut self.areas, tree, anons, last, past)
     }
 
     /// Gives the area of a page an anon_vma, where the page is mapped and its area has none: that
@@ -537,6 +503,20 @@ fn make_place(trees: &mut Vec<Option<Tree>>, process: u16) -> Result<(), AllocEr
         trees.push(None)?;
     }
     Ok(())
+}
+
+/// The tree of a process that lives, to change it where it lies.
+#[inline(always)]
+fn tree_mut(trees: &mut Vec<Option<Tree>>, process: u16) -> &mut Tree
+    requires { is_some (tree_at trees.old.items process) ≡ true }
+    // The tree that is lent comes back to its place, and no other changes.
+    ensures* writes_back { sem 𝓛 (LendsTree trees.entry process result) }
+    ensures tree { tree_at trees.old.items process ≡ Some result.now }
+{
+    let Some(tree) = &mut trees[process as usize] else {
+        unreachable!()
+    };
+    tree
 }
 
 /// Takes the tree of a process that lives out of its place.
