@@ -1,4 +1,4 @@
--- How many entries of a process name something: by page, by group, and in a ledger whose entries go over to a child.
+-- How many entries of a process name something: by page, by run, and in a ledger whose entries go over to a child.
 use Rattle.std.proofs.Common.{◌≡◌, ℕ, zero, suc, ◌+◌, ◌<◌, ◌≤◌, Bool, true, false, cond, ◌&&◌, ◌==◌, nat_lt, T, List, [], ◌∷◌, length, get_or, Some, None, refl, sym, ap, ◌∙◌, arith}
 use Rattle.std.proofs.lemmas.Bool.Decides.{nat_tests}
 use Rattle.std.specs.FinMap.Entries.{find, where_key, is_sorted}
@@ -45,14 +45,14 @@ pub tally-none : (test : ℕ → Bool) (n : ℕ) → ((o : ℕ) → test o ≡ f
 tally-none test zero none = refl
 tally-none test (suc n) none = λ i. tally-none test n none i + cond {A = ℕ} (none n i) 1 0
 
--- a group has the next pages
-pub tally-group : {X : Type 0} (test : ℕ → Bool) (mark : X → Bool) (group : List X) (x : X) (a : ℕ) →
-    ((i : ℕ) → i < length group → mark (get_or group i x) ≡ test (a + i)) → tally test (a + length group) ≡ tally test a + how_many mark group
-tally-group test mark [] x a are = ap (tally test) (let same : a + 0 ≡ a = omega arith in same)
+-- a run has the next pages
+pub tally-run : {X : Type 0} (test : ℕ → Bool) (mark : X → Bool) (run : List X) (x : X) (a : ℕ) →
+    ((i : ℕ) → i < length run → mark (get_or run i x) ≡ test (a + i)) → tally test (a + length run) ≡ tally test a + how_many mark run
+tally-run test mark [] x a are = ap (tally test) (let same : a + 0 ≡ a = omega arith in same)
     ∙ (let n = tally test a in let same : n ≡ n + 0 = omega arith in same)
-tally-group test mark (y ∷ ys) x a are =
+tally-run test mark (y ∷ ys) x a are =
     ap (tally test) (let next : a + suc (length ys) ≡ suc a + length ys = omega arith in next)
-    ∙ tally-group test mark ys x (suc a) (λ i low. are (suc i) (omega (arith, low))
+    ∙ tally-run test mark ys x (suc a) (λ i low. are (suc i) (omega (arith, low))
     ∙ ap test (let next : a + suc i ≡ suc a + i = omega arith in next))
     ∙ ap (λ b. tally test a + cond b 1 0 + how_many mark ys)
     (ap test (let same : a ≡ a + 0 = omega arith in same) ∙ sym (are 0 (omega arith)))

@@ -1,5 +1,5 @@
--- What the memory system is seen as while the entries of a process go over to a child: the tables change first, and then the counts, group by group.
-use Rattle.std.proofs.Common.{◌≡◌, ℕ, ◌+◌, ◌-◌, ◌*◌, ◌/◌, ◌<◌, ◌≤◌, Bool, true, false, cond, not, ◌&&◌, ◌==◌, List, [], length, Option, Some, None, option_map, refl, sym, ap, subst, ◌∙◌, arith}
+-- What the memory system is seen as while the entries of a process go over to a child: the tables change first, and then the counts, run by run.
+use Rattle.std.proofs.Common.{◌≡◌, ℕ, ◌+◌, ◌-◌, ◌*◌, ◌<◌, ◌≤◌, Bool, true, false, cond, not, ◌&&◌, ◌==◌, List, [], get_or, length, Option, Some, None, option_map, refl, sym, ap, subst, ◌∙◌, arith}
 use Rattle.std.proofs.lemmas.Bool.Decides.{nat_tests}
 use Rattle.std.proofs.lemmas.Bool.{false≢true}
 use Rattle.av_base.specs.Limits.{most_processes, top_page}
@@ -7,7 +7,7 @@ use Rattle.av_base.specs.Words.{how_many, is_in, with_at}
 use Rattle.av_base.specs.declared.flags.Flags.{Flags}
 use Rattle.av_base.specs.declared.slot.Slot.{Slot}
 use Rattle.av_pagetable.specs.Entries.{ProcessTables, entry_at}
-use Rattle.av_pagetable.specs.Table.{IsFirst, IsGroup, child_entry, page_bound, read_only}
+use Rattle.av_pagetable.specs.Table.{IsFirst, child_entry, page_bound, read_only}
 use Rattle.av_pagetable.specs.declared.pte.Pte.{Pte}
 use Rattle.av_pagetable.specs.declared.pte.Pte.TheVariants.{Away, Empty, Here, Zero}
 use Rattle.av_pagetable.proofs.DirImages.{child_none}
@@ -32,10 +32,9 @@ use Rattle.av_mem.specs.Entries.{HasRoomFor, IsInUse, entry_passes, view_more_ea
 use Rattle.av_mem.specs.Mem.{HasLedger, frame_count, plain, setting_by, view}
 use Rattle.av_mem.specs.Steps.{KeepsParts}
 use Rattle.av_mem.proofs.EntryCounts.{by-counts, in-use-then, no_more}
-use Rattle.av_mem.proofs.Groups.{IsGroupFrom, group_from}
 use Rattle.av_mem.proofs.LetGoLaws.{ledger-same}
 use Rattle.av_fork.specs.Entries.{FlagsAre, HasForkedEntries, entry_goes_over, left_in}
-use Rattle.av_fork.proofs.EntriesCounts.{tally-group, tally-on}
+use Rattle.av_fork.proofs.EntriesCounts.{tally-on, tally-run}
 use Rattle.av_fork.proofs.EntriesLedger.{forked-stands, handed_pte, more, more-few}
 
 equal : (a b : ℕ) → (a == b) ≡ true → a ≡ b
@@ -148,12 +147,13 @@ module _ (old : Mem) (p q : ℕ) where
       ∙ by-counts (record (view old) { table = λ x o. plain (fork_tables (areas_on old p) p q (entry_at old.tables) x o) }) _ _ _ _ (λ f. no_more ((view old).maps f))
       (λ s. no_more ((view old).entries s))
 
-  -- a group goes over; the pages before it have no entry
-  pub group-seen : (now new : Mem) (table : ℕ → Pte) (number page : ℕ) (group : List Pte) → length group ≡ 64
-      → ((o : ℕ) → table o ≡ handed_entry (areas_on old p) (entry_at old.tables p) o) → IsFirst table (number * 64) page_bound page → IsGroup table (page / 64) group
-      → view now ≡ fork_view old p q (number * 64) → view new ≡ view_more_each group (view now) → view new ≡ fork_view old p q ((page / 64 + 1) * 64)
-  group-seen now new table number page group long copies first are is ups =
-      ups ∙ ap (view_more_each group) is
+  -- a run goes over; the pages before it have no entry
+  pub run-seen : (now new : Mem) (table : ℕ → Pte) (next page : ℕ) (run : List Pte)
+      → ((o : ℕ) → table o ≡ handed_entry (areas_on old p) (entry_at old.tables p) o) → IsFirst table next page_bound page
+      → ((i : ℕ) → i < length run → get_or run i Empty ≡ table (page + i))
+      → view now ≡ fork_view old p q next → view new ≡ view_more_each run (view now) → view new ≡ fork_view old p q (page + length run)
+  run-seen now new table next page run copies first are is ups =
+      ups ∙ ap (view_more_each run) is
       ∙ by-counts (record (view old) { table = λ x o. plain (fork_tables (areas_on old p) p q (entry_at old.tables) x o) }) _ _ _ _
       (λ f. joined ((view old).maps f) (names_frame f) (unseen-frame f)) (λ s. joined ((view old).entries s) (names_slot s) (unseen-slot s))
     where
@@ -179,32 +179,25 @@ module _ (old : Mem) (p q : ℕ) where
       handed-passes t blind true e = blind e
       handed-passes t blind false e = refl
 
-      start : ℕ
-      start = page / 64 * 64
-
-      joined : (k : ℕ) (t : Entry → Bool) → IsBlind t → k + more (goes_on old p) (view old) p (number * 64) t + how_many (λ e. entry_passes t (plain e)) group
-          ≡ k + more (goes_on old p) (view old) p ((page / 64 + 1) * 64) t
+      joined : (k : ℕ) (t : Entry → Bool) → IsBlind t → k + more (goes_on old p) (view old) p next t + how_many (λ e. entry_passes t (plain e)) run
+          ≡ k + more (goes_on old p) (view old) p (page + length run) t
       joined k t blind = add k _ _ _ (sym (
-          ap (λ n. more (goes_on old p) (view old) p n t) (sym at.past)
-          ∙ tally-group (λ o. entry_passes t (handed_pte (goes_on old p) p (view old) o)) (λ e. entry_passes t (plain e)) group Empty start
-          (λ i low. ap (λ e. entry_passes t (plain e)) (are i (omega (arith, low, long)) ∙ copies (start + i))
-          ∙ handed-passes t blind (goes_on old p (start + i)) (entry_at old.tables p (start + i)))
-          ∙ ap (λ c. c + how_many (λ e. entry_passes t (plain e)) group) skipped
+          tally-run (λ o. entry_passes t (handed_pte (goes_on old p) p (view old) o)) (λ e. entry_passes t (plain e)) run Empty page
+          (λ i low. ap (λ e. entry_passes t (plain e)) (are i low ∙ copies (page + i))
+          ∙ handed-passes t blind (goes_on old p (page + i)) (entry_at old.tables p (page + i)))
+          ∙ ap (λ c. c + how_many (λ e. entry_passes t (plain e)) run) skipped
           ))
         where
-          at : IsGroupFrom number page (length group)
-          at = group_from table number page (length group) long first
-
           add : (a b c d : ℕ) → b + c ≡ d → a + b + c ≡ a + d
           add a b c d e = omega (arith, e)
 
-          skipped : more (goes_on old p) (view old) p start t ≡ more (goes_on old p) (view old) p (number * 64) t
+          skipped : more (goes_on old p) (view old) p page t ≡ more (goes_on old p) (view old) p next t
           skipped =
-              ap (λ n. more (goes_on old p) (view old) p n t) (let low = at.low in
-              let same : start ≡ number * 64 + (start - number * 64) = omega (arith, low) in same)
-              ∙ tally-on _ (number * 64) (start - number * 64) (λ o low high. ap (entry_passes t)
-              (handed_none (goes_on old p o) (entry_at old.tables p o) (sym (copies o) ∙ first.least o low (let here = at.here in let after = at.low in
-              omega (arith, high, here, after)))))
+              ap (λ n. more (goes_on old p) (view old) p n t) (let low = first.from_there in
+              let same : page ≡ next + (page - next) = omega (arith, low) in same)
+              ∙ tally-on _ next (page - next) (λ o low high. ap (entry_passes t)
+              (handed_none (goes_on old p o) (entry_at old.tables p o) (sym (copies o) ∙ first.least o low (let up = first.from_there in
+              omega (arith, high, up)))))
 
   module _ (d : Device) (l : Ledger) (h : HasLedger d old l) where
     -- what an entry of the parent names is in use
@@ -230,19 +223,20 @@ module _ (old : Mem) (p q : ℕ) where
         on false = tt
 
     module _ (now : Mem) (n : ℕ) (is : view now ≡ fork_view old p q n) where
-      -- and there is room for a group
-      pub room-now : ((f : ℕ) → (view old).maps f ≤ most_processes * top_page) → ((s : Slot) → (view old).entries s ≤ most_processes) → HasRoomFor now 64
-      room-now few few_slots = record {
+      -- and there is room for a run
+      pub room-now : ((f : ℕ) → (view old).maps f ≤ most_processes * top_page) → ((s : Slot) → (view old).entries s ≤ most_processes)
+          → (len : ℕ) → len ≤ 64 → HasRoomFor now len
+      room-now few few_slots len short = record {
         maps = λ f.
             let up = ap (λ (v : View). v.maps f) is in
             let low = more-few (setting_by d old) (view old) l p n (goes_on old p) h.sound.in_order h.parts (names_frame f) in
             let same = h.parts.frames.maps f in
-            let most = few f in omega (arith, up, low, same, most);
+            let most = few f in omega (arith, up, low, same, most, short);
         entries = λ s.
             let up = ap (λ (v : View). v.entries s) is in
             let low = more-few (setting_by d old) (view old) l p n (goes_on old p) h.sound.in_order h.parts (names_slot s) in
             let same = h.parts.swap.counts s in
-            let most = few_slots s in omega (arith, up, low, same, most);
+            let most = few_slots s in omega (arith, up, low, same, most, short);
       }
 
       pub in-use-seen : frame_count now ≡ frame_count old → (o : ℕ) → IsInUse now (handed_entry (areas_on old p) (entry_at old.tables p) o)

@@ -20,7 +20,7 @@ ghost use Rattle.av_mem.specs.Steps.{KeepsRest};
 use av_base::PAGE_SIZE;
 use av_mem::Mem;
 use av_mem::entries::count_each_for_child;
-use av_pagetable::{GROUP, Pte};
+use av_pagetable::{Pte, RUN};
 use av_spaces::Spaces;
 use std::alloc::{AllocError, Global};
 
@@ -39,16 +39,16 @@ pub fn fork_entries(mem: &mut Mem, alloc: Global, parent: u16, child: u16) -> Re
     ensures free { free_of (view mem.new) ≡ free_of (view mem.old) }
     ensures rest { KeepsRest mem.old mem.new }
 {
+    // First, since further down it would be cleared twice: as the function begins, and there.
+    let mut run = [Pte::Empty; RUN];
     mem.tables.copy(alloc, parent, child)?;
     mem.tables.write_protect(parent);
     leave_out(mem, parent, child);
-    let mut number = 0;
-    while let Some(page) = mem.tables.next_from(child, number * GROUP as u64) {
-        let mut group = [Pte::Empty; GROUP];
-        mem.tables
-            .read_group(child, page / GROUP as u64, &mut group);
-        count_each_for_child(mem, &group)?;
-        number = page / GROUP as u64 + 1;
+    let mut next = 0;
+    while let Some(page) = mem.tables.next_from(child, next) {
+        let len = mem.tables.read_run(child, page, &mut run);
+        next = page + len as u64;
+        count_each_for_child(mem, &run[..len])?;
     }
     Ok(())
 }

@@ -1,4 +1,4 @@
--- The view after an entry is counted for a child, and after those of a group are.
+-- The view after an entry is counted for a child, and after those of a run are.
 use Rattle.std.proofs.Common.{◌≡◌, ℕ, suc, zero, ◌+◌, ◌^◌, ◌<◌, ◌≤◌, Bool, true, false, cond, ◌==◌, List, [], ◌∷◌, length, take, get_or, refl, sym, ap, subst, ◌∙◌, arith}
 use Rattle.std.proofs.lemmas.Bool.Decides.{nat_tests}
 use Rattle.std.specs.Prelude.{Option, is_some}
@@ -48,9 +48,9 @@ slot-up v s = by-counts v _ _ _ _ (λ f. no_more (v.maps f)) (λ t. by t (same_s
     by t true e = ap (λ s. v.entries s + 1) (sym (same t e))
     by t false e = no_more (v.entries t)
 
--- ---- the entries of a group
+-- ---- the entries of a run
 
--- one entry more of a group
+-- one entry more of a run
 pub first-more : {X : Type 0} (test : X → Bool) (n : ℕ) (xs : List X) (x : X) → n < length xs →
     how_many test (take (suc n) xs) ≡ how_many test (take n xs) + cond (test (get_or xs n x)) 1 0
 first-more test zero [] x h = absurd (omega (arith, h))
@@ -70,16 +70,16 @@ first-few test (suc n) (x ∷ xs) = by (test x) (first-few test n xs)
     by true h = omega (arith, h)
     by false h = omega (arith, h)
 
-pub one-up : (group : List Pte) (n : ℕ) (v : View) → n < length group
-    → view_more (get_or group n Empty) (view_more_each (take n group) v) ≡ view_more_each (take (n + 1) group) v
-one-up group n v within = by-counts v _ _ _ _ (λ f. joined (v.maps f) (names_frame f)) (λ s. joined (v.entries s) (names_slot s))
+pub one-up : (run : List Pte) (n : ℕ) (v : View) → n < length run
+    → view_more (get_or run n Empty) (view_more_each (take n run) v) ≡ view_more_each (take (n + 1) run) v
+one-up run n v within = by-counts v _ _ _ _ (λ f. joined (v.maps f) (names_frame f)) (λ s. joined (v.entries s) (names_slot s))
   where
     joined : (k : ℕ) (t : Entry → Bool)
-        → k + how_many (λ e. entry_passes t (plain e)) (take n group) + cond (entry_passes t (plain (get_or group n Empty))) 1 0
-        ≡ k + how_many (λ e. entry_passes t (plain e)) (take (n + 1) group)
-    joined k t = add k (how_many (λ e. entry_passes t (plain e)) (take n group)) (cond (entry_passes t (plain (get_or group n Empty))) 1 0)
-        ∙ ap (λ c. k + c) (sym (ap (λ k. how_many (λ e. entry_passes t (plain e)) (take k group)) (let next : n + 1 ≡ suc n = omega arith in next)
-        ∙ first-more (λ e. entry_passes t (plain e)) n group Empty within))
+        → k + how_many (λ e. entry_passes t (plain e)) (take n run) + cond (entry_passes t (plain (get_or run n Empty))) 1 0
+        ≡ k + how_many (λ e. entry_passes t (plain e)) (take (n + 1) run)
+    joined k t = add k (how_many (λ e. entry_passes t (plain e)) (take n run)) (cond (entry_passes t (plain (get_or run n Empty))) 1 0)
+        ∙ ap (λ c. k + c) (sym (ap (λ k. how_many (λ e. entry_passes t (plain e)) (take k run)) (let next : n + 1 ≡ suc n = omega arith in next)
+        ∙ first-more (λ e. entry_passes t (plain e)) n run Empty within))
       where
         add : (a b c : ℕ) → a + b + c ≡ a + (b + c)
         add a b c = omega arith
@@ -97,16 +97,16 @@ in-use-then old now count find grow (Away s) h =
     bigger : (a b c : ℕ) → a ≤ b → 0 < a + c → 0 < b + c
     bigger a b c le h = omega (arith, le, h)
 
-module _ (old now : Mem) (group : List Pte) (n : ℕ) (few : n < 64) (is : view now ≡ view_more_each (take n group) (view old)) where
+module _ (old now : Mem) (run : List Pte) (n : ℕ) (low : n < length run) (is : view now ≡ view_more_each (take n run) (view old)) where
   -- after some of them there is still room
-  pub room-for-one : HasRoomFor old 64 → HasRoomFor now 1
+  pub room-for-one : HasRoomFor old (length run) → HasRoomFor now 1
   room-for-one room = record {
-    maps = λ f. less ((view now).maps f) _ _ (2 ^ 64) (ap (λ (v : View). v.maps f) is) (first-few _ n group) (room.maps f);
-    entries = λ s. less ((view now).entries s) _ _ (2 ^ 32) (ap (λ (v : View). v.entries s) is) (first-few _ n group) (room.entries s);
+    maps = λ f. less ((view now).maps f) _ _ (2 ^ 64) (ap (λ (v : View). v.maps f) is) (first-few _ n run) (room.maps f);
+    entries = λ s. less ((view now).entries s) _ _ (2 ^ 32) (ap (λ (v : View). v.entries s) is) (first-few _ n run) (room.entries s);
   }
     where
-      less : (a b k most : ℕ) → a ≡ b + k → k ≤ n → b + 64 < most → a + 1 < most
-      less a b k most e le h = omega (arith, e, le, h, few)
+      less : (a b k most : ℕ) → a ≡ b + k → k ≤ n → b + length run < most → a + 1 < most
+      less a b k most e le h = omega (arith, e, le, h, low)
 
   pub in-use-now : frame_count now ≡ frame_count old → (e : Pte) → IsInUse old e → IsInUse now e
   in-use-now count = in-use-then old now count (ap (λ (v : View). v.find) is)

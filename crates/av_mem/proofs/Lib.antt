@@ -21,7 +21,6 @@ pub mod PagesGone
 pub mod ZapRange
 pub mod EntryGoes
 pub mod LetGoLaws
-pub mod Groups
 pub mod ZapLaws
 pub mod SwapAreas
 pub mod SwapSums

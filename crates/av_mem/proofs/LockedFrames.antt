@@ -1,5 +1,5 @@
 -- The frames of locked areas' entries are those of locked pages.
-use Rattle.std.proofs.Common.{◌≡◌, ℕ, zero, suc, ◌+◌, ◌-◌, ◌<◌, ◌≤◌, ◌==◌, ◌&&◌, ◌||◌, inl, inr, ◌⊎◌, Bool, true, false, cond, List, [], ◌∷◌, length, MatchBool, Option, refl, sym, ap, ◌∙◌, arith}
+use Rattle.std.proofs.Common.{◌≡◌, ℕ, zero, suc, ◌+◌, ◌-◌, ◌<◌, ◌≤◌, ◌==◌, ◌||◌, inl, inr, ◌⊎◌, Bool, true, false, cond, List, [], ◌∷◌, length, MatchBool, Option, refl, sym, ap, ◌∙◌, arith}
 use Rattle.std.proofs.lemmas.Bool.{cases_lt, false≢true}
 use Rattle.std.proofs.lemmas.Bool.Decides.{nat_tests}
 use Rattle.std.specs.BTreeMap.{is_at}
@@ -7,7 +7,6 @@ use Rattle.std.specs.List.{list_any, range_with_len}
 use Rattle.std.specs.Ordering.{nat_cmp}
 use Rattle.av_base.specs.Words.{is_in, within}
 use Rattle.av_pagetable.specs.Entries.{entry_at}
-use Rattle.av_pagetable.specs.declared.pte.Pte.{Pte}
 use Rattle.av_rmap.specs.Walk.{names_frame}
 use Rattle.av_spaces.specs.Locked.{AreLockedAreas}
 use Rattle.av_vma.specs.Areas.{area_of, is_locked}

@@ -1,5 +1,5 @@
 -- The frames of locked pages, as the search of all areas finds them, are those that the definitions name.
-use Rattle.std.proofs.Common.{◌≡◌, ℕ, zero, suc, ◌+◌, ◌<◌, ◌≤◌, ◌-◌, ◌==◌, Bool, true, false, cond, ◌&&◌, ◌||◌, T, List, [], ◌∷◌, Option, Some, None, is_some, MatchBool, refl, sym, ap, subst, ◌∙◌, arith}
+use Rattle.std.proofs.Common.{◌≡◌, ℕ, zero, suc, ◌+◌, ◌-◌, ◌==◌, Bool, true, false, cond, ◌&&◌, ◌||◌, T, List, [], ◌∷◌, Option, Some, None, MatchBool, refl, sym, ap, ◌∙◌, arith}
 use Rattle.std.proofs.lemmas.Bool.Decides.{nat_tests}
 use Rattle.std.proofs.lemmas.Bool.{false≢true}
 use Rattle.std.specs.Cmp.{both_ways}
@@ -18,14 +18,14 @@ use Rattle.av_spaces.specs.Spaces.{AreNumbered, Spaces, pages_of}
 use Rattle.av_plain.specs.Areas.{Rmap}
 use Rattle.av_plain.specs.Device.{Device}
 use Rattle.av_plain.specs.Fault.{is_locked}
-use Rattle.av_plain.specs.Ledger.{Entry, Ledger, entry, names_frame as names, walk}
+use Rattle.av_plain.specs.Ledger.{Ledger, entry, names_frame as names, walk}
 use Rattle.av_plain.specs.World.{World, is_locked_page, pages}
 use Rattle.av_plain.proofs.Ledger.Walk.{passes, walk-has}
 use Rattle.av_mem.specs.Chains.{HasLocked}
 use Rattle.av_mem.specs.Locked.{in_any_area, is_locked_at, locked_by, on_any_page}
 use Rattle.av_mem.specs.Mem.{Serves}
 use Rattle.av_mem.specs.declared.mem.Mem.{Mem}
-use Rattle.av_mem.proofs.LockedLaws.{any-found, any-there, area-locked, area-there, locked-is, page-locked}
+use Rattle.av_mem.proofs.LockedLaws.{any-found, any-there, area-locked, locked-is, page-locked}
 use Rattle.av_mem.proofs.ReachLaws.{frame-says, passes-there, reaches-served}
 
 -- ---- the search

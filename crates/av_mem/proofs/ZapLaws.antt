@@ -1,4 +1,4 @@
--- The entries of a range of pages go one by one, or those of a process group by group.
+-- The entries of a range of pages go one by one, or those of a process run by run.
 use Rattle.std.proofs.Common.{◌≡◌, ℕ, ◌+◌, ◌-◌, ◌<◌, ◌≤◌, Bool, true, false, cond, ◌&&◌, ◌==◌, List, None, is_some, nat_lt, refl, sym, ap, subst, ◌∙◌, arith}
 use Rattle.std.proofs.lemmas.Bool.Decides.{nat_tests}
 use Rattle.std.proofs.lemmas.Bool.{false≢true}
@@ -109,7 +109,7 @@ module _ (d : Device) (old now : Mem) (first : Ledger) (p from next : ℕ) (befo
           ∙ pages-joined then p from (page - from) 1
           ∙ ap (λ n. without_pages p from n then) (let at : (page - from) + 1 ≡ (page + 1) - from = omega (arith, low, up) in at)
 
--- ---- group by group, while the tables stay
+-- ---- run by run, while the tables stay
 
 module _ (d : Device) (old now : Mem) (first : Ledger) (p next : ℕ) (before notes : List Note) (h : HasLedger d old first) (parts : KeepsParts old
     now)
@@ -126,13 +126,13 @@ module _ (d : Device) (old now : Mem) (first : Ledger) (p next : ℕ) (before no
       none-in q (none q (omega (arith, a)) (omega (arith, b, up)))) goes)
 
   module _ (start : ℕ) (up : next ≤ start) (none : (q : ℕ) → next ≤ q → q < start → entry_at now.tables p q ≡ Empty)
-      (group : List Pte) (are : HasAll (view now).table p start group) where
-    all-there : HasAll (without_pages p 0 start (view old).table) p (0 + start) group
+      (run : List Pte) (are : HasAll (view now).table p start run) where
+    all-there : HasAll (without_pages p 0 start (view old).table) p (0 + start) run
     all-there i below = still-there (view old).table p 0 start (0 + start + i) (omega arith)
         ∙ ap ((view old).table p) (let at : 0 + start + i ≡ start + i = omega arith in at) ∙ ap (λ (t : Table). t p (start + i)) (sym tables)
         ∙ are i below
 
-    pub has-entries : HasEntries now group
+    pub has-entries : HasEntries now run
     has-entries = record {
       device = d;
       ledger = _;
@@ -143,19 +143,22 @@ module _ (d : Device) (old now : Mem) (first : Ledger) (p next : ℕ) (before no
       there = all-there;
     }
 
-    pub group-more : (new : Mem) (after : List Note) (n : ℕ) → ((l : Ledger) (table : Table) (q other : ℕ) → HasLedgerBy d now table l
-        → HasAll table q other group
+    pub run-more : (new : Mem) (after : List Note) (n : ℕ) → ((l : Ledger) (table : Table) (q other : ℕ) → HasLedgerBy d now table l
+        → HasAll table q other run
         → LetsGo d now new table l q other n notes after) → LetsGo d old new (view old).table first p 0 (start + n) before after
-    group-more new after n lets = more-go d old now new (view old).table first p 0 start n before notes after h parts (goes-up start up none)
+    run-more new after n lets = more-go d old now new (view old).table first p 0 start n before notes after h parts (goes-up start up none)
         (lets _ (without_pages p 0 start (view old).table) p (0 + start) (goes-up start up none).stands all-there)
 
   -- where there are none from there on, all have gone
-  pub all-gone : next ≤ page_bound → ((q : ℕ) → next ≤ q → entry_at now.tables p q ≡ Empty) → (new : Mem)
+  abbrev past : ℕ
+  past = page_bound + next
+
+  pub all-gone : ((q : ℕ) → next ≤ q → entry_at now.tables p q ≡ Empty) → (new : Mem)
       → entry_at new.tables ≡ with_at {X = ℕ → Pte} p (λ page. Empty) (entry_at now.tables) → new ≡ record now { tables = new.tables }
       → HasZapped d old new first (zaps_of first (keys_of_process first p)) before notes
-  all-gone within_all none new clears same = subst (λ ks. HasZapped d old new first (zaps_of first ks) before notes)
-      (sym (exit-is-range first p page_bound entries-below))
-      (zapped-by d old now new first p 0 page_bound before notes (goes-up page_bound within_all (λ q a b. none q a)) same cleared)
+  all-gone none new clears same = subst (λ ks. HasZapped d old new first (zaps_of first ks) before notes)
+      (sym (exit-is-range first p past entries-below))
+      (zapped-by d old now new first p 0 past before notes (goes-up past (omega arith) (λ q a b. none q a)) same cleared)
     where
       -- no entry lies past the tables' four levels
       below : (page : ℕ) → is_some (entry first (p, page)) ≡ true → (b : Bool) → nat_lt page page_bound ≡ b → page < page_bound
@@ -165,22 +168,22 @@ module _ (d : Device) (old now : Mem) (first : Ledger) (p next : ℕ) (before no
           absurd (false≢true (ap (λ t. is_some (entry_of (plain t))) (sym (past_pages old.tables p page high))
           ∙ ap is_some (h.parts.tables.entries p page) ∙ some))
 
-      entries-below : (page : ℕ) → is_some (entry first (p, page)) ≡ true → page < page_bound
-      entries-below page some = below page some (nat_lt page page_bound) refl
+      entries-below : (page : ℕ) → is_some (entry first (p, page)) ≡ true → page < past
+      entries-below page some = omega (arith, below page some (nat_lt page page_bound) refl)
 
-      outside : (page : ℕ) → within 0 page_bound page ≡ false → page_bound ≤ page
+      outside : (page : ℕ) → within 0 past page ≡ false → page_bound ≤ page
       outside page e = grind (arith, nat_tests, e)
 
       equal : (a b : ℕ) → (a == b) ≡ true → a ≡ b
       equal a b e = grind (arith, nat_tests, e)
 
-      by : (q page : ℕ) (a b : Bool) → (q == p) ≡ a → within 0 page_bound page ≡ b
+      by : (q page : ℕ) (a b : Bool) → (q == p) ≡ a → within 0 past page ≡ b
           → plain (cond {A = ℕ → Pte} a (λ page. Empty) (entry_at now.tables q) page) ≡ cond (a && b) None ((view now).table q page)
       by q page true true at inside = refl
       by q page true false at inside = sym (ap (λ q. (view now).table q page) (equal q p at)
           ∙ ap plain (past_pages now.tables p page (outside page inside)))
       by q page false b at inside = refl
 
-      cleared : (view new).table ≡ without_pages p 0 page_bound (view old).table
-      cleared = (λ i q page. plain (clears i q page)) ∙ (λ i q page. by q page (q == p) (within 0 page_bound page) refl refl i)
-          ∙ ap (without_pages p 0 page_bound) tables
+      cleared : (view new).table ≡ without_pages p 0 past (view old).table
+      cleared = (λ i q page. plain (clears i q page)) ∙ (λ i q page. by q page (q == p) (within 0 past page) refl refl i)
+          ∙ ap (without_pages p 0 past) tables

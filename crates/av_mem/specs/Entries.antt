@@ -99,9 +99,9 @@ view_more e v = with_more
 
 -- so it is for each of these entries
 abbrev pub view_more_each : List Pte → View → View
-view_more_each group v = with_more
-    (λ f. how_many (λ e. entry_passes (names_frame f) (plain e)) group)
-    (λ s. how_many (λ e. entry_passes (names_slot s) (plain e)) group) v
+view_more_each run v = with_more
+    (λ f. how_many (λ e. entry_passes (names_frame f) (plain e)) run)
+    (λ s. how_many (λ e. entry_passes (names_slot s) (plain e)) run) v
 
 -- ---- an entry goes: what it does to the view
 

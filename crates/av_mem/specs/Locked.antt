@@ -1,5 +1,5 @@
 -- Which frames are those of locked pages, by a look at each page of each area.
-use Rattle.std.specs.Prelude.{ℕ, ◌-◌, Bool, ◌&&◌, List}
+use Rattle.std.specs.Prelude.{ℕ, ◌-◌, Bool, ◌&&◌}
 use Rattle.std.specs.List.{list_any, range_with_len}
 use Rattle.av_pagetable.specs.Entries.{ProcessTables, entry_at}
 use Rattle.av_rmap.specs.Walk.{names_frame}

@@ -2,12 +2,11 @@
 //! child, and an entry goes. Then its frame or slot has one entry fewer, and a slot that nothing
 //! uses any more is dropped.
 
-ghost use Rattle.std.specs.Prelude.{◌≡◌, ◌<◌, ℕ, slice_index_or, IfOk, IfSome, MatchResult};
-ghost use Rattle.std.specs.Prelude.{OnOk, false, true};
+ghost use Rattle.std.specs.Prelude.{◌≡◌, ◌<◌, ℕ, length, slice_index_or, IfOk, IfSome};
+ghost use Rattle.std.specs.Prelude.{MatchResult, OnOk, false, true};
 ghost use Rattle.av_base.specs.Limits.{top_page};
 ghost use Rattle.av_base.specs.Words.{is_in};
 ghost use Rattle.av_pagetable.specs.Entries.{entry_at, has};
-ghost use Rattle.av_pagetable.specs.Table.{group_size};
 ghost use Rattle.av_pagetable.specs.declared.pte.Pte.TheVariants as Pte;
 ghost use Rattle.av_plain.specs.Device.{Device};
 ghost use Rattle.av_plain.specs.Ledger.{Ledger};
@@ -23,7 +22,7 @@ ghost use Rattle.av_mem.specs.Steps.{KeepsParts, KeepsRest};
 
 use crate::mem::Mem;
 use av_base::Slot;
-use av_pagetable::{GROUP, Pte};
+use av_pagetable::Pte;
 use av_trace::{Note, Notes};
 use std::alloc::AllocError;
 
@@ -118,19 +117,19 @@ pub fn accessed_entry(frame: u32, write: bool) -> Pte
     }
 }
 
-/// Counts the entries of a group for a child, whose table has them already: one more entry names
+/// Counts the entries of a run for a child, whose table has them already: one more entry names
 /// each frame and slot that they name. Only a slot takes memory; without it nothing is promised of
 /// counts.
-pub fn count_each_for_child(mem: &mut Mem, group: &[Pte; GROUP]) -> Result<(), AllocError>
-    requires used { (i : ℕ) → i < group_size
-        → IsInUse mem.old (slice_index_or group.now i Pte.Empty) }
-    requires room { HasRoomFor mem.old group_size }
-    ensures counts { OnOk result (view mem.new ≡ view_more_each group.now (view mem.old)) }
+pub fn count_each_for_child(mem: &mut Mem, run: &[Pte]) -> Result<(), AllocError>
+    requires used { (i : ℕ) → i < length run.now
+        → IsInUse mem.old (slice_index_or run.now i Pte.Empty) }
+    requires room { HasRoomFor mem.old (length run.now) }
+    ensures counts { OnOk result (view mem.new ≡ view_more_each run.now (view mem.old)) }
     ensures tables { entry_at mem.new.tables ≡ entry_at mem.old.tables }
     ensures free { free_of (view mem.new) ≡ free_of (view mem.old) }
     ensures rest { KeepsRest mem.old mem.new }
 {
-    for entry in group {
+    for entry in run {
         count_for_child(mem, *entry)?;
     }
     Ok(())

@@ -1,8 +1,7 @@
 //! How the entries of a range of pages go: each frame that no other entry names becomes free, and
 //! each slot that nothing uses any more is dropped.
 
-ghost use Rattle.std.specs.Prelude.{◌≡◌, ℕ, ◌-◌, OnOk};
-ghost use Rattle.av_pagetable.specs.Table.{group_size};
+ghost use Rattle.std.specs.Prelude.{◌≡◌, ℕ, ◌-◌, length, OnOk};
 ghost use Rattle.av_plain.specs.Device.{Device};
 ghost use Rattle.av_plain.specs.Ledger.{Ledger};
 ghost use Rattle.av_plain.specs.Zap.{keys_in, keys_of_process, zaps_of};
@@ -13,7 +12,7 @@ ghost use Rattle.av_mem.specs.Zap.{HasZapped};
 
 use crate::entries::let_go;
 use crate::mem::Mem;
-use av_pagetable::{GROUP, Pte};
+use av_pagetable::{Pte, RUN};
 use av_trace::Notes;
 use std::alloc::AllocError;
 
@@ -29,13 +28,12 @@ pub fn zap_all(mem: &mut Mem, process: u16, notes: &mut Notes) -> Result<(), All
         notes.old notes.new) }
     ensures rest { KeepsRest mem.old mem.new }
 {
-    let mut number = 0;
-    while let Some(page) = mem.tables.next_from(process, number * GROUP as u64) {
-        let mut group = [Pte::Empty; GROUP];
-        mem.tables
-            .read_group(process, page / GROUP as u64, &mut group);
-        let_go_each(mem, &group, notes)?;
-        number = page / GROUP as u64 + 1;
+    let mut run = [Pte::Empty; RUN];
+    let mut next = 0;
+    while let Some(page) = mem.tables.next_from(process, next) {
+        let len = mem.tables.read_run(process, page, &mut run);
+        next = page + len as u64;
+        let_go_each(mem, &run[..len], notes)?;
     }
     mem.tables.clear(process);
     Ok(())
@@ -66,16 +64,19 @@ pub fn zap_range(
     Ok(())
 }
 
-/// Lets the entries of a group go, by rising page.
-fn let_go_each(mem: &mut Mem, group: &[Pte; GROUP], notes: &mut Notes) -> Result<(), AllocError>
-    requires there { HasEntries mem.old group.now }
+/// Lets the entries of a run go, by rising page.
+// Never inline: within an exit too few registers are left for the loop.
+#[inline(never)]
+fn let_go_each(mem: &mut Mem, run: &[Pte], notes: &mut Notes) -> Result<(), AllocError>
+    requires there { HasEntries mem.old run.now }
     ensures goes { (d : Device) (l : Ledger) (table : Table) (p page : ℕ) →
-        HasLedgerBy d mem.old table l → HasAll table p page group.now →
-        OnOk result (LetsGo d mem.old mem.new table l p page group_size notes.old notes.new) }
+        HasLedgerBy d mem.old table l → HasAll table p page run.now →
+        OnOk result (LetsGo d mem.old mem.new table l p page (length run.now)
+        notes.old notes.new) }
     ensures tables { (view mem.new).table ≡ (view mem.old).table }
     ensures rest { KeepsRest mem.old mem.new }
 {
-    for entry in group {
+    for entry in run {
         let_go(mem, *entry, notes)?;
     }
     Ok(())

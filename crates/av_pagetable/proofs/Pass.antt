@@ -1,5 +1,5 @@
 -- A function is applied to the entries of a table, the least page first: to a copy, or in place.
-use Rattle.std.proofs.Common.{◌≡◌, ℕ, ◌+◌, ◌<◌, ◌≤◌, List, length, get_or, slice_set, get_or-set_same, get_or-set_other, sym, ap, ◌∙◌, arith, inl, inr}
+use Rattle.std.proofs.Common.{◌≡◌, ℕ, ◌+◌, ◌<◌, ◌≤◌, sym, ap, ◌∙◌, arith, inl, inr}
 use Rattle.std.proofs.lemmas.Bool.{cases_eq, cases_lt}
 use Rattle.av_base.specs.Words.{with_at}
 use Rattle.av_pagetable.specs.declared.pte.Pte.{Pte}
@@ -36,11 +36,3 @@ module _ (f : Pte → Pte) (none : f Empty ≡ Empty) (source rest table : ℕ �
         | inl lt ↦ t.before q lt
         | inr ge ↦ t.after q ge ∙ empty q ge ∙ sym none ∙ ap f (sym (over q ge))
       ]
-
--- one more entry stands in its place of a group
-pub one_filled : (f : ℕ → Pte) (group : List Pte) (n : ℕ) (e : Pte) → n < length group → e ≡ f n → ((k : ℕ) → k < n → get_or group k Empty ≡ f k)
-    → (k : ℕ) → k < n + 1 → get_or (slice_set group n e) k Empty ≡ f k
-one_filled f group n e under is done k low = elim (cases_eq k n) [
-  | inl same ↦ ap (λ k. get_or (slice_set group n e) k Empty) same ∙ get_or-set_same group n e Empty under ∙ is ∙ ap f (sym same)
-  | inr ne ↦ get_or-set_other group n k e Empty ne ∙ done k (omega (arith, low, ne))
-]

@@ -1,5 +1,5 @@
 -- A directory of parts, each with its number, which span as many pages each.
-use Rattle.std.specs.Prelude.{◌≡◌, ℕ, ◌+◌, ◌-◌, ◌*◌, ◌/◌, ◌%◌, ◌<◌, ◌≤◌, List, length, Option, Some}
+use Rattle.std.specs.Prelude.{◌≡◌, ℕ, ◌+◌, ◌*◌, ◌/◌, ◌%◌, ◌<◌, ◌≤◌, List, length, Option, Some}
 use Rattle.std.specs.Prelude.{None, Result, MatchResult, option_map, slice_get, nat_lt, nat_eq}
 use Rattle.std.specs.Prelude.{◌==◌, if◌then◌else◌}
 use Rattle.std.proofs.Common.{ap, arith, false}
@@ -9,7 +9,7 @@ use Rattle.std.specs.List.{All, AllPairs, AllWithin, HoldsAt}
 use Rattle.std.specs.Map.{lookup}
 use Rattle.av_pagetable.specs.declared.pte.Pte.{Pte}
 use Rattle.av_pagetable.specs.declared.pte.Pte.TheVariants.{Empty}
-use Rattle.av_pagetable.specs.Table.{IsFirst, HasSome, group_size}
+use Rattle.av_pagetable.specs.Table.{IsFirst, HasSome}
 
 -- no page has an entry
 abbrev pub no_entry : ℕ → Pte
@@ -45,12 +45,6 @@ IsPlace number parts result = MatchResult result
     (λ k. (k ≤ length parts)
     × AllWithin (λ part. part.0 < number) parts 0 k
     × AllWithin (λ part. number < part.0) parts k (length parts))
-
--- so many parts stand from a place on as a group has pages, and the last is of its last page
-abbrev pub IsFullGroup : {C : Type 0} → ℕ → List (ℕ × C) → ℕ → Type 0
-IsFullGroup first parts k =
-    (k + group_size ≤ length parts)
-    × HoldsAt (λ part. part.0 + 1 ≡ first + group_size) parts (k + (group_size - 1))
 
 -- the entries of the part at a place
 abbrev pub entries_at : {C : Type 0} → (C → ℕ → Pte) → List (ℕ × C) → ℕ → ℕ → Pte

@@ -1,16 +1,16 @@
 //! An upper table of a page table, over any table below it.
 
-ghost use Rattle.std.specs.Prelude.{◌≡◌, ℕ, ◌+◌, ◌<◌, ◌≤◌, length, slice_index_or, HoldsAt, IfOk};
-ghost use Rattle.std.specs.Prelude.{MatchBool};
+ghost use Rattle.std.specs.Prelude.{◌≡◌, ℕ, ◌+◌, ◌<◌, ◌≤◌, length, slice_index_or, IfOk};
+ghost use Rattle.std.specs.List.{AllPairs, HoldsAt};
 ghost use Rattle.av_base.specs.Words.{with_at};
-ghost use Rattle.av_pagetable.specs.Table.{group_size, page_bound};
-ghost use Rattle.av_pagetable.specs.Dir.{IsFullGroup, no_entry};
+ghost use Rattle.av_pagetable.specs.Table.{page_bound, run_size};
+ghost use Rattle.av_pagetable.specs.Dir.{no_entry};
 ghost use Rattle.av_pagetable.specs.declared.pte.Pte.{Pte};
 
 use crate::level::Level;
 use crate::parts::Parts;
 use crate::pte::Pte;
-use crate::table::{GROUP, no_entries};
+use crate::table::RUN;
 use std::alloc::{AllocError, Global};
 use std::marker::Model;
 
@@ -345,34 +345,26 @@ impl<C: Level> Dir<C> {
 }
 
 impl Dir<Pte> {
-    ghost use Rattle.std.specs.Prelude.{◌≡◌, ℕ, ◌+◌, ◌<◌, slice_index_or};
-    ghost use Rattle.av_pagetable.specs.Table.{group_size};
+    ghost use Rattle.std.specs.Prelude.{◌+◌, ◌<◌, ◌≤◌};
+    ghost use Rattle.av_pagetable.specs.Table.{IsRun, run_size};
     ghost use Rattle.av_pagetable.specs.Dir.{alone, entries};
-    ghost use Rattle.av_pagetable.specs.declared.pte.Pte.{Pte};
 
-    /// Reads the entries of a group of pages side by side, from page `first` on, over what is
-    /// there.
-    pub fn read_group(&self, first: u64, group: &mut [Pte; GROUP])
-        ensures { (i : ℕ) → i < group_size
-            → slice_index_or group.new i Pte.Empty ≡ entries alone 1 self.now (first + i) }
+    /// Reads the entries of pages side by side, from this one on: as many as it answers.
+    pub fn read_run(&self, page: u64, run: &mut [Pte; RUN]) -> usize
+        requires { page < 512 }
+        ensures some { 0 < result }
+        ensures few { result ≤ run_size }
+        ensures below { page + result ≤ 512 }
+        ensures entries { IsRun (entries alone 1 self.now) page result run.new }
     {
-        let start = match self.place(first) {
-            Ok(place) => place,
-            Err(place) => place,
+        let Ok(start) = self.place(page) else {
+            run[0] = Pte::Empty;
+            return 1;
         };
         let parts = self.parts.as_slice();
-        if is_whole(parts, start, first) {
-            copy_entries(parts, start, group);
-            return;
-        }
-        *group = no_entries();
-        for part in &parts[start..] {
-            let i = u64::from(part.0) - first;
-            if i >= GROUP as u64 {
-                return;
-            }
-            group[i as usize] = part.1;
-        }
+        let len = run_len(parts, start, page);
+        copy_entries(parts, start, len, run);
+        len
     }
 }
 
@@ -389,29 +381,42 @@ fn with_one<C: Level>(alloc: Global, page: u64, entry: Pte) -> Result<C, AllocEr
     Ok(part)
 }
 
-// Whether a group has as many parts from a place on as pages. Their numbers rise, so where the last
-// of so many is that of the group's last page, none is missing.
+// How many parts from that of a page on have numbers side by side: as many as a run has at most, or
+// up to the first number that is missing.
 #[inline]
-fn is_whole(parts: &[(u16, Pte)], start: usize, first: u64) -> bool
-    ensures { MatchBool result
-        (IsFullGroup first parts.now start)
-        (IsFullGroup first parts.now start → ⊥) }
+fn run_len(parts: &[(u16, Pte)], start: usize, page: u64) -> usize
+    requires rising { AllPairs (λ part later. part.0 < later.0) parts.now }
+    requires within { start < length parts.now }
+    requires first { HoldsAt (λ part. part.0 ≡ page) parts.now start }
+    requires below { page < 512 }
+    ensures some { 0 < result }
+    ensures few { result ≤ run_size }
+    ensures within { start + result ≤ length parts.now }
+    ensures numbers { (i : ℕ) → i < result
+        → HoldsAt (λ part. part.0 ≡ page + i) parts.now (start + i) }
 {
-    if parts.len() < GROUP || start > parts.len() - GROUP {
-        return false;
+    let most = (parts.len() - start).min(RUN);
+    // They rise, so where the last one is that of the last page, none is missing.
+    if u64::from(parts[start + (most - 1)].0) == page + (most as u64 - 1) {
+        return most;
     }
-    let last = u64::from(parts[start + (GROUP - 1)].0);
-    first <= last && last - first == GROUP as u64 - 1
+    for i in 1..most {
+        if u64::from(parts[start + i].0) != page + i as u64 {
+            return i;
+        }
+    }
+    most
 }
 
-// Copies the entries of the parts of a whole group, from a place on.
+// Copies the entries of so many parts, from a place on.
 #[inline]
-fn copy_entries(parts: &[(u16, Pte)], start: usize, group: &mut [Pte; GROUP])
-    requires { start + group_size ≤ length parts.now }
-    ensures { (i : ℕ) → i < group_size
-        → HoldsAt (λ part. slice_index_or group.new i Pte.Empty ≡ part.1) parts.now (start + i) }
+fn copy_entries(parts: &[(u16, Pte)], start: usize, len: usize, run: &mut [Pte; RUN])
+    requires few { len ≤ run_size }
+    requires within { start + len ≤ length parts.now }
+    ensures { (i : ℕ) → i < len
+        → HoldsAt (λ part. slice_index_or run.new i Pte.Empty ≡ part.1) parts.now (start + i) }
 {
-    for i in 0..GROUP {
-        group[i] = parts[start + i].1;
+    for i in 0..len {
+        run[i] = parts[start + i].1;
     }
 }

@@ -28,7 +28,7 @@ mod tables;
 
 pub use pte::Pte;
 pub use radix::RadixTable;
-pub use table::{GROUP, MapTable, Table};
+pub use table::{MapTable, RUN, Table};
 pub use tables::Tables;
 
 /// The page table that each process has. What uses page tables names this one alone.

@@ -4,11 +4,8 @@ use crate::dir::Dir;
 use crate::level::Level;
 use crate::middle::Middle;
 use crate::pte::Pte;
-use crate::table::{GROUP, Table, no_entries};
+use crate::table::{RUN, Table};
 use std::alloc::{AllocError, Global};
-
-/// How many groups a last table has.
-const GROUPS: u64 = 8;
 
 // An entry is the part that spans one page.
 impl Level for Pte {
@@ -143,10 +140,13 @@ impl Table for RadixTable {
         self.top.next_from(page)
     }
 
-    fn read_group(&self, number: u64, group: &mut [Pte; GROUP]) {
-        match self.leaf(number / GROUPS) {
-            Some(leaf) => leaf.read_group(number % GROUPS * GROUP as u64, group),
-            None => *group = no_entries(),
+    fn read_run(&self, page: u64, run: &mut [Pte; RUN]) -> usize {
+        match self.leaf(page / 512) {
+            Some(leaf) => leaf.read_run(page % 512, run),
+            None => {
+                run[0] = Pte::Empty;
+                1
+            }
         }
     }
 

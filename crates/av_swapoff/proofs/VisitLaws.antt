@@ -1,5 +1,5 @@
 -- How the users of slots come together, one visit after another.
-use Rattle.std.proofs.Common.{◌≡◌, ◌≢◌, ℕ, ◌+◌, ◌*◌, ◌/◌, ◌<◌, ◌≤◌, ◌⊎◌, inl, inr, Bool, true, false, cond, ◌==◌, ◌&&◌, nat_lt, List, ◌++◌, length, set, take, drop, Option, Some, None, is_some, refl, sym, ap, subst, ◌∙◌, arith, length-set}
+use Rattle.std.proofs.Common.{◌≡◌, ◌≢◌, ℕ, ◌+◌, ◌<◌, ◌≤◌, ◌⊎◌, inl, inr, Bool, true, false, cond, ◌==◌, ◌&&◌, nat_lt, List, ◌++◌, length, set, take, drop, Option, Some, None, is_some, refl, sym, ap, subst, ◌∙◌, arith, length-set}
 use Rattle.std.proofs.lemmas.Bool.{cases_eq, cases_lt, false≢true}
 use Rattle.std.proofs.lemmas.Bool.Decides.{nat_tests}
 use Rattle.std.proofs.Math.Seq.{drop-length, take-length}
@@ -15,7 +15,6 @@ use Rattle.av_plain.specs.Stands.{View}
 use Rattle.av_mem.specs.Entries.{slot_behind}
 use Rattle.av_mem.specs.Mem.{plain, view}
 use Rattle.av_mem.specs.declared.mem.Mem.{Mem}
-use Rattle.av_mem.proofs.Groups.{IsGroupFrom, group_from}
 use Rattle.av_swapoff.specs.System.{slot_at}
 use Rattle.av_swapoff.specs.Users.{AreUsersBy, HasUsers, IsUnused, Uses, Visits, user_at, with_user}
 
@@ -170,43 +169,35 @@ none-yet v area pages page k at = by (cases_lt page pages)
 pub no-table : (k : Mem) (q : Key) → has k.tables q.0 ≡ false → entry_at k.tables q.0 q.1 ≡ Empty
 no-table k q away = none_there k.tables q.0 q.1 away
 
--- ---- one group after another, and one process after another
+-- ---- one run after another, and one process after another
 
 module _ (k : Mem) (area : ℕ) where
   -- no entry of a page that has none
   none-there : (page : ℕ) (q : Key) → entry_at k.tables q.0 q.1 ≡ Empty → Uses (view k) (slot_at area page) q → ⊥
   none-there page q empty uses = no-entry (view k) area page q (ap plain empty) uses
 
-  -- the keys of a process below a page, and those of its group from one on
+  -- the keys of a process below a page, and those of so many pages from one on
   abbrev pub Before : ℕ → ℕ → Key → Type 0
   Before process to q = (q.0 ≡ process) × (q.1 < to)
 
-  abbrev pub InGroup : ℕ → ℕ → Key → Type 0
-  InGroup process from q = (q.0 ≡ process) × (from ≤ q.1) × (q.1 < from + 64)
+  abbrev pub InRun : ℕ → ℕ → ℕ → Key → Type 0
+  InRun process from len q = (q.0 ≡ process) × (from ≤ q.1) × (q.1 < from + len)
 
-  pub group-split : (process number page : ℕ) → IsFirst (entry_at k.tables process) (number * 64) page_bound page → (slot : ℕ) (q : Key)
-      → Before process ((page / 64 + 1) * 64) q → Uses (view k) (slot_at area slot) q
-      → Before process (number * 64) q ⊎ InGroup process (page / 64 * 64) q
-  group-split process number page first slot q here uses = by (cases_lt q.1 (number * 64)) (cases_lt q.1 (page / 64 * 64))
+  pub run-split : (process next page len : ℕ) → IsFirst (entry_at k.tables process) next page_bound page → (slot : ℕ) (q : Key)
+      → Before process (page + len) q → Uses (view k) (slot_at area slot) q → Before process next q ⊎ InRun process page len q
+  run-split process next page len first slot q here uses = by (cases_lt q.1 next) (cases_lt q.1 page)
     where
-      at : IsGroupFrom number page 64
-      at = group_from (entry_at k.tables process) number page 64 refl first
-
-      empty : q.1 < page → number * 64 ≤ q.1 → entry_at k.tables q.0 q.1 ≡ Empty
-      empty below low = ap (λ p. entry_at k.tables p q.1) here.0 ∙ first.least q.1 low below
-
-      by : (q.1 < number * 64) ⊎ (number * 64 ≤ q.1) → (q.1 < page / 64 * 64) ⊎ (page / 64 * 64 ≤ q.1)
-          → Before process (number * 64) q ⊎ InGroup process (page / 64 * 64) q
+      by : (q.1 < next) ⊎ (next ≤ q.1) → (q.1 < page) ⊎ (page ≤ q.1) → Before process next q ⊎ InRun process page len q
       by (inl below) other = inl (here.0, below)
-      by (inr low) (inl below) = absurd (none-there slot q (empty (let start = at.here in omega (arith, start, below)) low) uses)
-      by (inr low) (inr high) = inr (here.0, high, (let past = at.past in let within = here.1 in omega (arith, past, within)))
+      by (inr low) (inl below) = absurd (none-there slot q (ap (λ p. entry_at k.tables p q.1) here.0 ∙ first.least q.1 low below) uses)
+      by (inr low) (inr high) = inr (here.0, high, here.1)
 
-  -- behind the last group of a process there is none
-  pub group-last : (process number : ℕ) → ((q : ℕ) → number * 64 ≤ q → entry_at k.tables process q ≡ Empty) → (slot : ℕ) (q : Key) → q.0 ≡ process
-      → Uses (view k) (slot_at area slot) q → Before process (number * 64) q
-  group-last process number none slot q same uses = by (cases_lt q.1 (number * 64))
+  -- behind the last run of a process there is none
+  pub run-last : (process next : ℕ) → ((q : ℕ) → next ≤ q → entry_at k.tables process q ≡ Empty) → (slot : ℕ) (q : Key) → q.0 ≡ process
+      → Uses (view k) (slot_at area slot) q → Before process next q
+  run-last process next none slot q same uses = by (cases_lt q.1 next)
     where
-      by : (q.1 < number * 64) ⊎ (number * 64 ≤ q.1) → Before process (number * 64) q
+      by : (q.1 < next) ⊎ (next ≤ q.1) → Before process next q
       by (inl below) = (same, below)
       by (inr high) = absurd (none-there slot q (ap (λ p. entry_at k.tables p q.1) same ∙ none q.1 high) uses)
 

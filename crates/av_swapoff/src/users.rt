@@ -1,7 +1,6 @@
 //! Whose the slots of a swap area are, by one visit of the page tables.
 
-ghost use Rattle.std.specs.Prelude.{◌≡◌, ◌+◌, ◌*◌, ◌^◌, ◌<◌, ◌≤◌, ℕ, None, IfOk, length, replicate};
-ghost use Rattle.av_pagetable.specs.Table.{group_size, page_bound};
+ghost use Rattle.std.specs.Prelude.{◌≡◌, ◌+◌, ◌^◌, ◌<◌, ◌≤◌, ℕ, None, IfOk, length, replicate};
 ghost use Rattle.av_mem.specs.Entries.{AreWithin, HasAll};
 ghost use Rattle.av_mem.specs.Mem.{view};
 ghost use Rattle.av_swapoff.specs.System.{slot_at};
@@ -10,7 +9,7 @@ ghost use Rattle.av_swapoff.specs.Users.{HasUsers, IsUnused, Visits, with_user};
 use av_base::Slot;
 use av_mem::Mem;
 use av_mem::entries::slot_behind;
-use av_pagetable::{GROUP, Pte};
+use av_pagetable::{Pte, RUN};
 use std::alloc::{AllocError, Global};
 
 /// By page, process and page of an entry that names the slot of the area, or the frame that caches
@@ -61,33 +60,31 @@ fn visit_process(mem: &Mem, area: u8, process: u16, users: &mut [Option<(u16, u6
     requires { AreWithin (view mem.now) }
     ensures { Visits (view mem.now) area (λ key. key.0 ≡ process) users.old users.new }
 {
-    let mut number = 0;
-    while let Some(page) = mem.tables.next_from(process, number * GROUP as u64) {
-        let mut group = [Pte::Empty; GROUP];
-        mem.tables
-            .read_group(process, page / GROUP as u64, &mut group);
-        let first = page / GROUP as u64 * GROUP as u64;
-        visit_group(mem, area, &group, (process, first), users);
-        number = page / GROUP as u64 + 1;
+    let mut run = [Pte::Empty; RUN];
+    let mut next = 0;
+    while let Some(page) = mem.tables.next_from(process, next) {
+        let len = mem.tables.read_run(process, page, &mut run);
+        next = page + len as u64;
+        visit_run(mem, area, &run[..len], (process, page), users);
     }
 }
 
-/// Adds the users among the pages of a group, the first of which is that of the key.
-fn visit_group(
+/// Adds the users among the pages of a run, the first of which is that of the key.
+fn visit_run(
     mem: &Mem,
     area: u8,
-    group: &[Pte; GROUP],
+    run: &[Pte],
     first: (u16, u64),
     users: &mut [Option<(u16, u64)>],
 )
-    requires below { first.1 + group_size ≤ page_bound }
-    requires there { HasAll (view mem.now).table first.0 first.1 group.now }
+    requires below { first.1 + length run.now < 2 ^ 64 }
+    requires there { HasAll (view mem.now).table first.0 first.1 run.now }
     requires within { AreWithin (view mem.now) }
     ensures { Visits (view mem.now) area
-        (λ key. (key.0 ≡ first.0) × (first.1 ≤ key.1) × (key.1 < first.1 + group_size))
+        (λ key. (key.0 ≡ first.0) × (first.1 ≤ key.1) × (key.1 < first.1 + length run.now))
         users.old users.new }
 {
-    for (i, entry) in group.iter().enumerate() {
+    for (i, entry) in run.iter().enumerate() {
         let slot = slot_behind(mem, *entry);
         add_user(users, area, slot, (first.0, first.1 + i as u64));
     }

@@ -9,23 +9,23 @@ pub count_for_child-requires-clause-used : goal.count_for_child-requires-clause-
 count_for_child-requires-clause-used c =
     let i = c.loop-entry.entry-index in
     let v = c.loop-entry.invariant in
-    in-use-now c.args.mem.now c.loop-entry.mem c.args.group.now i (omega (arith, c.loop-entry-test.true, c.told-group)) v.counts v.rest.parts.count _
-    (c.requires.used i (omega (arith, c.loop-entry-test.true, c.told-group)))
+    in-use-now c.args.mem.now c.loop-entry.mem c.args.run.now i (omega (arith, c.loop-entry-test.true)) v.counts v.rest.parts.count _
+    (c.requires.used i (omega (arith, c.loop-entry-test.true)))
 
 pub count_for_child-requires-clause-room : goal.count_for_child-requires-clause-room
 count_for_child-requires-clause-room c =
-    room-for-one c.args.mem.now c.loop-entry.mem c.args.group.now c.loop-entry.entry-index (omega (arith, c.loop-entry-test.true, c.told-group))
+    room-for-one c.args.mem.now c.loop-entry.mem c.args.run.now c.loop-entry.entry-index (omega (arith, c.loop-entry-test.true))
     c.loop-entry.invariant.counts c.requires.room
 
 pub loop-entry-preserved : goal.loop-entry-preserved
 loop-entry-preserved c =
     let i = c.loop-entry.entry-index in
-    let group = c.args.group.now in
+    let run = c.args.run.now in
     let v = c.loop-entry.invariant in
-    let low : i < length group = omega (arith, c.loop-entry-test.true, c.told-group) in
+    let low : i < length run = omega (arith, c.loop-entry-test.true) in
     record {
       within = omega (arith, low);
-      counts = c.in_ok-count_for_child.ensures.counts ∙ ap (view_more _) v.counts ∙ one-up group i (view c.args.mem.now) low;
+      counts = c.in_ok-count_for_child.ensures.counts ∙ ap (view_more _) v.counts ∙ one-up run i (view c.args.mem.now) low;
       tables = c.in_ok-count_for_child.ensures.tables ∙ v.tables;
       rest = rest-then v.rest c.in_ok-count_for_child.ensures.rest;
     }

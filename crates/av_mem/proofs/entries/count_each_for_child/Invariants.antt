@@ -7,8 +7,8 @@ use Rattle.av_mem.proofs.entries.count_each_for_child.Given as goal
 
 abbrev pub invariant-loop-entry : goal.invariant-loop-entry
 invariant-loop-entry l = record {
-  within : l.entry-index ≤ length l.group;
-  counts : view l.mem ≡ view_more_each (take l.entry-index l.group) (view l.initial.mem);
+  within : l.entry-index ≤ length l.run;
+  counts : view l.mem ≡ view_more_each (take l.entry-index l.run) (view l.initial.mem);
   tables : entry_at l.mem.tables ≡ entry_at l.initial.mem.tables;
   rest : KeepsRest l.initial.mem l.mem;
 }

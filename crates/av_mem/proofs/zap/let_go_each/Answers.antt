@@ -1,5 +1,4 @@
 use Rattle.std.proofs.Common.{◌≡◌, ◌+◌, ◌<◌, ◌∙◌, arith, length, refl, subst}
-use Rattle.av_pagetable.specs.Table.{group_size}
 use Rattle.av_mem.specs.Entries.{LetsGo, without_pages}
 use Rattle.av_mem.proofs.LetGoLaws.{more-go, none-yet, rest-none, rest-then}
 use Rattle.av_mem.proofs.PagesGone.{still-there}
@@ -17,7 +16,7 @@ pub let_go-requires : goal.let_go-requires
 let_go-requires c =
     let r = c.requires.there in
     let i = c.loop-entry.entry-index in
-    let low : i < length c.args.group.now = omega (arith, c.loop-entry-test.true, c.told-group) in
+    let low : i < length c.args.run.now = omega (arith, c.loop-entry-test.true) in
     record {
       there = record {
         device = r.device;
@@ -33,7 +32,7 @@ let_go-requires c =
 pub loop-entry-preserved : goal.loop-entry-preserved
 loop-entry-preserved c =
     let i = c.loop-entry.entry-index in
-    let low : i < length c.args.group.now = omega (arith, c.loop-entry-test.true, c.told-group) in
+    let low : i < length c.args.run.now = omega (arith, c.loop-entry-test.true) in
     let v = c.loop-entry.invariant in
     record {
       within = omega (arith, low);
@@ -56,6 +55,6 @@ pub returns-clause-goes : goal.returns-clause-goes
 returns-clause-goes c = λ d l table p page stands has.
     let v = c.loop-entry.invariant in
     let within = v.within in
-    let all : c.loop-entry.entry-index ≡ group_size = omega (arith, within, c.loop-entry-test.false, c.told-group) in
+    let all : c.loop-entry.entry-index ≡ length c.args.run.now = omega (arith, within, c.loop-entry-test.false) in
     subst (λ n. LetsGo d c.args.mem.now c.loop-entry.mem table l p page n c.args.notes.now c.loop-entry.notes) all (v.goes d l table p page stands
     has)

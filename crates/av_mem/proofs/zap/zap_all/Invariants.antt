@@ -1,4 +1,4 @@
-use Rattle.std.proofs.Common.{◌≡◌, ◌-◌, ◌*◌, ◌≤◌}
+use Rattle.std.proofs.Common.{◌≡◌, ◌-◌, length}
 use Rattle.av_pagetable.specs.Table.{page_bound}
 use Rattle.av_plain.specs.Device.{Device}
 use Rattle.av_plain.specs.Ledger.{Ledger}
@@ -9,12 +9,12 @@ use Rattle.av_mem.proofs.zap.zap_all.Given as goal
 
 abbrev pub invariant-loop-page : goal.invariant-loop-page
 invariant-loop-page l = record {
-  within : l.number * 64 ≤ page_bound;
+  long : length l.run ≡ 64;
   goes : (d : Device) (first : Ledger) → HasLedger d l.fn.mem first
-      → LetsGo d l.fn.mem l.mem (view l.fn.mem).table first l.process 0 (l.number * 64) l.fn.notes l.notes;
+      → LetsGo d l.fn.mem l.mem (view l.fn.mem).table first l.process 0 l.next l.fn.notes l.notes;
   tables : (view l.mem).table ≡ (view l.fn.mem).table;
   rest : KeepsRest l.fn.mem l.mem;
 }
 
 abbrev pub decreases-loop-page : goal.decreases-loop-page
-decreases-loop-page l = page_bound - l.number * 64
+decreases-loop-page l = page_bound - l.next

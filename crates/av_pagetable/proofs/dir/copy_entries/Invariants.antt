@@ -4,6 +4,6 @@ use Rattle.av_pagetable.proofs.dir.copy_entries.Given as goal
 
 abbrev pub invariant-loop-i : goal.invariant-loop-i
 invariant-loop-i l = record {
-  long : length l.group ≡ 64;
-  done : (k : ℕ) → k < l.i → slice_index_or l.group k Empty ≡ (get_or l.parts (l.start + k) (0, Empty)).1;
+  long : length l.run ≡ 64;
+  done : (k : ℕ) → k < l.i → slice_index_or l.run k Empty ≡ (get_or l.parts (l.start + k) (0, Empty)).1;
 }

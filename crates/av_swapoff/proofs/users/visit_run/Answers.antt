@@ -1,14 +1,13 @@
 use Rattle.std.proofs.Common.{◌≡◌, ℕ, ◌+◌, ◌<◌, ◌≤◌, ◌⊎◌, inl, inr, List, Option, length, sym, ap, subst, ◌∙◌, arith}
 use Rattle.std.proofs.lemmas.Bool.{cases_lt}
-use Rattle.av_pagetable.specs.Table.{group_size}
 use Rattle.av_base.specs.Keys.{Key}
 use Rattle.av_mem.specs.Entries.{IsWithin, slot_behind}
 use Rattle.av_mem.specs.Mem.{view}
 use Rattle.av_swapoff.specs.Users.{Visits, with_user}
 use Rattle.av_swapoff.proofs.VisitLaws.{visits-all, visits-none, visits-one, visits-then}
-use Rattle.av_swapoff.proofs.users.visit_group.Goals as goal
+use Rattle.av_swapoff.proofs.users.visit_run.Goals as goal
 
--- the first keys of a group
+-- the first keys of a run
 abbrev First : Key → ℕ → Key → Type 0
 First first n k = (k.0 ≡ first.0) × (first.1 ≤ k.1) × (k.1 < first.1 + n)
 
@@ -27,7 +26,7 @@ pub slot_behind-slot-requires : goal.slot_behind-slot-requires
 slot_behind-slot-requires c =
     let first = c.args.first in
     let i = c.loop-i.i in
-    let below : i < length c.args.group.now = omega (arith, c.loop-i-test.true, c.told-group) in
+    let below : i < length c.args.run.now = omega (arith, c.loop-i-test.true) in
     subst (IsWithin (view c.args.mem.now)) (c.requires.there i below) (c.requires.within first.0 (first.1 + i))
 
 pub loop-i-preserved : goal.loop-i-preserved
@@ -36,7 +35,7 @@ loop-i-preserved c =
     let first = c.args.first in
     let i = c.loop-i.i in
     let key : Key = (first.0, first.1 + i) in
-    let below : i < length c.args.group.now = omega (arith, c.loop-i-test.true, c.told-group) in
+    let below : i < length c.args.run.now = omega (arith, c.loop-i-test.true) in
     let there = c.requires.there i below in
     let slot = c.slot_behind-slot.ensures ∙ ap (slot_behind v) (sym there) in
     subst (λ (users : List (Option Key)). Visits v c.args.area (First first (i + 1)) c.args.users.now users) (sym c.add_user.ensures)
@@ -46,5 +45,5 @@ loop-i-preserved c =
 
 pub returns : goal.returns
 returns c =
-    visits-all (view c.args.mem.now) c.args.area (First c.args.first c.loop-i.i) (First c.args.first group_size) c.args.users.now c.loop-i.users
+    visits-all (view c.args.mem.now) c.args.area (First c.args.first c.loop-i.i) (First c.args.first (length c.args.run.now)) c.args.users.now c.loop-i.users
     (λ page k h uses. (h.0, h.1, (let high = h.2 in omega (arith, high, c.loop-i-test.false)))) c.loop-i.invariant

@@ -2,7 +2,7 @@ use Rattle.std.proofs.Common.{◌≡◌, ◌+◌, ◌<◌, ◌≤◌}
 use Rattle.av_base.specs.Keys.{Key}
 use Rattle.av_mem.specs.Mem.{view}
 use Rattle.av_swapoff.specs.Users.{Visits}
-use Rattle.av_swapoff.proofs.users.visit_group.Given as goal
+use Rattle.av_swapoff.proofs.users.visit_run.Given as goal
 
 abbrev pub invariant-loop-i : goal.invariant-loop-i
 invariant-loop-i l =
