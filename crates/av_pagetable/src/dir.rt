@@ -15,9 +15,9 @@ use std::alloc::{AllocError, Global};
 use std::marker::Model;
 
 /// A table of 512 parts: of a page table's tables below, or of its entries. It keeps the parts that
-/// have an entry, by rising number, and gives back the others. One that is alone lies in the table
-/// itself, and more in an array (`Parts`), so that a table where pages stand far apart takes no
-/// memory, and a new one none.
+/// have an entry, by rising number, and gives back the others. The first lies in the table itself,
+/// and an array begins with the second (`Parts`), so that a table with one part asks for no memory
+/// of its own, and a new one for none.
 ///
 /// It is seen as the list of these parts with their numbers.
 #[derive(Drop)]

@@ -21,8 +21,8 @@ const FEW: usize = 4;
 
 /// The parts of a directory, each with its number. A clause sees them as their list, `parts_in`.
 ///
-/// A part that is alone lies in the directory itself. Where pages stand far apart each directory
-/// has one, and a process with one page takes no memory for any of its four.
+/// The first part lies in the directory itself. An array begins with the second, and stays until
+/// there is none. So a process with one page takes no memory for any of its four directories.
 #[derive(Drop)]
 pub(crate) enum Parts<C> {
     Alone((u16, C)),
@@ -59,8 +59,8 @@ impl<C: Level> Parts<C> {
         self.len() == 0
     }
 
-    // By its place, and no slice of all: to make one of a value alone, its size has to be known.
     /// The part at a place.
+    // No slice of all: for a part that is alone that would ask for its size.
     #[inline(always)]
     pub(crate) fn at(&self, place: usize) -> &(u16, C)
         requires { place < length (parts_in self.now) }

@@ -5,7 +5,7 @@ ghost use Rattle.av_replay.specs.Replay.{kernel_at};
 
 use crate::status::Status;
 use av_kernel::Kernel;
-use std::alloc::Global;
+use std::mem::forget;
 
 /// How a run ended, and the kernel that it leaves.
 #[derive(Drop)]
@@ -15,8 +15,8 @@ pub struct Outcome {
 }
 
 impl Outcome {
-    /// The status alone. The kernel goes, here rather than in a program, which would have to prove
-    /// that of each of its parts once more.
+    /// The status alone. The kernel goes, here rather than in a test, which would have to prove that
+    /// of each of its parts once more.
     pub fn into_status(self) -> Status
         ensures { result ≡ self.status }
     {
@@ -25,21 +25,12 @@ impl Outcome {
 
     /// The status alone, for a program that ends. The kernel isn't taken apart: the host takes all
     /// its memory at once.
-    pub fn leave_kernel(self, alloc: Global) -> Status
+    pub fn leave_kernel(self) -> Status
         ensures { result ≡ self.status }
     {
         let Outcome { status, kernel } = self;
-        if let Some(kernel) = kernel {
-            leave_to_host(alloc, kernel);
-        }
+        forget(kernel);
         status
-    }
-}
-
-/// Leaves a value where it is for good. Without memory for its place it goes.
-fn leave_to_host<T: Drop>(alloc: Global, value: T) {
-    if let Ok(place) = Box::new(alloc, value) {
-        let _ = Box::into_raw_with_allocator(place);
     }
 }
 

@@ -67,6 +67,9 @@ fn an_area_leaves_its_lists(rt: HostRuntime) -> Result<(), AllocError> {
     assert!(rt; links.has(0, 1));
     assert!(rt; chains(&links) == [(2, Some(0)), (1, Some(0))]);
     assert!(rt; has_users(&links, 0, &[0, 1]));
+    let mut chain = links.chain(rt.alloc(), 1)?;
+    links.push_chain(0, &mut chain)?;
+    assert!(rt; chain.as_slice() == [0, 0, 1].as_slice());
     unlink(&mut links, 0, Blank::new(1));
     assert!(rt; has_users(&links, 0, &[1]) && has_users(&links, 1, &[]));
     assert!(rt; chains(&links) == [(0, None), (1, Some(0))]);

@@ -48,6 +48,22 @@ fn tables_are_given_back(rt: HostRuntime) -> Result<(), AllocError> {
     Ok(())
 }
 
+/// The first part of a table lies in the table itself, and an array begins with the second, also
+/// where that stands before it. Once none is left, one can come again.
+#[test]
+fn parts_of_a_table_come_and_go(rt: HostRuntime) -> Result<(), AllocError> {
+    let mut table = RadixTable::new(rt.alloc())?;
+    for _round in 0..2 {
+        assert!(rt; is_changed(&mut table, 0x10003)?);
+        assert!(rt; is_changed(&mut table, 0x10001)?);
+        assert!(rt; table.get(0x10003) == AWAY && table.get(0x10002) == Pte::Empty);
+        assert!(rt; is_first(&mut table, 0, PAGES, Some(0x10001)));
+        assert!(rt; is_first(&mut table, 0, PAGES, Some(0x10003)));
+        assert!(rt; table.held() == 1 && table.get(0x10003) == Pte::Empty);
+    }
+    Ok(())
+}
+
 /// Whether process 4 has entries at page 16 and page 20, and process 5 has none; the first is taken
 /// out.
 fn are_found(tables: &mut Tables<PageTable>) -> bool {

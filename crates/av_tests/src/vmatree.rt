@@ -17,6 +17,19 @@ fn one_area_takes_all_pages(rt: HostRuntime) -> Result<(), Fail> {
     Ok(())
 }
 
+/// There may be more areas than a tree was made with room for.
+#[test]
+fn areas_come_beyond_the_room(rt: HostRuntime) -> Result<(), Fail> {
+    for room in 0..3 {
+        let mut tree = Tree::with_room(rt.alloc(), room)?;
+        tree.insert(7, 20, 24)?;
+        tree.insert(8, 30, 34)?;
+        tree.insert(9, 16, 18)?;
+        assert!(rt; tree.find(17) == Some(9) && tree.before(30) == Some(7));
+    }
+    Ok(())
+}
+
 #[test]
 fn an_area_grows_and_shrinks_at_its_end(rt: HostRuntime) -> Result<(), Fail> {
     let mut tree = Tree::new(rt.alloc());

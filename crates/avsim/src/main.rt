@@ -89,7 +89,7 @@ fn run_program(rt: &HostRuntime) -> Status {
     );
     // Where memory was wanting the load wasn't made to its end.
     meter.clear();
-    outcome.leave_kernel(rt.alloc())
+    outcome.leave_kernel()
 }
 
 fn main(rt: HostRuntime) -> ExitCode {
