@@ -9,7 +9,7 @@ use Rattle.std.specs.List.{All, AllPairs, AllWithin, HoldsAt}
 use Rattle.std.specs.Map.{lookup}
 use Rattle.av_pagetable.specs.declared.pte.Pte.{Pte}
 use Rattle.av_pagetable.specs.declared.pte.Pte.TheVariants.{Empty}
-use Rattle.av_pagetable.specs.Table.{IsFirst, HasSome}
+use Rattle.av_pagetable.specs.Table.{IsFirst, HasSome, run_size}
 
 -- no page has an entry
 abbrev pub no_entry : ℕ → Pte
@@ -45,6 +45,13 @@ IsPlace number parts result = MatchResult result
     (λ k. (k ≤ length parts)
     × AllWithin (λ part. part.0 < number) parts 0 k
     × AllWithin (λ part. number < part.0) parts k (length parts))
+
+-- so many parts from a place on have the numbers of as many pages side by side, at most a run
+pub record AreSideBySide {C : Type 0} (page : ℕ) (parts : List (ℕ × C)) (start len : ℕ) : Type 0 where
+  pub some : 0 < len
+  pub few : len ≤ run_size
+  pub within : start + len ≤ length parts
+  pub numbers : (i : ℕ) → i < len → HoldsAt (λ part. part.0 ≡ page + i) parts (start + i)
 
 -- the entries of the part at a place
 abbrev pub entries_at : {C : Type 0} → (C → ℕ → Pte) → List (ℕ × C) → ℕ → ℕ → Pte

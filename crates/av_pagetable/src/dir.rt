@@ -1,10 +1,10 @@
 //! An upper table of a page table, over any table below it.
 
-ghost use Rattle.std.specs.Prelude.{◌≡◌, ℕ, ◌+◌, ◌<◌, ◌≤◌, length, slice_index_or, IfOk};
+ghost use Rattle.std.specs.Prelude.{◌≡◌, ℕ, ◌+◌, ◌<◌, ◌≤◌, length, slice_index_or, IfOk, IfSome};
 ghost use Rattle.std.specs.List.{AllPairs, HoldsAt};
 ghost use Rattle.av_base.specs.Words.{with_at};
-ghost use Rattle.av_pagetable.specs.Table.{page_bound, run_size};
-ghost use Rattle.av_pagetable.specs.Dir.{no_entry};
+ghost use Rattle.av_pagetable.specs.Table.{IsRun, page_bound, run_size};
+ghost use Rattle.av_pagetable.specs.Dir.{alone, entries, no_entry, AreParts, AreSideBySide};
 ghost use Rattle.av_pagetable.specs.declared.pte.Pte.{Pte};
 
 use crate::level::Level;
@@ -349,7 +349,8 @@ impl Dir<Pte> {
     ghost use Rattle.av_pagetable.specs.Table.{IsRun, run_size};
     ghost use Rattle.av_pagetable.specs.Dir.{alone, entries};
 
-    /// Reads the entries of pages side by side, from this one on: as many as it answers.
+    /// Reads the entries of pages side by side, from this one on: as many as it answers. It reads
+    /// on over holes, up to the last entry among as many pages as a run has at most.
     pub fn read_run(&self, page: u64, run: &mut [Pte; RUN]) -> usize
         requires { page < 512 }
         ensures some { 0 < result }
@@ -362,9 +363,11 @@ impl Dir<Pte> {
             return 1;
         };
         let parts = self.parts.as_slice();
-        let len = run_len(parts, start, page);
-        copy_entries(parts, start, len, run);
-        len
+        if let Some(len) = side_by_side(parts, start, page) {
+            copy_entries(parts, start, len, run);
+            return len;
+        }
+        gather_run(parts, start, page, run)
     }
 }
 
@@ -381,31 +384,22 @@ fn with_one<C: Level>(alloc: Global, page: u64, entry: Pte) -> Result<C, AllocEr
     Ok(part)
 }
 
-// How many parts from that of a page on have numbers side by side: as many as a run has at most, or
-// up to the first number that is missing.
+// How many parts there are from that of a page on, or as many as a run has at most, where no number
+// among theirs is missing.
 #[inline]
-fn run_len(parts: &[(u16, Pte)], start: usize, page: u64) -> usize
+fn side_by_side(parts: &[(u16, Pte)], start: usize, page: u64) -> Option<usize>
     requires rising { AllPairs (λ part later. part.0 < later.0) parts.now }
     requires within { start < length parts.now }
     requires first { HoldsAt (λ part. part.0 ≡ page) parts.now start }
     requires below { page < 512 }
-    ensures some { 0 < result }
-    ensures few { result ≤ run_size }
-    ensures within { start + result ≤ length parts.now }
-    ensures numbers { (i : ℕ) → i < result
-        → HoldsAt (λ part. part.0 ≡ page + i) parts.now (start + i) }
+    ensures { IfSome result (λ len. AreSideBySide page parts.now start len) }
 {
     let most = (parts.len() - start).min(RUN);
     // They rise, so where the last one is that of the last page, none is missing.
     if u64::from(parts[start + (most - 1)].0) == page + (most as u64 - 1) {
-        return most;
+        return Some(most);
     }
-    for i in 1..most {
-        if u64::from(parts[start + i].0) != page + i as u64 {
-            return i;
-        }
-    }
-    most
+    None
 }
 
 // Copies the entries of so many parts, from a place on.
@@ -419,4 +413,28 @@ fn copy_entries(parts: &[(u16, Pte)], start: usize, len: usize, run: &mut [Pte; 
     for i in 0..len {
         run[i] = parts[start + i].1;
     }
+}
+
+// Reads the entries from that of a page on over holes, up to the last one among as many pages as a
+// run has at most.
+fn gather_run(parts: &[(u16, Pte)], start: usize, page: u64, run: &mut [Pte; RUN]) -> usize
+    requires good { AreParts alone 1 parts.now }
+    requires within { start < length parts.now }
+    requires first { HoldsAt (λ part. part.0 ≡ page) parts.now start }
+    ensures some { 0 < result }
+    ensures few { result ≤ run_size }
+    ensures below { page + result ≤ 512 }
+    ensures entries { IsRun (entries alone 1 parts.now) page result run.new }
+{
+    *run = [Pte::Empty; RUN];
+    let mut len = 0;
+    for part in &parts[start..] {
+        let i = u64::from(part.0) - page;
+        if i >= RUN as u64 {
+            return len;
+        }
+        run[i as usize] = part.1;
+        len = i as usize + 1;
+    }
+    len
 }

@@ -10,6 +10,10 @@
 //! array (`Parts`). Many a process has few pages, and a fork copies each of its tables: with one
 //! page it takes no memory for any of the four.
 //!
+//! `read_run` reads the entries of pages side by side in one. A `RadixTable` reads on over holes,
+//! up to the last entry among 64 pages. Proved: it reads 1 to 64, each that of its page. Not
+//! proved: how many of them.
+//!
 //! `Tables` also keeps a mark for each frame of which no entry is seen, so that nobody has to walk
 //! to find that out (`may_be_seen`). Proved: where there is a mark, none is. Not proved: that a
 //! mark is ever set; without memory it is not.

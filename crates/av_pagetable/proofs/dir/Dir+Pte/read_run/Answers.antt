@@ -13,23 +13,23 @@ returns-in_default-clause-entries c =
     one_empty (entries alone 1 c.args.self.now) page c.args.run.now (omega (arith, c.told-run))
     (absent alone 1 c.args.self.now c.in_default.field-0 page page gap.0 gap.1 gap.2 (omega (arith, div-add-mod' page 1, mod_below page 1 (omega arith))))
 
-pub returns-clause-below : goal.returns-clause-below
-returns-clause-below c =
+pub returns-in-Some-clause-below : goal.returns-in-Some-clause-below
+returns-in-Some-clause-below c =
     let parts = c.as_slice-parts.result.now in
     let good : AreParts alone 1 parts = subst (λ v. AreParts alone 1 v) (sym c.as_slice-parts.ensures) c.self.invariant in
-    let e = c.run_len-len.ensures in
-    let some = e.some in
-    let within = e.within in
-    let last = c.run_len-len.result - 1 in
-    let low = under_512 parts good c.args.page c.in-Ok.start last (omega (arith, some, within)) (e.numbers last (omega (arith, some))) in
+    let side = c.in-Some.ensures in
+    let some = side.some in
+    let within = side.within in
+    let last = c.in-Some.len - 1 in
+    let low = under_512 parts good c.args.page c.in-Ok.start last (omega (arith, some, within)) (side.numbers last (omega (arith, some))) in
     omega (arith, low, some)
 
-pub returns-clause-entries : goal.returns-clause-entries
-returns-clause-entries c = λ i under.
+pub returns-in-Some-clause-entries : goal.returns-in-Some-clause-entries
+returns-in-Some-clause-entries c = λ i under.
     let parts = c.as_slice-parts.result.now in
     let good : AreParts alone 1 parts = subst (λ v. AreParts alone 1 v) (sym c.as_slice-parts.ensures) c.self.invariant in
-    let e = c.run_len-len.ensures in
-    let within = e.within in
+    let side = c.in-Some.ensures in
+    let within = side.within in
     c.copy_entries.ensures i under (0, Empty)
-    ∙ sym (run_there parts good c.args.page c.in-Ok.start i (omega (arith, under, within)) (e.numbers i under))
+    ∙ sym (run_there parts good c.args.page c.in-Ok.start i (omega (arith, under, within)) (side.numbers i under))
     ∙ ap (λ v. entries alone 1 v (c.args.page + i)) (c.as_slice-parts.ensures ∙ c.self.view_is)
