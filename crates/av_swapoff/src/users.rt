@@ -70,13 +70,7 @@ fn visit_process(mem: &Mem, area: u8, process: u16, users: &mut [Option<(u16, u6
 }
 
 /// Adds the users among the pages of a run, the first of which is that of the key.
-fn visit_run(
-    mem: &Mem,
-    area: u8,
-    run: &[Pte],
-    first: (u16, u64),
-    users: &mut [Option<(u16, u64)>],
-)
+fn visit_run(mem: &Mem, area: u8, run: &[Pte], first: (u16, u64), users: &mut [Option<(u16, u64)>])
     requires below { first.1 + length run.now < 2 ^ 64 }
     requires there { HasAll (view mem.now).table first.0 first.1 run.now }
     requires within { AreWithin (view mem.now) }

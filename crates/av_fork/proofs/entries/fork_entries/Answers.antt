@@ -1,4 +1,4 @@
-use Rattle.std.proofs.Common.{ℕ, ◌≡◌, ◌+◌, ◌≤◌, ◌∙◌, ap, arith, length, refl, sym, subst, take}
+use Rattle.std.proofs.Common.{ℕ, ◌+◌, ◌≤◌, ◌∙◌, ap, arith, length, refl, sym, subst, take}
 use Rattle.std.proofs.lemmas.List.{length-take-le}
 use Rattle.av_base.specs.Words.{with_at}
 use Rattle.av_pagetable.specs.Entries.{entry_at}
