@@ -6,9 +6,9 @@
 //! call answers and changes, that nothing else changes, that want of memory changes nothing, and
 //! how many tables a `RadixTable` holds.
 //!
-//! A table of a `RadixTable` keeps the parts that have an entry: one alone in itself, more in an
-//! array (`Parts`). Many a process has few pages, and a fork copies each of its tables: with one
-//! page it takes no memory for any of the four.
+//! A table of a `RadixTable` keeps the parts that have an entry: the first in itself, in an array
+//! once there is a second (`Parts`). Many a process has few pages, and a fork copies each of its
+//! tables: with one page it takes no memory for any of the four.
 //!
 //! `read_run` reads the entries of pages side by side in one. A `RadixTable` reads on over holes,
 //! up to the last entry among 64 pages. Proved: it reads 1 to 64, each that of its page. Not
