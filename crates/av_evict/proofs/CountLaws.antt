@@ -11,9 +11,8 @@ use Rattle.av_trace.specs.declared.note.Note.{Note}
 use Rattle.av_trace.specs.declared.reply.OutOf.{OutOf}
 use Rattle.av_plain.specs.Event.{after_notes}
 use Rattle.av_plain.specs.Ledger.{Ledger, Setting, is_merged, map_count, no_slot, slot_of}
-use Rattle.av_plain.specs.Pass.{IsSlotFor, Spared, frames_in_turn, has_turn, how_many_frames, is_dirty, is_pinned, is_stuck, out_of, turn_notes}
+use Rattle.av_plain.specs.Pass.{IsSlotFor, Spared, frames_in_turn, how_many_frames, is_dirty, is_pinned, is_stuck, out_of, turn_notes}
 use Rattle.av_plain.specs.Sound.{IsSound, IsSoundBut, uses}
-use Rattle.av_plain.proofs.Event.{how_many-none}
 use Rattle.av_plain.proofs.Ledger.{how_many-append}
 use Rattle.av_plain.proofs.Sound.Changes.{any-counts, free-is}
 use Rattle.av_plain.proofs.Sound.Counts.{pair-frame, slot_of-some}
@@ -55,9 +54,6 @@ range-none p a (suc n) h f low high =
     by : (b : Bool) → (a == f) ≡ b → (a + 1 ≤ f → p f ≡ false) → p f ≡ false
     by true is later = let same : a ≡ f = grind (arith, nat_tests) in ap p (sym same) ∙ first (p a) _ h
     by false is later = later (grind (arith, nat_tests))
-
-range-zero : (p : ℕ → Bool) (a n : ℕ) → ((f : ℕ) → a ≤ f → f < a + n → p f ≡ false) → how_many p (range_with_len a n) ≡ 0
-range-zero p a n fails = range-same p (λ f. false) a n fails ∙ how_many-none (λ f. false) (range_with_len a n) (λ f. refl)
 
 -- those that pass and those that don't
 range-both : (p : ℕ → Bool) (a n : ℕ) → how_many p (range_with_len a n) + how_many (λ f. not (p f)) (range_with_len a n) ≡ n

@@ -1,6 +1,6 @@
 //! Why no frame could be had: the numbers of an out-of-memory.
 
-ghost use Rattle.std.specs.Prelude.{◌≡◌, ◌<◌, ◌^◌, Bool, ℕ, false, length, nat_lt};
+ghost use Rattle.std.specs.Prelude.{◌≡◌, ◌<◌, ◌^◌, Bool, false, length, nat_lt};
 ghost use Rattle.std.specs.List.{All};
 ghost use Rattle.av_plain.specs.Pass.{out_of as numbers};
 ghost use Rattle.av_evict.specs.Standing.{cached_count, pinned_adds, unspared_adds};

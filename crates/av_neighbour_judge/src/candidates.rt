@@ -43,7 +43,8 @@ fn may_merge(memories: &Memories, key: (u16, u64)) -> bool
 /// Whether a page may be merged, and a frame is neither merged nor cached.
 fn may_join(book: &Book, memories: &Memories, key: (u16, u64), frame: u32) -> bool
     ensures below { result ≡ true → key.1 < top_page }
-    ensures may { (w : World) → IsWorld memories.now w → result ≡ (may_merge_by (pages w key.0 key.1)
+    ensures may { (w : World) → IsWorld memories.now w
+        → result ≡ (may_merge_by (pages w key.0 key.1)
         && not (is_merged (ledger_of book.now) frame)
         && is_none (slot_of (ledger_of book.now) frame)) }
 {

@@ -47,7 +47,8 @@ IsPlace number parts result = MatchResult result
     × AllWithin (λ part. number < part.0) parts k (length parts))
 
 -- so many parts from a place on have the numbers of as many pages side by side, at most a run
-pub record AreSideBySide {C : Type 0} (page : ℕ) (parts : List (ℕ × C)) (start len : ℕ) : Type 0 where
+pub record AreSideBySide {C : Type 0} (page : ℕ) (parts : List (ℕ × C)) (start len : ℕ)
+    : Type 0 where
   pub some : 0 < len
   pub few : len ≤ run_size
   pub within : start + len ≤ length parts

@@ -15,8 +15,8 @@ pub struct Outcome {
 }
 
 impl Outcome {
-    /// The status alone. The kernel goes, here rather than in a test, which would have to prove that
-    /// of each of its parts once more.
+    /// The status alone. The kernel goes, here rather than in a test, which would have to prove
+    /// that of each of its parts once more.
     pub fn into_status(self) -> Status
         ensures { result ≡ self.status }
     {

@@ -28,12 +28,6 @@ not-both b h g = cc
 
 -- ---- those that are noted
 
-pub none-noted : (spaces : BTreeMap ℕ Space) (locking : BTreeSet ℕ) → ((p : ℕ) → get nat_cmp spaces p ≡ None) → AreNoted spaces locking
-none-noted spaces locking empty = λ p s page is locked. absurd (differ (sym is ∙ empty p))
-  where
-    differ : {s : Space} → Some s ≡ None → ⊥
-    differ e = cc
-
 module _ (old new : BTreeMap ℕ Space) (locking noted : BTreeSet ℕ) (p : ℕ) (h : AreNoted old locking) where
   -- a process gets such pages
   pub noted-set : (s : Space) → ((q : ℕ) → get nat_cmp new q ≡ cond (is_at (nat_cmp p) q) (Some s) (get nat_cmp old q))

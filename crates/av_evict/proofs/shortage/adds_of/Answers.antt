@@ -1,4 +1,4 @@
-use Rattle.std.proofs.Common.{Bool, arith, is_none, is_some, not, refl, ◌&&◌}
+use Rattle.std.proofs.Common.{arith, is_none, is_some, not, refl, ◌&&◌}
 use Rattle.av_plain.specs.Ledger.{is_merged, slot_of}
 use Rattle.av_evict.proofs.CountLaws.{counts-unspared, take-counts}
 use Rattle.av_evict.proofs.StandingLaws.{counts-once}

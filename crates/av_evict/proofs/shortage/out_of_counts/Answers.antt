@@ -1,5 +1,5 @@
-use Rattle.std.proofs.Common.{ℕ, List, arith, rules, ap, false, filter, length, refl, subst, sym, ◌<◌, ◌∙◌, ◌≡◌}
-use Rattle.std.specs.List.{All, range_with_len}
+use Rattle.std.proofs.Common.{ℕ, List, arith, rules, ap, false, length, refl, subst, sym, ◌<◌, ◌∙◌, ◌≡◌}
+use Rattle.std.specs.List.{All}
 use Rattle.av_trace.specs.declared.reply.OutOf.{OutOf}
 use Rattle.av_evict.specs.Standing.{pinned_adds, unspared_adds}
 use Rattle.av_evict.specs.System.{any_slot, locked_frames_of, spares}

@@ -19,6 +19,7 @@ loop-place-preserved g c =
     record {
       many = length-set now k x ∙ i.many;
       within = omega (arith, under);
-      images = set_image C.at read_only olds now k p x i.many under is i.others (record { number = refl; each = λ page. c.write_protect.ensures page }) i.images;
+      images = set_image C.at read_only olds now k p x i.many under is i.others
+        (record { number = refl; each = λ page. c.write_protect.ensures page }) i.images;
       others = λ j d low high. set_others C.at read_only olds now k p x i.many under is i.others j d low high;
     }

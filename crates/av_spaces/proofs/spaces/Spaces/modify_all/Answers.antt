@@ -41,7 +41,8 @@ returns-clause-ok c =
     (c.modify_all.ensures.stands c.args.process)
     (λ all on. AreThese (pages_changed (lengths all c.args.anons.now) (effect_of c.args.change) c.args.from c.args.pages on))
     (λ page. pages page ∙ (let all : c.args.from + c.args.pages - c.args.from ≡ c.args.pages = omega arith in
-    λ i. pages_changed (lengths c.self.inside.areas c.args.anons.now) (effect_of c.args.change) c.args.from (all i) (pages_by (area_of c.self.inside.areas) c.tree_mut-tree.result.now) page)))
+    λ i. pages_changed (lengths c.self.inside.areas c.args.anons.now) (effect_of c.args.change) c.args.from (all i)
+    (pages_by (area_of c.self.inside.areas) c.tree_mut-tree.result.now) page)))
     c.modify_all.ensures.pages
 
 pub returns-clause-mapping : goal.returns-clause-mapping
