@@ -145,7 +145,7 @@ module _ (old : Mem) (p q : ℕ) where
   none-seen tables is =
       (λ i. record (view old) { table = λ x o. plain (is i x o) })
       ∙ by-counts (record (view old) { table = λ x o. plain (fork_tables (areas_on old p) p q (entry_at old.tables) x o) }) _ _ _ _
-        (λ f. no_more ((view old).maps f))
+      (λ f. no_more ((view old).maps f))
       (λ s. no_more ((view old).entries s))
 
   -- a run goes over; the pages before it have no entry

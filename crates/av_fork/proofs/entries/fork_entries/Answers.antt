@@ -68,7 +68,7 @@ loop-page-preserved c =
       long = read.array_long;
       view = run-seen a.mem.now a.parent a.child now c.count_each_for_child.new.mem table c.loop-page.next page (take read.result read.new.run)
           (λ o. ap (λ (t : ℕ → ℕ → Pte). t a.child o) v.tables
-            ∙ forked-child (areas_on a.mem.now a.parent) a.parent a.child (entry_at a.mem.now.tables) c.requires.empty o)
+          ∙ forked-child (areas_on a.mem.now a.parent) a.parent a.child (entry_at a.mem.now.tables) c.requires.empty o)
           c.in-Some.ensures (run_taken table page read.result read.new.run fits read.ensures.entries)
           v.view c.in_ok-count_each_for_child.ensures.counts
           ∙ ap (λ n. fork_view a.mem.now a.parent a.child (page + n)) (length-take-le read.result read.new.run fits);

@@ -20,6 +20,6 @@ loop-place-preserved g c =
       many = length-set now k x ∙ i.many;
       within = omega (arith, under);
       images = set_image C.at read_only olds now k p x i.many under is i.others
-        (record { number = refl; each = λ page. c.write_protect.ensures page }) i.images;
+          (record { number = refl; each = λ page. c.write_protect.ensures page }) i.images;
       others = λ j d low high. set_others C.at read_only olds now k p x i.many under is i.others j d low high;
     }
