@@ -39,7 +39,8 @@ pub fn fork_entries(mem: &mut Mem, alloc: Global, parent: u16, child: u16) -> Re
     ensures free { free_of (view mem.new) ≡ free_of (view mem.old) }
     ensures rest { KeepsRest mem.old mem.new }
 {
-    // First, since further down it would be cleared twice: as the function begins, and there.
+    // Before all else: the compiler clears the place of a local as the function begins. Declared
+    // further down it would be cleared there once more.
     let mut run = [Pte::Empty; RUN];
     mem.tables.copy(alloc, parent, child)?;
     mem.tables.write_protect(parent);

@@ -7,9 +7,9 @@
 //! `fork_entries` gives a process each entry of another one that goes over, that is, of each page
 //! that is neither left out nor wiped: the parent's page table is copied whole, the copy loses the
 //! entries that don't go over, area by area, and then the frames and slots that it names are
-//! counted, 64 pages at a time, by `count_each_for_child` of av_mem. Proved for every ledger that
-//! the memory system's parts stand for: they stand for it after the event of the fork, what is free
-//! is as it was, and no frame gets or loses an item.
+//! counted, by runs of up to 64 pages, by `count_each_for_child` of av_mem. Proved for every ledger
+//! that the memory system's parts stand for: they stand for it after the event of the fork, what is
+//! free is as it was, and no frame gets or loses an item.
 #![tactic(auto)]
 
 mod areas;
