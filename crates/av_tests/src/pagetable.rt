@@ -68,7 +68,7 @@ fn parts_of_a_table_come_and_go(rt: HostRuntime) -> Result<(), AllocError> {
 fn reads<T: Table>(table: &T, page: u64, wanted: &[Pte]) -> bool {
     let mut run = [Pte::Zero; RUN];
     let len = table.read_run(page, &mut run);
-    run[..len] == *wanted
+    &run[..len] == wanted
 }
 
 /// Whether runs end behind the last entry among 64 pages, at the end of a last table, and at once
