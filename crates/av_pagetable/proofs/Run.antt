@@ -57,19 +57,23 @@ in_gap parts k page within lower higher =
 past_all : (parts : List (ℕ × Pte)) (page : ℕ) → AllWithin (λ part. part.0 < page) parts 0 (length parts) → entries alone 1 parts page ≡ Empty
 past_all parts page lower = in_gap parts (length parts) page (omega arith) lower (λ i d low high. absurd (omega (arith, low, high)))
 
-module _ (parts : List (ℕ × Pte)) (good : AreParts alone 1 parts) where
-  -- parts side by side that are fewer than a run has pages are the last
-  pub side_reaches : (page k len : ℕ) → AreSideBySide page parts k len → len ≡ count_from parts k
-      → ReachesLast (entries alone 1 parts) page len
-  side_reaches page k len side count there i past under table =
+-- parts side by side from a place on
+module _ (parts : List (ℕ × Pte)) (good : AreParts alone 1 parts) (page k len : ℕ) (side : AreSideBySide page parts k len) where
+  -- where they are the last, a page behind theirs is past all numbers
+  numbers_below : (i : ℕ) → k + len ≡ length parts → len ≤ i → AllWithin (λ part. part.0 < page + i) parts 0 (length parts)
+  numbers_below i all past j d low high =
       let some = side.some in
+      let last = k + (len - 1) in
+      let up = steps parts good.rising j (last - j) d (omega (arith, high, some, all)) in
+      let end : (get_or parts (j + (last - j)) d).0 ≡ (get_or parts last d).0 = ap (λ j. (get_or parts j d).0) (omega (arith, high, some, all)) in
+      let is = side.numbers (len - 1) (omega (arith, some)) d in
+      omega (arith, up, end, is, past, some)
+
+  -- where they are fewer than a run has pages, they are the last
+  pub side_reaches : len ≡ count_from parts k → ReachesLast (entries alone 1 parts) page len
+  side_reaches count there i past under table =
       let within = side.within in
-      past_all parts (page + i) (λ j d low high.
-      let up = steps parts good.rising j (k + (len - 1) - j) d (omega (arith, high, some, within, count, past, under)) in
-      let end : (get_or parts (j + (k + (len - 1) - j)) d).0 ≡ (get_or parts (k + (len - 1)) d).0 =
-      ap (λ j. (get_or parts j d).0) (omega (arith, high, some, within, count, past, under)) in
-      let last = side.numbers (len - 1) (omega (arith, some)) d in
-      omega (arith, up, end, last, past, some))
+      past_all parts (page + i) (numbers_below i (omega (arith, count, within, past, under)) past)
 
 module _ (parts : List (ℕ × Pte)) (good : AreParts alone 1 parts) (page k i : ℕ) (within : k + i < length parts)
     (number : HoldsAt (λ part. part.0 ≡ page + i) parts (k + i)) where
