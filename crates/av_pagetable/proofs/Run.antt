@@ -1,14 +1,14 @@
--- A run of one page; the parts of a last table whose numbers stand side by side, which have the entries of as many pages; and a walk over
--- the parts that gathers a run with its holes.
-use Rattle.std.proofs.Common.{◌≡◌, ℕ, zero, suc, ◌+◌, ◌-◌, ◌*◌, ◌/◌, ◌<◌, ◌≤◌, List, length, get_or, replicate, slice_set, take, drop, refl, sym, ap, ◌∙◌, arith, inl, inr, get_or-set_same, get_or-set_other}
+-- A run of one page; the parts of a last table whose numbers stand side by side, which have the
+-- entries of as many pages; and a walk over the parts that gathers a run with its holes.
+use Rattle.std.proofs.Common.{◌≡◌, ℕ, zero, suc, ◌+◌, ◌-◌, ◌*◌, ◌<◌, ◌≤◌, List, length, get_or, replicate, slice_set, take, drop, refl, sym, ap, ◌∙◌, arith, inl, inr, get_or-set_same, get_or-set_other}
 use Rattle.std.proofs.lemmas.List.{get_or-drop, get_or-take, get_or_default, length-drop, length-take-le, take_all}
 use Rattle.std.proofs.lemmas.Bool.{cases_eq, cases_lt}
 use Rattle.std.proofs.lemmas.Nat.{div-add-mod', mod_below}
 use Rattle.std.specs.List.{AllPairs, AllWithin, HoldsAt}
 use Rattle.av_pagetable.specs.declared.pte.Pte.{Pte}
 use Rattle.av_pagetable.specs.declared.pte.Pte.TheVariants.{Empty}
-use Rattle.av_pagetable.specs.Dir.{alone, entries, AreParts}
-use Rattle.av_pagetable.specs.Table.{IsRun}
+use Rattle.av_pagetable.specs.Dir.{alone, count_from, entries, AreParts, AreSideBySide}
+use Rattle.av_pagetable.specs.Table.{IsRun, ReachesLast, run_size}
 use Rattle.av_pagetable.proofs.DirEntries.{absent, entries_there}
 
 -- the part of an array that was read
@@ -47,6 +47,34 @@ module _ (parts : List (ℕ × Pte)) (rising : AllPairs (λ part later. part.0 <
       let is = last d in
       omega (arith, up, over, end, start, is, under)
 
+-- a page that is the number of no part
+pub in_gap : (parts : List (ℕ × Pte)) (k page : ℕ) → k ≤ length parts → AllWithin (λ part. part.0 < page) parts 0 k
+    → AllWithin (λ part. page < part.0) parts k (length parts) → entries alone 1 parts page ≡ Empty
+in_gap parts k page within lower higher =
+    absent alone 1 parts k page page within lower higher (omega (arith, div-add-mod' page 1, mod_below page 1 (omega arith)))
+
+-- a page past the numbers of all parts
+past_all : (parts : List (ℕ × Pte)) (page : ℕ) → AllWithin (λ part. part.0 < page) parts 0 (length parts) → entries alone 1 parts page ≡ Empty
+past_all parts page lower = in_gap parts (length parts) page (omega arith) lower (λ i d low high. absurd (omega (arith, low, high)))
+
+-- parts side by side from a place on
+module _ (parts : List (ℕ × Pte)) (good : AreParts alone 1 parts) (page k len : ℕ) (side : AreSideBySide page parts k len) where
+  -- where they are the last, a page behind theirs is past all numbers
+  numbers_below : (i : ℕ) → k + len ≡ length parts → len ≤ i → AllWithin (λ part. part.0 < page + i) parts 0 (length parts)
+  numbers_below i all past j d low high =
+      let some = side.some in
+      let last = k + (len - 1) in
+      let up = steps parts good.rising j (last - j) d (omega (arith, high, some, all)) in
+      let end : (get_or parts (j + (last - j)) d).0 ≡ (get_or parts last d).0 = ap (λ j. (get_or parts j d).0) (omega (arith, high, some, all)) in
+      let is = side.numbers (len - 1) (omega (arith, some)) d in
+      omega (arith, up, end, is, past, some)
+
+  -- where they are fewer than a run has pages, they are the last
+  pub side_reaches : len ≡ count_from parts k → ReachesLast (entries alone 1 parts) page len
+  side_reaches count there i past under table =
+      let within = side.within in
+      past_all parts (page + i) (numbers_below i (omega (arith, count, within, past, under)) past)
+
 module _ (parts : List (ℕ × Pte)) (good : AreParts alone 1 parts) (page k i : ℕ) (within : k + i < length parts)
     (number : HoldsAt (λ part. part.0 ≡ page + i) parts (k + i)) where
   pub under_512 : page + i < 512
@@ -80,12 +108,12 @@ module _ (parts : List (ℕ × Pte)) (start i : ℕ) (under : i < length (take (
 
 -- the walk stands at a place: the parts before it have put in the entries of so many pages, and past these the run has none
 pub record IsGathered (parts : List (ℕ × Pte)) (page place len : ℕ) (run : List Pte) : Type 0 where
-  pub few : len ≤ 64
+  pub few : len ≤ run_size
   pub below : page + len ≤ 512
   pub lower : AllWithin (λ part. part.0 < page + len) parts 0 place
   pub higher : AllWithin (λ part. page + len ≤ part.0) parts place (length parts)
   pub done : (i : ℕ) → i < len → get_or run i Empty ≡ entries alone 1 parts (page + i)
-  pub none : (i : ℕ) → i < 64 → len ≤ i → get_or run i Empty ≡ Empty
+  pub none : (i : ℕ) → i < run_size → len ≤ i → get_or run i Empty ≡ Empty
 
 module _ (parts : List (ℕ × Pte)) (good : AreParts alone 1 parts) (page : ℕ) where
   -- at the start no part of a lower number is left, and the run has no entry
@@ -109,6 +137,11 @@ module _ (parts : List (ℕ × Pte)) (good : AreParts alone 1 parts) (page : ℕ
     some_read start before number =
         let lt = w.lower start (0, Empty) (omega arith) before in let n = number (0, Empty) in omega (arith, lt, n)
 
+    -- past the last part all are read
+    pub reaches_end : length parts ≤ k → ReachesLast (entries alone 1 parts) page len
+    reaches_end end some i past under table =
+        past_all parts (page + i) (λ j d low high. let h = w.lower j d low (omega (arith, high, end)) in omega (arith, h, past))
+
     module _ (within : k < length parts) (p : ℕ × Pte) (there : p ≡ get_or parts k p) where
       number : (d : ℕ × Pte) → (get_or parts k d).0 ≡ p.0
       number d = ap (λ part. part.0) (get_or_default parts k d p within ∙ sym there)
@@ -125,9 +158,12 @@ module _ (parts : List (ℕ × Pte)) (good : AreParts alone 1 parts) (page : ℕ
       -- a page between the numbers of the parts before the place and from it on
       between : (x : ℕ) → page + len ≤ x → x < p.0 → entries alone 1 parts x ≡ Empty
       between x from to =
-          let here : x ≡ x / 1 = omega (arith, div-add-mod' x 1, mod_below x 1 (omega arith)) in
-          absent alone 1 parts k x x (omega (arith, within)) (λ i d low high. let h = w.lower i d low high in omega (arith, h, from))
-          (λ i d low high. let h = from_here i d low high in omega (arith, h, to)) here
+          in_gap parts k x (omega (arith, within)) (λ i d low high. let h = w.lower i d low high in omega (arith, h, from))
+          (λ i d low high. let h = from_here i d low high in omega (arith, h, to))
+
+      -- a part too far on for the run ends it
+      pub reaches_far : page + run_size ≤ p.0 → ReachesLast (entries alone 1 parts) page len
+      reaches_far far some i past under table = between (page + i) (omega (arith, past)) (omega (arith, under, far))
 
       here : (i : ℕ) → page + i ≡ p.0 → entries alone 1 parts (page + i) ≡ p.1
       here i e =
@@ -135,7 +171,7 @@ module _ (parts : List (ℕ × Pte)) (good : AreParts alone 1 parts) (page : ℕ
           ap (entries alone 1 parts) at ∙ entries_there alone 1 parts good k p within there 0 (omega arith)
 
       -- a part puts its entry in, past the holes before it
-      pub one_more : (n : ℕ) → page + n ≡ p.0 → n < 64 → length run ≡ 64
+      pub one_more : (n : ℕ) → page + n ≡ p.0 → n < run_size → length run ≡ run_size
           → IsGathered parts page (k + 1) (n + 1) (slice_set run n p.1)
       one_more n is under long =
           let past = no_less in

@@ -1,7 +1,7 @@
 -- A directory of parts, each with its number, which span as many pages each.
-use Rattle.std.specs.Prelude.{◌≡◌, ℕ, ◌+◌, ◌*◌, ◌/◌, ◌%◌, ◌<◌, ◌≤◌, List, length, Option, Some}
-use Rattle.std.specs.Prelude.{None, Result, MatchResult, option_map, slice_get, nat_lt, nat_eq}
-use Rattle.std.specs.Prelude.{◌==◌, if◌then◌else◌}
+use Rattle.std.specs.Prelude.{◌≡◌, ℕ, ◌+◌, ◌-◌, ◌*◌, ◌/◌, ◌%◌, ◌<◌, ◌≤◌, min, List, length}
+use Rattle.std.specs.Prelude.{Option, Some, None, Result, MatchResult, option_map, slice_get, nat_lt}
+use Rattle.std.specs.Prelude.{nat_eq, ◌==◌, if◌then◌else◌}
 use Rattle.std.proofs.Common.{ap, arith, false}
 use Rattle.std.proofs.lemmas.Bool.Decides.{nat_tests}
 use Rattle.std.proofs.lemmas.Nat.{le-div}
@@ -45,6 +45,10 @@ IsPlace number parts result = MatchResult result
     (λ k. (k ≤ length parts)
     × AllWithin (λ part. part.0 < number) parts 0 k
     × AllWithin (λ part. number < part.0) parts k (length parts))
+
+-- how many parts there are from a place on, but at most as many as a run has pages
+abbrev pub count_from : {C : Type 0} → List (ℕ × C) → ℕ → ℕ
+count_from parts start = min (length parts - start) run_size
 
 -- so many parts from a place on have the numbers of as many pages side by side, at most a run
 pub record AreSideBySide {C : Type 0} (page : ℕ) (parts : List (ℕ × C)) (start len : ℕ)

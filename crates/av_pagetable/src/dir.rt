@@ -1,10 +1,12 @@
 //! An upper table of a page table, over any table below it.
 
-ghost use Rattle.std.specs.Prelude.{◌≡◌, ℕ, ◌+◌, ◌<◌, ◌≤◌, length, slice_index_or, IfOk, IfSome};
+ghost use Rattle.std.specs.Prelude.{◌≡◌, ℕ, ◌+◌, ◌-◌, ◌<◌, ◌≤◌, length, slice_index_or, IfOk};
+ghost use Rattle.std.specs.Prelude.{MatchOption};
 ghost use Rattle.std.specs.List.{AllPairs, HoldsAt};
 ghost use Rattle.av_base.specs.Words.{with_at};
-ghost use Rattle.av_pagetable.specs.Table.{IsRun, page_bound, run_size};
-ghost use Rattle.av_pagetable.specs.Dir.{alone, entries, no_entry, AreParts, AreSideBySide};
+ghost use Rattle.av_pagetable.specs.Table.{IsRun, ReachesLast, page_bound, run_size};
+ghost use Rattle.av_pagetable.specs.Dir.{alone, count_from, entries, no_entry, AreParts};
+ghost use Rattle.av_pagetable.specs.Dir.{AreSideBySide};
 ghost use Rattle.av_pagetable.specs.declared.pte.Pte.{Pte};
 
 use crate::level::Level;
@@ -346,17 +348,21 @@ impl<C: Level> Dir<C> {
 
 impl Dir<Pte> {
     ghost use Rattle.std.specs.Prelude.{◌+◌, ◌<◌, ◌≤◌};
-    ghost use Rattle.av_pagetable.specs.Table.{IsRun, run_size};
+    ghost use Rattle.av_pagetable.specs.Table.{IsRun, ReachesLast, run_size};
     ghost use Rattle.av_pagetable.specs.Dir.{alone, entries};
 
-    /// Reads the entries of pages side by side, from this one on: as many as it answers. It reads
-    /// on over holes, up to the last entry among as many pages as a run has at most.
+    /// Reads the entries of pages in a row, from this one on: as many as it answers. A hole among
+    /// them is read as `Pte::Empty`.
+    ///
+    /// It reads on over holes, up to the last entry among `RUN` pages, and not past the end of this
+    /// table. Where the page itself has no entry, it reads that page alone.
     pub fn read_run(&self, page: u64, run: &mut [Pte; RUN]) -> usize
         requires { page < 512 }
         ensures some { 0 < result }
         ensures few { result ≤ run_size }
         ensures below { page + result ≤ 512 }
         ensures entries { IsRun (entries alone 1 self.now) page result run.new }
+        ensures reaches { ReachesLast (entries alone 1 self.now) page result }
     {
         let Ok(start) = self.place(page) else {
             run[0] = Pte::Empty;
@@ -384,18 +390,21 @@ fn with_one<C: Level>(alloc: Global, page: u64, entry: Pte) -> Result<C, AllocEr
     Ok(part)
 }
 
-// How many parts there are from that of a page on, or as many as a run has at most, where no number
-// among theirs is missing.
+// How many parts there are from that of a page on, up to `RUN`; None where a number among theirs is
+// missing.
 #[inline]
 fn side_by_side(parts: &[(u16, Pte)], start: usize, page: u64) -> Option<usize>
     requires rising { AllPairs (λ part later. part.0 < later.0) parts.now }
     requires within { start < length parts.now }
     requires first { HoldsAt (λ part. part.0 ≡ page) parts.now start }
     requires below { page < 512 }
-    ensures { IfSome result (λ len. AreSideBySide page parts.now start len) }
+    ensures { MatchOption result
+        (HoldsAt (λ part. part.0 ≡ page + (count_from parts.now start - 1) → ⊥)
+        parts.now (start + (count_from parts.now start - 1)))
+        (λ len. (len ≡ count_from parts.now start) × AreSideBySide page parts.now start len) }
 {
     let most = (parts.len() - start).min(RUN);
-    // They rise, so where the last one is that of the last page, none is missing.
+    // They rise: no number among theirs is missing where the last is that of the page so far on.
     if u64::from(parts[start + (most - 1)].0) == page + (most as u64 - 1) {
         return Some(most);
     }
@@ -415,8 +424,7 @@ fn copy_entries(parts: &[(u16, Pte)], start: usize, len: usize, run: &mut [Pte; 
     }
 }
 
-// Reads the entries from that of a page on over holes, up to the last one among as many pages as a
-// run has at most.
+// Reads the entries from that of a page on, over holes, up to the last one among `RUN` pages.
 fn gather_run(parts: &[(u16, Pte)], start: usize, page: u64, run: &mut [Pte; RUN]) -> usize
     requires good { AreParts alone 1 parts.now }
     requires within { start < length parts.now }
@@ -425,6 +433,7 @@ fn gather_run(parts: &[(u16, Pte)], start: usize, page: u64, run: &mut [Pte; RUN
     ensures few { result ≤ run_size }
     ensures below { page + result ≤ 512 }
     ensures entries { IsRun (entries alone 1 parts.now) page result run.new }
+    ensures reaches { ReachesLast (entries alone 1 parts.now) page result }
 {
     *run = [Pte::Empty; RUN];
     let mut len = 0;

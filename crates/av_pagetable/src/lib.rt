@@ -8,11 +8,15 @@
 //!
 //! A table of a `RadixTable` keeps the parts that have an entry: the first in itself, in an array
 //! once there is a second (`Parts`). Many a process has few pages, and a fork copies each of its
-//! tables: with one page it takes no memory for any of the four.
+//! tables: a process that never had two parts in one takes no memory for any of the four. An array
+//! of which all parts went stays until the next entry or `clear`. Not proved: where parts lie, in
+//! the table itself or in an array; no clause tells.
 //!
-//! `read_run` reads the entries of pages side by side in one. A `RadixTable` reads on over holes,
-//! up to the last entry among 64 pages. Proved: it reads 1 to 64, each that of its page. Not
-//! proved: how many of them.
+//! `read_run` reads the entries of pages in a row in one call. Where the first page has an entry, it
+//! reads on over holes, up to the last entry among 64 pages, and no further than the end of the last
+//! table that the page is in; where it has none, it reads that page alone. Proved: it reads 1 to 64,
+//! each that of its page, and where the first has an entry, none is left behind them among the 64,
+//! up to the end of the table. Not proved: that it reads no more than that.
 //!
 //! `Tables` also keeps a mark for each frame of which no entry is seen, so that nobody has to walk
 //! to find that out (`may_be_seen`). Proved: where there is a mark, none is. Not proved: that a

@@ -1,6 +1,7 @@
 //! The parts of a directory.
 
-ghost use Rattle.std.specs.Prelude.{◌≡◌, ◌<◌, ◌≤◌, ◌==◌, [], length, slice_index_or, MatchResult};
+ghost use Rattle.std.specs.Prelude.{◌≡◌, ◌<◌, ◌≤◌, ◌==◌, [], ◌∷◌, length, slice_index_or};
+ghost use Rattle.std.specs.Prelude.{MatchResult};
 ghost use Rattle.std.specs.Prelude.{AllPairs, IfOk, insert, remove};
 ghost use Rattle.std.specs.Borrow.{sem};
 ghost use Rattle.av_pagetable.specs.Dir.{IsPlace};
@@ -21,13 +22,15 @@ const FEW: usize = 4;
 
 /// The parts of a directory, each with its number. A clause sees them as their list, `parts_in`.
 ///
-/// The first part lies in the directory itself. An array begins with the second, and stays until
-/// there is none. So a process with one page takes no memory for any of its four directories.
+/// The first part lies in the directory itself, and an array begins with the second. So a process
+/// that never had two parts in a directory takes no memory for any of its four. An array of which
+/// one part is left stays an array, but a child has that part alone. Where none is left, it stays
+/// until the next part comes, or until `clear`.
 #[derive(Drop)]
 pub(crate) enum Parts<C> {
     Alone((u16, C)),
     // An array and not a queue: a look asks each level for its first part, and little else. A new
-    // one is empty and takes no memory. Where parts went, one or none may be left.
+    // one is empty and takes no memory.
     Many(Vec<(u16, C)>),
 }
 
@@ -60,7 +63,8 @@ impl<C: Level> Parts<C> {
     }
 
     /// The part at a place.
-    // No slice of all: for a part that is alone that would ask for its size.
+    // Not by a slice of all parts: `from_ref` wants to be shown that a part's size is below 2^63
+    // bytes, and of a type parameter that isn't known.
     #[inline(always)]
     pub(crate) fn at(&self, place: usize) -> &(u16, C)
         requires { place < length (parts_in self.now) }
@@ -164,8 +168,13 @@ impl<C: Level> Parts<C> {
             (λ parts. AreAllImages C.at child_entry (parts_in self.now) (parts_in parts)) }
     {
         match self {
-            Parts::Alone(part) => Ok(Parts::Alone((part.0, part.1.for_child()?))),
-            Parts::Many(parts) => Ok(Parts::Many(many_for_child(alloc, parts)?)),
+            Parts::Alone(part) => alone_for_child(part),
+            Parts::Many(parts) => {
+                if parts.len() == 1 {
+                    return alone_for_child(&parts[0]);
+                }
+                Ok(Parts::Many(many_for_child(alloc, parts)?))
+            }
         }
     }
 
@@ -193,6 +202,14 @@ impl Parts<Pte> {
             Parts::Many(parts) => parts.as_slice(),
         }
     }
+}
+
+// The same part for a child, with no array.
+fn alone_for_child<C: Level>(part: &(u16, C)) -> Result<Parts<C>, AllocError>
+    ensures { IfOk result
+        (λ parts. AreAllImages C.at child_entry (part.now ∷ []) (parts_in parts)) }
+{
+    Ok(Parts::Alone((part.0, part.1.for_child()?)))
 }
 
 // The same parts for a child, in an array with no room to spare.

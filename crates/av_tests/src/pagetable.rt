@@ -1,7 +1,7 @@
 //! Entries of processes, and tables that are given back when no entry is left in them.
 
 use av_base::Slot;
-use av_pagetable::{MapTable, PageTable, Pte, RadixTable, Table, Tables};
+use av_pagetable::{MapTable, PageTable, Pte, RUN, RadixTable, Table, Tables};
 use std::alloc::AllocError;
 
 /// An entry whose page is at a slot.
@@ -61,6 +61,39 @@ fn parts_of_a_table_come_and_go(rt: HostRuntime) -> Result<(), AllocError> {
         assert!(rt; is_first(&mut table, 0, PAGES, Some(0x10003)));
         assert!(rt; table.held() == 1 && table.get(0x10003) == Pte::Empty);
     }
+    Ok(())
+}
+
+/// Whether a run from a page on reads these entries.
+fn reads<T: Table>(table: &T, page: u64, wanted: &[Pte]) -> bool {
+    let mut run = [Pte::Zero; RUN];
+    let len = table.read_run(page, &mut run);
+    &run[..len] == wanted
+}
+
+/// Whether runs end behind the last entry among 64 pages, at the end of a last table, and at once
+/// where the page has no entry.
+fn has_runs<T: Table>(table: &mut T) -> Result<bool, AllocError> {
+    table.set(16, Pte::Zero)?;
+    table.set(18, AWAY)?;
+    table.set(511, AWAY)?;
+    table.set(512, AWAY)?;
+    for page in 1024..1089 {
+        table.set(page, AWAY)?;
+    }
+    Ok(reads(table, 16, &[Pte::Zero, Pte::Empty, AWAY])
+        && reads(table, 17, &[Pte::Empty])
+        && reads(table, 511, &[AWAY])
+        && reads(table, 1024, &[AWAY; RUN])
+        && reads(table, 1088, &[AWAY]))
+}
+
+#[test]
+fn a_run_reads_on_over_holes(rt: HostRuntime) -> Result<(), AllocError> {
+    let mut radix = RadixTable::new(rt.alloc())?;
+    assert!(rt; has_runs(&mut radix)?);
+    let mut map = MapTable::new(rt.alloc())?;
+    assert!(rt; has_runs(&mut map)?);
     Ok(())
 }
 

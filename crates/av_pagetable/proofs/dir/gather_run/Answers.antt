@@ -2,7 +2,7 @@ use Rattle.std.proofs.Common.{◌≡◌, ◌+◌, ◌-◌, drop, take, length, g
 use Rattle.std.proofs.lemmas.Bool.{cases_eq}
 use Rattle.std.proofs.lemmas.List.{length-drop, take_all}
 use Rattle.av_pagetable.specs.declared.pte.Pte.TheVariants.{Empty}
-use Rattle.av_pagetable.proofs.Run.{IsGathered, all_empty, at_start, item_there, item_within, no_less, one_more, some_read}
+use Rattle.av_pagetable.proofs.Run.{IsGathered, all_empty, at_start, item_there, item_within, no_less, one_more, reaches_end, reaches_far, some_read}
 use Rattle.av_pagetable.proofs.dir.gather_run.Goals as goal
 
 pub loop-part-init : goal.loop-part-init
@@ -43,6 +43,15 @@ returns-then-i-clause-some c =
       | inr ne ↦ some_read parts c.requires.good c.args.page (k + i) _ _ c.loop-part.invariant.gathered k (omega (arith, ne)) c.requires.first
     ]
 
+pub returns-then-i-clause-reaches : goal.returns-then-i-clause-reaches
+returns-then-i-clause-reaches c =
+    let parts = c.args.parts.now in
+    let k = c.args.start in
+    let i = c.loop-part.part-index in
+    let under = c.loop-part-test.true in
+    reaches_far parts c.requires.good c.args.page (k + i) _ _ c.loop-part.invariant.gathered
+    (item_within parts k i under) _ (item_there parts k i under (0, Empty)) (omega (arith, c.from.ensures, c.if-i.true))
+
 pub loop-part-preserved : goal.loop-part-preserved
 loop-part-preserved c =
     let parts = c.args.parts.now in
@@ -72,3 +81,13 @@ returns-clause-some c =
     let left : items ≡ drop k parts = take_all (length parts - k) (drop k parts) (omega (arith, length-drop k parts)) in
     some_read parts c.requires.good c.args.page (k + i) _ _ c.loop-part.invariant.gathered k
     (omega (arith, c.loop-part-test.false, ap length left, length-drop k parts, c.requires.within)) c.requires.first
+
+pub returns-clause-reaches : goal.returns-clause-reaches
+returns-clause-reaches c =
+    let parts = c.args.parts.now in
+    let k = c.args.start in
+    let items = take (length parts - k) (drop k parts) in
+    let i = c.loop-part.part-index in
+    let left : items ≡ drop k parts = take_all (length parts - k) (drop k parts) (omega (arith, length-drop k parts)) in
+    reaches_end parts c.requires.good c.args.page (k + i) _ _ c.loop-part.invariant.gathered
+    (omega (arith, c.loop-part-test.false, ap length left, length-drop k parts, c.requires.within))
