@@ -1,6 +1,6 @@
 //! Why a frame is kept.
 
-ghost use Rattle.std.specs.Prelude.{◌≡◌, IfOk};
+ghost use Rattle.std.specs.Prelude.{◌≡◌};
 ghost use Rattle.av_plain.specs.Reclaim.{cause_of, is_in_writeback as is_in_writeback_of};
 ghost use Rattle.av_book.specs.Book.{ledger_of};
 ghost use Rattle.av_book.specs.Machine.{setting_of};
@@ -11,7 +11,6 @@ use crate::machine::Machine;
 use crate::spared::Spared;
 use av_base::Slot;
 use av_trace::Cause;
-use std::alloc::AllocError;
 
 impl Book {
     /// Whether there is a slot, and its write is in flight.
@@ -25,16 +24,11 @@ impl Book {
     }
 
     /// Why a frame is kept before it is touched.
-    pub fn cause(
-        &self,
-        machine: &Machine,
-        spared: &Spared<'_>,
-        frame: u32,
-    ) -> Result<Option<Cause>, AllocError>
-        ensures { IfOk result (λ cause. cause ≡ cause_of (setting_of machine.now)
-            (spared_of spared.now (ledger_of self.now)) (ledger_of self.now) frame) }
+    pub fn cause(&self, machine: &Machine, spared: &Spared<'_>, frame: u32) -> Option<Cause>
+        ensures { result ≡ cause_of (setting_of machine.now)
+            (spared_of spared.now (ledger_of self.now)) (ledger_of self.now) frame }
     {
-        let cause = if self.is_locked(spared.memories, frame)? {
+        if self.is_locked(spared.memories, frame) {
             Some(Cause::Locked)
         } else if self.is_merged(frame) {
             Some(Cause::Ksm)
@@ -46,7 +40,6 @@ impl Book {
             Some(Cause::NoSlot)
         } else {
             None
-        };
-        Ok(cause)
+        }
     }
 }

@@ -9,9 +9,9 @@
 //! a note.
 //!
 //! Whether a frame is of a locked page is asked of the processes (`av_world`) when it matters, by
-//! the frame's entries, and of none where no process has a locked page (`Book::is_locked`). What
-//! they keep answers it; that it is what the definitions say is one equation
-//! (`proofs/SparedLaws.antt`).
+//! the frame's entries, one after another and without memory, and of none where no process has a
+//! locked page (`Book::is_locked`). What they keep answers it; that it is what the definitions say
+//! is one equation (`proofs/SparedLaws.antt`).
 //!
 //! The numbers of an out-of-memory are had by counts (`Book::out_of`). Gone over are the ranges of
 //! the processes that have a locked page, the entries of locked pages, and the cached pairs, but

@@ -2,11 +2,9 @@
 
 ghost use Rattle.std.specs.Prelude.{◌≡◌, ◌≤◌, ◌||◌, ◌++◌, ℕ, IfOk, OnOk, false, length, nat_lt};
 ghost use Rattle.std.specs.Prelude.{not, reverse, take, true};
-ghost use Rattle.std.specs.List.{list_any};
 ghost use Rattle.av_plain.specs.Ledger.{no_slot};
 ghost use Rattle.av_plain.specs.Pass.{Spared as PlainSpared, has_turn};
 ghost use Rattle.av_plain.specs.Pass.{is_pinned as is_pinned_by, is_stuck};
-ghost use Rattle.av_world.specs.Locks.{locks_page};
 ghost use Rattle.av_book.specs.Book.{ledger_of};
 ghost use Rattle.av_book.specs.Machine.{setting_of};
 ghost use Rattle.av_book.specs.Spared.{frames_by_turn, is_locked_by, spared_of};
@@ -36,13 +34,6 @@ pub fn is_pinned(pinned: Option<u32>, frame: u32) -> bool
     }
 }
 
-/// Whether one of some pages is locked.
-fn locks_any(memories: &Memories, keys: &[(u16, u64)]) -> bool
-    ensures { result ≡ list_any (locks_page memories.now) keys.now }
-{
-    keys.iter().any(|key| memories.locks(key.0, key.1))
-}
-
 /// Frames of a list come to others, from the list's end on, until there are n.
 fn add_last(frames: &mut Vec<u32>, list: &Queue<u32>, n: usize) -> Result<(), AllocError>
     requires { length frames.old.items ≤ n }
@@ -60,16 +51,16 @@ fn add_last(frames: &mut Vec<u32>, list: &Queue<u32>, n: usize) -> Result<(), Al
 
 impl Book {
     /// Whether a page of the frame is locked. Where no process has a locked page, no entry is
-    /// looked at; else those of the frame are.
-    pub fn is_locked(&self, memories: &Memories, frame: u32) -> Result<bool, AllocError>
-        ensures { IfOk result (λ locked. locked
-            ≡ is_locked_by memories.now (ledger_of self.now) frame) }
+    /// looked at; else those of the frame are, up to the first whose page is locked.
+    pub fn is_locked(&self, memories: &Memories, frame: u32) -> bool
+        ensures { result ≡ is_locked_by memories.now (ledger_of self.now) frame }
     {
         if memories.locking().is_empty() {
-            return Ok(false);
+            return false;
         }
-        let keys = self.keys_of_frame(self.alloc, frame)?;
-        Ok(locks_any(memories, keys.as_slice()))
+        self.pages
+            .walk(frame)
+            .any(|key| memories.locks(key.0, key.1))
     }
 
     /// Whether the frame isn't cached, and there is no slot for it.
@@ -91,14 +82,13 @@ impl Book {
     }
 
     /// Whether a pass goes over the frame.
-    pub fn has_turn(&self, spared: &Spared<'_>, frame: u32) -> Result<bool, AllocError>
-        ensures { IfOk result (λ due. due
-            ≡ has_turn (spared_of spared.now (ledger_of self.now)) (ledger_of self.now) frame) }
+    pub fn has_turn(&self, spared: &Spared<'_>, frame: u32) -> bool
+        ensures { result
+            ≡ has_turn (spared_of spared.now (ledger_of self.now)) (ledger_of self.now) frame }
     {
-        if is_pinned(spared.pinned, frame) || self.is_merged(frame) {
-            return Ok(false);
-        }
-        Ok(!self.is_locked(spared.memories, frame)?)
+        !is_pinned(spared.pinned, frame)
+            && !self.is_merged(frame)
+            && !self.is_locked(spared.memories, frame)
     }
 
     /// The first frames of the lists in the order of their turns, n at most: inactive from its

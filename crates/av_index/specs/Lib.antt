@@ -1,3 +1,4 @@
 pub mod Holders
 pub mod Holding
 pub mod Keys
+pub mod KeysOf

@@ -10,6 +10,7 @@ ghost use Rattle.av_base.specs.Words.{how_many};
 ghost use Rattle.av_index.specs.Holding.{is_seen, uses_of};
 
 use crate::keys::Keys;
+use crate::keys_of::KeysOf;
 use std::alloc::{AllocError, Global};
 use std::marker::Model;
 
@@ -122,6 +123,13 @@ impl Holder {
         ensures { result ≡ self.now.pairs }
     {
         self.pairs
+    }
+
+    /// The keys, rising, one after another.
+    pub(crate) fn iter(&self) -> KeysOf<'_>
+        ensures { result ≡ keys_of self.now.keys }
+    {
+        self.keys.iter()
     }
 
     /// The keys, rising.

@@ -12,6 +12,7 @@ ghost use Rattle.av_index.specs.Holders.{uses_at};
 ghost use Rattle.av_index.specs.Holding.{is_seen};
 
 use crate::holder::Holder;
+use crate::keys_of::KeysOf;
 use std::alloc::{AllocError, Global};
 use std::collections::BTreeMap;
 use std::marker::Model;
@@ -153,6 +154,17 @@ impl Holders {
         ensures rising { KeysRise self.now }
     {
         self.numbers.contains_key(&n)
+    }
+
+    /// The keys that name the number, rising, one after another.
+    pub fn keys_of(&self, n: u32) -> KeysOf<'_>
+        ensures keys { result ≡ keys_of (keys_at self.now n) }
+        ensures rising { KeysRise self.now }
+    {
+        match self.numbers.get(&n) {
+            None => KeysOf::none(),
+            Some(holder) => holder.iter(),
+        }
     }
 
     /// The keys that name the number, rising.

@@ -7,6 +7,7 @@ ghost use Rattle.std.specs.declared.cmp.Ordering.TheVariants.{Less};
 ghost use Rattle.av_base.specs.Keys.{key_cmp};
 ghost use Rattle.av_index.specs.Keys.{AreRising, list_of};
 
+use crate::keys_of::KeysOf;
 use std::alloc::{AllocError, Global};
 use std::cmp::Ordering;
 use std::collections::BTreeMap;
@@ -215,6 +216,18 @@ impl Keys {
         ensures { result ≡ (length self.now == 0) }
     {
         self.len() == 0
+    }
+
+    /// All of them, rising, one after another.
+    pub(crate) fn iter(&self) -> KeysOf<'_>
+        ensures { result ≡ keys_of self.now }
+    {
+        match &self.kept {
+            Kept::Empty => KeysOf::none(),
+            Kept::One(first) => KeysOf::one(first.0),
+            Kept::Two(first, second) => KeysOf::two(first.0, second.0),
+            Kept::More(map) => KeysOf::all(map.keys()),
+        }
     }
 
     /// All of them, rising.

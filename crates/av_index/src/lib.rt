@@ -4,9 +4,9 @@
 //! and more stand in a tree. It knows no ledger.
 //!
 //! Proved: each call changes one key or one number, and nothing else; how many keys of a number
-//! are seen; how many numbers of a range are used, and which is the least; the keys of a number are
-//! listed in their order. Without memory all stays. `proofs/Rising` has, for who builds on it, that
-//! two rising lists with the same members are one.
+//! are seen; how many numbers of a range are used, and which is the least; the keys of a number
+//! come one after another, or in a list, in their order. Without memory all stays. `proofs/Rising`
+//! has, for who builds on it, that two rising lists with the same members are one.
 //!
 //! Only tested: nothing.
 #![tactic(auto)]
@@ -14,5 +14,7 @@
 mod holder;
 mod holders;
 mod keys;
+mod keys_of;
 
 pub use holders::Holders;
+pub use keys_of::KeysOf;

@@ -183,19 +183,11 @@ fn next_in_turn(
 }
 
 /// Whether a frame has a turn in which it can go. The last is asked first: it costs less.
-fn can_go(
-    book: &Book,
-    machine: &Machine,
-    spared: &Spared<'_>,
-    frame: u32,
-) -> Result<bool, AllocError>
-    ensures { let l = ledger_of book.now in IfOk result (λ goes. goes
-        ≡ can_go_in (setting_of machine.now) (spared_of spared.now l) l frame) }
+fn can_go(book: &Book, machine: &Machine, spared: &Spared<'_>, frame: u32) -> bool
+    ensures { let l = ledger_of book.now in result
+        ≡ can_go_in (setting_of machine.now) (spared_of spared.now l) l frame }
 {
-    if book.is_stuck(machine, spared, frame) {
-        return Ok(false);
-    }
-    book.has_turn(spared, frame)
+    !book.is_stuck(machine, spared, frame) && book.has_turn(spared, frame)
 }
 
 /// The frames in turn, up to the first that becomes free. Whether a frame has a turn is asked when
@@ -216,7 +208,7 @@ fn takes_turns(
     let mut past = 0;
     while let Some(frame) = next_in_turn(unit.alloc, book, &mut listed, past)? {
         past += 1;
-        if can_go(book, machine, spared, frame)? {
+        if can_go(book, machine, spared, frame) {
             match turn(book, unit, machine, spared, frame)? {
                 None => return Ok(false),
                 Some(false) => return Ok(true),

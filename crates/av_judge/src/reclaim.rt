@@ -69,7 +69,7 @@ fn outcome(
         (Outcome (setting_of machine.now) (spared_of spared.now l) l frame) l unit.old.rest.now read
         (ledger_of book.new) unit.new.rest.now) }
 {
-    match book.cause(machine, spared, frame)? {
+    match book.cause(machine, spared, frame) {
         None => leaves(book, unit, machine, spared, frame),
         Some(cause) => reads(book, unit, Note::Kept { frame, cause }),
     }

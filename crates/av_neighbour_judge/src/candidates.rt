@@ -52,23 +52,19 @@ fn may_join(book: &Book, memories: &Memories, key: (u16, u64), frame: u32) -> bo
 }
 
 /// The frame of a page, if it may join another.
-pub fn candidate(
-    book: &Book,
-    memories: &Memories,
-    key: (u16, u64),
-) -> Result<Option<u32>, AllocError>
-    ensures below { IfOk result (λ found. IfSome found (λ frame. key.1 < top_page)) }
-    ensures is { IfOk result (λ found. (w : World) → IsWorld memories.now w
-        → found ≡ candidate_in w (ledger_of book.now) key) }
+pub fn candidate(book: &Book, memories: &Memories, key: (u16, u64)) -> Option<u32>
+    ensures below { IfSome result (λ frame. key.1 < top_page) }
+    ensures is { (w : World) → IsWorld memories.now w
+        → result ≡ candidate_in w (ledger_of book.now) key }
 {
     match book.entry(key.0, key.1) {
         Some(Entry::InFrame { frame, .. }) => {
-            if may_join(book, memories, key, frame) && !book.is_locked(memories, frame)? {
-                Ok(Some(frame))
+            if may_join(book, memories, key, frame) && !book.is_locked(memories, frame) {
+                Some(frame)
             } else {
-                Ok(None)
+                None
             }
         }
-        _ => Ok(None),
+        _ => None,
     }
 }

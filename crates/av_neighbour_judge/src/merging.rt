@@ -81,7 +81,7 @@ fn takes_turn<'a>(
         → HasTurned m (held_by memories.now pages.now) w (ledger_of book.old) earlier key notes.old
         (ledger_of book.new) notes.new contents.new) }
 {
-    let Some(own) = candidate(book, memories, key)? else {
+    let Some(own) = candidate(book, memories, key) else {
         return Ok(());
     };
     let bytes = content(memories, pages, own);

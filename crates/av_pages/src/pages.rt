@@ -22,6 +22,7 @@ use crate::entries::{Cached, Entry};
 use crate::index::Index;
 use crate::pairs::Pairs;
 use av_base::Slot;
+use av_index::KeysOf;
 use std::alloc::{AllocError, Global};
 use std::collections::BTreeMap;
 use std::collections::btree_map::Values;
@@ -216,6 +217,14 @@ impl Pages {
         ensures { result ≡ slice_get (used_pages self.now area pages) 0 }
     {
         self.index.slots().least(area, 1, pages)
+    }
+
+    /// The keys of the entries that name a frame, rising, one after another.
+    pub fn walk(&self, frame: u32) -> KeysOf<'_>
+        ensures { result
+            ≡ keys_of (filter (λ e. names_frame frame (entry_of e.1)) self.now.entries) }
+    {
+        self.index.frames().keys_of(frame)
     }
 
     /// The keys of the entries that name a frame, rising.

@@ -81,11 +81,13 @@ fn has_runs<T: Table>(table: &mut T) -> Result<bool, AllocError> {
     for page in 1024..1089 {
         table.set(page, AWAY)?;
     }
-    Ok(reads(table, 16, &[Pte::Zero, Pte::Empty, AWAY])
-        && reads(table, 17, &[Pte::Empty])
-        && reads(table, 511, &[AWAY])
-        && reads(table, 1024, &[AWAY; RUN])
-        && reads(table, 1088, &[AWAY]))
+    Ok(
+        reads(table, 16, &[Pte::Zero, Pte::Empty, AWAY])
+            && reads(table, 17, &[Pte::Empty])
+            && reads(table, 511, &[AWAY])
+            && reads(table, 1024, &[AWAY; RUN])
+            && reads(table, 1088, &[AWAY]),
+    )
 }
 
 #[test]

@@ -20,7 +20,7 @@ returns-in-None c =
     let bytes = c.loop-listed.unit.rest.now in
     let l1 = ledger_of c.turn.new.book in
     let mid = c.turn.new.unit.rest.now in
-    let goes : can_go m (spared_of s l) l f ≡ true = sym c.in_ok-can_go.ensures ∙ c.if-branch.true in
+    let goes : can_go m (spared_of s l) l f ≡ true = sym c.can_go.ensures ∙ c.if-can_go.true in
     c.loop-listed.invariant.later false l1 mid
     (left-not m s l0 l l1 l1 i f bytes mid mid c.loop-listed.invariant.same at goes
     (gets-is _ _ _ _ _ c.in_ok-turn.field-0 None c.in-None.is c.in_ok-turn.ensures))
@@ -37,7 +37,7 @@ returns-in-Some-false c =
     let bytes = c.loop-listed.unit.rest.now in
     let l1 = ledger_of c.turn.new.book in
     let mid = c.turn.new.unit.rest.now in
-    let goes : can_go m (spared_of s l) l f ≡ true = sym c.in_ok-can_go.ensures ∙ c.if-branch.true in
+    let goes : can_go m (spared_of s l) l f ≡ true = sym c.can_go.ensures ∙ c.if-can_go.true in
     c.loop-listed.invariant.later true l1 mid
     (left-freed m s l0 l l1 i f bytes mid c.loop-listed.invariant.same at goes
     (gets-is _ _ _ _ _ c.in_ok-turn.field-0 (Some false) (c.in-Some-false.is ∙ ap Some c.in-Some-false.field-0-test) c.in_ok-turn.ensures))
@@ -54,7 +54,7 @@ loop-listed-preserved-in-Some-true c =
     let bytes = c.loop-listed.unit.rest.now in
     let l1 = ledger_of c.turn.new.book in
     let mid = c.turn.new.unit.rest.now in
-    let goes : can_go m (spared_of s l) l f ≡ true = sym c.in_ok-can_go.ensures ∙ c.if-branch.true in
+    let goes : can_go m (spared_of s l) l f ≡ true = sym c.can_go.ensures ∙ c.if-can_go.true in
     let turned = gets-is _ _ _ _ _ c.in_ok-turn.field-0 (Some true) (c.in-Some-true.is ∙ ap Some c.in-Some-true.field-0-test) c.in_ok-turn.ensures in
     let same = turn-stays m s l l1 f bytes mid goes turned in
     record {
@@ -77,7 +77,7 @@ loop-listed-smaller-in-Some-true c =
     let bytes = c.loop-listed.unit.rest.now in
     let l1 = ledger_of c.turn.new.book in
     let mid = c.turn.new.unit.rest.now in
-    let goes : can_go m (spared_of s l) l f ≡ true = sym c.in_ok-can_go.ensures ∙ c.if-branch.true in
+    let goes : can_go m (spared_of s l) l f ≡ true = sym c.can_go.ensures ∙ c.if-can_go.true in
     let turned = gets-is _ _ _ _ _ c.in_ok-turn.field-0 (Some true) (c.in-Some-true.is ∙ ap Some c.in-Some-true.field-0-test) c.in_ok-turn.ensures in
     get-less (frames_by_turn l) (frames_by_turn l1) i f at (turn-stays m s l l1 f bytes mid goes turned).order
 
@@ -91,7 +91,7 @@ loop-listed-preserved c =
     let f = c.in-Some.frame in
     let at : slice_get (frames_by_turn l) i ≡ Some f = sym c.in_ok-frame.ensures.value ∙ c.in-Some.is in
     let bytes = c.loop-listed.unit.rest.now in
-    let stays : can_go m (spared_of s l) l f ≡ false = sym c.in_ok-can_go.ensures ∙ c.if-branch.false in
+    let stays : can_go m (spared_of s l) l f ≡ false = sym c.can_go.ensures ∙ c.if-can_go.false in
     record {
       fits = search rules;
       same = c.loop-listed.invariant.same;

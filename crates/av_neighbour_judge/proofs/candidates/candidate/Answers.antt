@@ -4,17 +4,17 @@ use Rattle.av_pages.specs.Entries.{entry_of}
 use Rattle.av_book.specs.Book.{ledger_of}
 use Rattle.av_book.proofs.SparedLaws.{locked-is}
 use Rattle.av_neighbour_judge.proofs.CandidateLaws.{joins, stays, stays-locked}
-use Rattle.av_neighbour_judge.proofs.candidates.candidate.Goals.{else-may_join-via-then-may_join+in_ok-is_locked-in-Some-InFrame+else-not-branch}
+use Rattle.av_neighbour_judge.proofs.candidates.candidate.Goals.{else-may_join-via-then-may_join+else-not-is_locked}
 use Rattle.av_neighbour_judge.proofs.candidates.candidate.Goals.{else-may_join-via-else-may_join}
 use Rattle.av_neighbour_judge.proofs.candidates.candidate.Goals as goal
 
-pub returns-then-not-branch-clause-is : goal.returns-then-not-branch-clause-is
-returns-then-not-branch-clause-is c = λ w h.
+pub returns-then-not-is_locked-clause-is : goal.returns-then-not-is_locked-clause-is
+returns-then-not-is_locked-clause-is c = λ w h.
     let l = ledger_of c.args.book.now in
     let f = c.in-Some-InFrame.frame in
     let named = ap (λ x. Some (entry_of x)) (sym c.in-Some-InFrame.field-0-is) ∙ c.in-Some-InFrame.ensures in
     joins w l c.args.key f c.in-Some-InFrame.field-0-1 (entry l c.args.key) named c.may_join.result (c.may_join.ensures.may w h) c.if-may_join.true
-    (sym (c.in_ok-is_locked-in-Some-InFrame.ensures ∙ ap (λ (test : ℕ → Bool). test f) (locked-is c.args.memories.now w h l)) ∙ c.if-not-branch.true)
+    (sym (c.is_locked.ensures ∙ ap (λ (test : ℕ → Bool). test f) (locked-is c.args.memories.now w h l)) ∙ c.if-not-is_locked.true)
 
 pub returns-else-may_join-clause-is : goal.returns-else-may_join-clause-is
 returns-else-may_join-clause-is c = λ w h.
@@ -24,10 +24,10 @@ returns-else-may_join-clause-is c = λ w h.
     let seen = c.in-Some-InFrame.field-0-1 in
     let named = ap (λ x. Some (entry_of x)) (sym c.in-Some-InFrame.field-0-is) ∙ c.in-Some-InFrame.ensures in
     elim c.else-may_join.branch [
-      | else-may_join-via-then-may_join+in_ok-is_locked-in-Some-InFrame+else-not-branch b ↦
+      | else-may_join-via-then-may_join+else-not-is_locked b ↦
           stays-locked w l k f seen (entry l k) named c.may_join.result (c.may_join.ensures.may w h)
-          (sym (b.in_ok-is_locked-in-Some-InFrame.ensures ∙ ap (λ (test : ℕ → Bool). test f) (locked-is c.args.memories.now w h l))
-          ∙ b.if-not-branch.false)
+          (sym (b.is_locked.ensures ∙ ap (λ (test : ℕ → Bool). test f) (locked-is c.args.memories.now w h l))
+          ∙ b.if-not-is_locked.false)
       | else-may_join-via-else-may_join b ↦
           stays w l k f seen (entry l k) named c.may_join.result (c.may_join.ensures.may w h) b.if-may_join.false
     ]

@@ -1,5 +1,10 @@
-use Rattle.std.proofs.Common.{sym}
-use Rattle.av_plain.specs.Ledger.{walk}
+use borrow.Author.Tests.{tests}
+use Rattle.std.proofs.Common.{rules, sym, ◌∙◌}
+use Rattle.std.proofs.lemmas.Iterator.Consumers.{YieldsList-from_rest}
+use Rattle.std.proofs.lemmas.Iterator.Search.{any_from_yields_List}
+use Rattle.av_plain.specs.Ledger.{names_frame, walk}
+use Rattle.av_pages.proofs.EntryLaws.{passing-keys}
+use Rattle.av_world.specs.Locks.{locks_page}
 use Rattle.av_book.specs.Book.{ledger_of}
 use Rattle.av_book.proofs.SparedLaws.{none-locked}
 use Rattle.av_book.proofs.book.Book.is_locked.Goals as goal
@@ -7,3 +12,9 @@ use Rattle.av_book.proofs.book.Book.is_locked.Goals as goal
 pub returns-then-is_empty : goal.returns-then-is_empty
 returns-then-is_empty c = sym (none-locked c.args.memories.now c.locking.result.now (c.is_empty.ensures.0 c.if-is_empty.true)
     c.locking.ensures.kept (walk (ledger_of c.args.self.now) c.args.frame))
+
+pub returns : goal.returns
+returns c = any_from_yields_List (locks_page c.args.memories.now) _ _ _ c.any.ensures.ran
+    (YieldsList-from_rest (walk (ledger_of c.args.self.now) c.args.frame)
+    (c.walk.ensures ∙ passing-keys (names_frame c.args.frame) c.args.self.now.pages.entries))
+    (λ x b q k. search (rules, tests))
