@@ -12,11 +12,11 @@
 //! of which all parts went stays until the next entry or `clear`. Not proved: where parts lie, in
 //! the table itself or in an array; no clause tells.
 //!
-//! `read_run` reads the entries of pages in a row in one call. Where the first page has an entry, it
-//! reads on over holes, up to the last entry among 64 pages, and no further than the end of the last
-//! table that the page is in; where it has none, it reads that page alone. Proved: it reads 1 to 64,
-//! each that of its page, and where the first has an entry, none is left behind them among the 64,
-//! up to the end of the table. Not proved: that it reads no more than that.
+//! `read_run` reads the entries of pages in a row in one call. Where the first page has an entry,
+//! it reads on over holes, up to the last entry among 64 pages, and no further than the end of the
+//! last table that the page is in; where it has none, it reads that page alone. Proved: it reads 1
+//! to 64, each that of its page, and where the first has an entry, none is left behind them among
+//! the 64, up to the end of the table. Not proved: that it reads no more than that.
 //!
 //! `Tables` also keeps a mark for each frame of which no entry is seen, so that nobody has to walk
 //! to find that out (`may_be_seen`). Proved: where there is a mark, none is. Not proved: that a
