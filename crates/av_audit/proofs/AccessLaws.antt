@@ -10,7 +10,7 @@ use Rattle.av_plain.specs.Event.{Event, after_all, note_events}
 use Rattle.av_plain.specs.Fault.{Denied, Lost, Starved, Stop, Touches, is_allowed}
 use Rattle.av_plain.specs.Ledger.{Ledger, Setting}
 use Rattle.av_plain.specs.World.{World}
-use Rattle.av_access_judge.specs.Access.{AreTold, Ends}
+use Rattle.av_audit_access.specs.Access.{AreTold, Ends}
 use Rattle.av_audit.specs.Access.{end_below, turns_of}
 
 -- ---- where an access may stop

@@ -9,14 +9,14 @@ use Rattle.av_trace.specs.Reply.{IsAnswer}
 use Rattle.av_plain.specs.Access.{End, Reads, after_write, bytes_served, first_bytes, read_answer, write_answer}
 use Rattle.av_plain.specs.Ledger.{Ledger, Setting}
 use Rattle.av_plain.specs.World.{World, lives, pages}
-use Rattle.av_book.specs.Book.{ledger_of}
-use Rattle.av_book.specs.declared.book.Book.{Book}
-use Rattle.av_judge.specs.Notes.{lacks}
-use Rattle.av_judge.specs.Says.{SaysOnly}
-use Rattle.av_world.specs.Memories.{IsWorld}
-use Rattle.av_world.specs.declared.memories.Memories.{Memories}
-use Rattle.av_world.proofs.WorldLaws.{world-claimed}
-use Rattle.av_access_judge.specs.Access.{AreTold, Ends}
+use Rattle.av_audit_book.specs.Book.{ledger_of}
+use Rattle.av_audit_book.specs.declared.book.Book.{Book}
+use Rattle.av_audit_judge.specs.Notes.{lacks}
+use Rattle.av_audit_judge.specs.Says.{SaysOnly}
+use Rattle.av_audit_world.specs.Memories.{IsWorld}
+use Rattle.av_audit_world.specs.declared.memories.Memories.{Memories}
+use Rattle.av_audit_world.proofs.WorldLaws.{world-claimed}
+use Rattle.av_audit_access.specs.Access.{AreTold, Ends}
 use Rattle.av_audit.specs.Access.{IsFirstLine}
 use Rattle.av_audit.specs.Judge.{IsLeft}
 use Rattle.av_audit.proofs.AccessLaws.{served-at-most}

@@ -29,14 +29,14 @@ use Rattle.av_command_laws.specs.Claimed.{IsClaimed}
 use Rattle.av_command_laws.proofs.OneReads.{one-read}
 use Rattle.av_audit_laws.specs.Unit.{IsUnit}
 use Rattle.av_audit_laws.proofs.ToldReply.{accesses-told}
-use Rattle.av_book.specs.Book.{ledger_of}
-use Rattle.av_book.specs.declared.book.Book.{Book}
-use Rattle.av_judge.specs.Notes.{lacks}
-use Rattle.av_judge.specs.Says.{SaysOnly}
-use Rattle.av_judge.proofs.NoteLaws.{lacks-not, lacks-same}
-use Rattle.av_world.specs.Memories.{IsWorld}
-use Rattle.av_world.specs.declared.memories.Memories.{Memories}
-use Rattle.av_access_judge.specs.Access.{AreTold}
+use Rattle.av_audit_book.specs.Book.{ledger_of}
+use Rattle.av_audit_book.specs.declared.book.Book.{Book}
+use Rattle.av_audit_judge.specs.Notes.{lacks}
+use Rattle.av_audit_judge.specs.Says.{SaysOnly}
+use Rattle.av_audit_judge.proofs.NoteLaws.{lacks-not, lacks-same}
+use Rattle.av_audit_world.specs.Memories.{IsWorld}
+use Rattle.av_audit_world.specs.declared.memories.Memories.{Memories}
+use Rattle.av_audit_access.specs.Access.{AreTold}
 use Rattle.av_audit.specs.Access.{IsFirstLine, IsTold, Tells}
 use Rattle.av_audit.specs.Known.{reply_of}
 use Rattle.av_audit.specs.Judge.{IsLeft}

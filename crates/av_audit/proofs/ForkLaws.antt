@@ -9,9 +9,9 @@ use Rattle.av_plain.specs.Fork.{goes_over, inheritance}
 use Rattle.av_plain.specs.Ledger.{Ledger, Setting}
 use Rattle.av_plain.specs.Refusal.{refusal, tests}
 use Rattle.av_plain.specs.World.{Process, World, child_of, pages, set_process}
-use Rattle.av_judge.specs.Says.{SaysOnly}
-use Rattle.av_world.specs.Memories.{IsWorld}
-use Rattle.av_world.specs.declared.memories.Memories.{Memories}
+use Rattle.av_audit_judge.specs.Says.{SaysOnly}
+use Rattle.av_audit_world.specs.Memories.{IsWorld}
+use Rattle.av_audit_world.specs.declared.memories.Memories.{Memories}
 use Rattle.av_audit.specs.Judge.{IsLeftAt}
 use Rattle.av_audit.proofs.KnownUnits.{known-said}
 

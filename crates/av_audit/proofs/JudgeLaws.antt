@@ -22,13 +22,13 @@ use Rattle.av_plain.specs.Sound.{AllSound}
 use Rattle.av_plain.proofs.Refusal.{refused-next}
 use Rattle.av_plain.proofs.Sound.{soundness-stays}
 use Rattle.av_audit_laws.specs.Unit.{Leaves}
-use Rattle.av_book.specs.Book.{ledger_of}
-use Rattle.av_book.specs.Machine.{setting_of}
-use Rattle.av_book.specs.declared.book.Book.{Book}
-use Rattle.av_judge.specs.Says.{SaysOnly}
-use Rattle.av_judge.specs.Verdict.{IsVerdict}
-use Rattle.av_world.specs.Memories.{IsWorld}
-use Rattle.av_world.specs.declared.memories.Memories.{Memories}
+use Rattle.av_audit_book.specs.Book.{ledger_of}
+use Rattle.av_audit_book.specs.Machine.{setting_of}
+use Rattle.av_audit_book.specs.declared.book.Book.{Book}
+use Rattle.av_audit_judge.specs.Says.{SaysOnly}
+use Rattle.av_audit_judge.specs.Verdict.{IsVerdict}
+use Rattle.av_audit_world.specs.Memories.{IsWorld}
+use Rattle.av_audit_world.specs.declared.memories.Memories.{Memories}
 use Rattle.av_audit.specs.Judge.{IsLeft, IsLeftAt, IsRight, LeavesLedger, verdict_of}
 use Rattle.av_audit.specs.declared.auditor.Verdict.{Verdict}
 use Rattle.av_audit.specs.declared.auditor.Auditor.{Auditor}

@@ -30,10 +30,10 @@ use Rattle.av_plain.specs.Refusal.{Refuses, Tests, ends_too_high, is_bad_range, 
 use Rattle.av_plain.specs.Step.{Follows, next, next_world}
 use Rattle.av_plain.specs.World.{Process, World, is_mapped, lives, pages, pages_to_hole, pages_to_locked, set_process, with_prot_on}
 use Rattle.av_plain.specs.Zap.{keys_in, zaps_of}
-use Rattle.av_judge.specs.Says.{SaysOnly}
-use Rattle.av_judge.proofs.KnownLaws.{AnswersOnly, known-verdict}
-use Rattle.av_world.specs.Memories.{IsWorld}
-use Rattle.av_world.specs.declared.memories.Memories.{Memories}
+use Rattle.av_audit_judge.specs.Says.{SaysOnly}
+use Rattle.av_audit_judge.proofs.KnownLaws.{AnswersOnly, known-verdict}
+use Rattle.av_audit_world.specs.Memories.{IsWorld}
+use Rattle.av_audit_world.specs.declared.memories.Memories.{Memories}
 use Rattle.av_audit.specs.Known.{SaysEvents, map_answer, reply_of}
 use Rattle.av_audit.specs.Judge.{IsLeftAt, LeavesLedger}
 use Rattle.av_audit.proofs.JudgeLaws.{loads-told}

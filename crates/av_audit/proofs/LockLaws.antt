@@ -19,13 +19,13 @@ use Rattle.av_plain.specs.Refusal.{ends_too_high, locks_too_many, refusal, tests
 use Rattle.av_plain.specs.Step.{next}
 use Rattle.av_plain.specs.World.{Page, Process, World, allows, lives, pages, pages_to_hole}
 use Rattle.av_audit_laws.proofs.ToldReply.{accesses-told}
-use Rattle.av_book.specs.Book.{ledger_of}
-use Rattle.av_book.specs.declared.book.Book.{Book}
-use Rattle.av_judge.specs.Says.{SaysOnly}
-use Rattle.av_judge.proofs.KnownLaws.{AnswersOnly}
-use Rattle.av_world.specs.Memories.{IsWorld}
-use Rattle.av_world.specs.declared.memories.Memories.{Memories}
-use Rattle.av_access_judge.specs.Access.{AreTold}
+use Rattle.av_audit_book.specs.Book.{ledger_of}
+use Rattle.av_audit_book.specs.declared.book.Book.{Book}
+use Rattle.av_audit_judge.specs.Says.{SaysOnly}
+use Rattle.av_audit_judge.proofs.KnownLaws.{AnswersOnly}
+use Rattle.av_audit_world.specs.Memories.{IsWorld}
+use Rattle.av_audit_world.specs.declared.memories.Memories.{Memories}
+use Rattle.av_audit_access.specs.Access.{AreTold}
 use Rattle.av_audit.specs.Access.{IsFirstLine, Tells}
 use Rattle.av_audit.specs.Judge.{IsLeft}
 use Rattle.av_audit.specs.Known.{reply_of}

@@ -21,11 +21,11 @@ use Rattle.av_plain.specs.Refusal.{Tests, are_bad_lengths, is_below_low, is_no_t
 use Rattle.av_plain.specs.Refusal.{refusal, tests, top}
 use Rattle.av_plain.specs.Step.{next}
 use Rattle.av_plain.specs.World.{Process, World, is_mapped, lives, meets, pages, set_process, wiped}
-use Rattle.av_judge.proofs.KnownLaws.{AnswersOnly}
-use Rattle.av_world.specs.Memories.{IsWorld}
-use Rattle.av_world.specs.Remap.{IsBelowTop}
-use Rattle.av_world.specs.declared.memories.Memories.{Memories}
-use Rattle.av_world.proofs.WorldLaws.{world-top}
+use Rattle.av_audit_judge.proofs.KnownLaws.{AnswersOnly}
+use Rattle.av_audit_world.specs.Memories.{IsWorld}
+use Rattle.av_audit_world.specs.Remap.{IsBelowTop}
+use Rattle.av_audit_world.specs.declared.memories.Memories.{Memories}
+use Rattle.av_audit_world.proofs.WorldLaws.{world-top}
 use Rattle.av_audit.specs.Known.{SaysEvents, map_answer, reply_of}
 use Rattle.av_audit.specs.Judge.{IsLeftAt}
 use Rattle.av_audit.proofs.KnownUnits.{differ, first-lives, gap-one, is-map, known-said, map-is, no-first, page-again}

@@ -5,9 +5,9 @@ use Rattle.av_base.specs.Page.{page_of}
 use Rattle.av_trace.specs.declared.reply.Errno.TheVariants.{Efault, Esrch}
 use Rattle.av_plain.specs.Refusal.{no_page, no_process, refusal}
 use Rattle.av_plain.specs.World.{Process, World, meets, pages, process}
-use Rattle.av_world.specs.Memories.{IsProcess}
-use Rattle.av_world.specs.Space.{IsSpace}
-use Rattle.av_world.specs.declared.space.Space.{Space}
+use Rattle.av_audit_world.specs.Memories.{IsProcess}
+use Rattle.av_audit_world.specs.Space.{IsSpace}
+use Rattle.av_audit_world.specs.declared.space.Space.{Space}
 
 -- the process doesn't live
 pub dead : (w : World) (p : ℕ) → IsProcess None (process w p) → is_some (process w p) ≡ false

@@ -16,15 +16,15 @@ use Rattle.av_plain.specs.Refusal.{refusal}
 use Rattle.av_plain.specs.Swapoff.{Close, Closed, NoRoom, TurnsOff, Unread, close_answer, turn_off_events}
 use Rattle.av_plain.specs.World.{World}
 use Rattle.av_plain.proofs.Access.{after_all-append, note_events-all, notes_of-append, notes_of-note_events}
-use Rattle.av_book.specs.Book.{ledger_of}
-use Rattle.av_book.specs.declared.book.Book.{Book}
-use Rattle.av_judge.specs.Notes.{lacks}
-use Rattle.av_judge.specs.Says.{SaysOnly}
-use Rattle.av_world.specs.Memories.{IsWorld}
-use Rattle.av_world.specs.declared.memories.Memories.{Memories}
-use Rattle.av_access_judge.specs.Access.{AreTold}
-use Rattle.av_swapoff_judge.specs.Close.{Closes, IsWhole}
-use Rattle.av_swapoff_judge.proofs.CloseLaws.{closes-one}
+use Rattle.av_audit_book.specs.Book.{ledger_of}
+use Rattle.av_audit_book.specs.declared.book.Book.{Book}
+use Rattle.av_audit_judge.specs.Notes.{lacks}
+use Rattle.av_audit_judge.specs.Says.{SaysOnly}
+use Rattle.av_audit_world.specs.Memories.{IsWorld}
+use Rattle.av_audit_world.specs.declared.memories.Memories.{Memories}
+use Rattle.av_audit_access.specs.Access.{AreTold}
+use Rattle.av_audit_swapoff.specs.Close.{Closes, IsWhole}
+use Rattle.av_audit_swapoff.proofs.CloseLaws.{closes-one}
 use Rattle.av_audit.specs.Access.{IsFirstLine}
 use Rattle.av_audit.specs.Judge.{IsLeft}
 use Rattle.av_audit.proofs.EndLaws.{HasNotes, IsEnding, IsTelling, follows-by, legal-by, no-unit, tells-by, tells-left, tells-no-end, tells-no-line}

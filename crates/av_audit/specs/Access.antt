@@ -8,7 +8,7 @@ use Rattle.av_plain.specs.Access.{End, Stopped, Whole}
 use Rattle.av_plain.specs.Event.{Event, after_all}
 use Rattle.av_plain.specs.Fault.{Denied}
 use Rattle.av_plain.specs.Ledger.{Ledger}
-use Rattle.av_judge.specs.Notes.{IsCut}
+use Rattle.av_audit_judge.specs.Notes.{IsCut}
 use Rattle.av_audit.specs.Known.{reply_of}
 
 -- the first line of a unit, with its newline, and what is behind it

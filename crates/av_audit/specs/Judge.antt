@@ -5,12 +5,12 @@ use Rattle.av_plain.specs.Ledger.{Ledger, Setting}
 use Rattle.av_plain.specs.Sound.{AllSound}
 use Rattle.av_plain.specs.World.{World}
 use Rattle.av_audit_laws.specs.Unit.{IsUnit, Leaves}
-use Rattle.av_book.specs.Book.{ledger_of}
-use Rattle.av_book.specs.Machine.{setting_of}
-use Rattle.av_book.specs.declared.book.Book.{Book}
-use Rattle.av_book.specs.declared.machine.Machine.{Machine}
-use Rattle.av_world.specs.Memories.{IsWorld}
-use Rattle.av_world.specs.declared.memories.Memories.{Memories}
+use Rattle.av_audit_book.specs.Book.{ledger_of}
+use Rattle.av_audit_book.specs.Machine.{setting_of}
+use Rattle.av_audit_book.specs.declared.book.Book.{Book}
+use Rattle.av_audit_book.specs.declared.machine.Machine.{Machine}
+use Rattle.av_audit_world.specs.Memories.{IsWorld}
+use Rattle.av_audit_world.specs.declared.memories.Memories.{Memories}
 use Rattle.av_audit.specs.declared.auditor.Auditor.{Auditor}
 use Rattle.av_audit.specs.declared.auditor.Phase.{Phase}
 use Rattle.av_audit.specs.declared.auditor.Verdict.{Verdict}

@@ -9,7 +9,7 @@ use Rattle.av_trace.specs.declared.reply.Reply.{Reply}
 use Rattle.av_trace.specs.Note.{IsNote}
 use Rattle.av_plain.specs.Event.{Event, after_all, notes_of}
 use Rattle.av_plain.specs.Ledger.{Ledger}
-use Rattle.av_judge.specs.Says.{SaysReply}
+use Rattle.av_audit_judge.specs.Says.{SaysReply}
 
 -- the reply with this answer that tells these events
 abbrev pub reply_of : Answer → List Event → Reply

@@ -9,24 +9,24 @@ ghost use Rattle.av_trace.specs.Reply.{IsAnswer};
 ghost use Rattle.av_trace.specs.declared.command.Command.TheVariants as commands;
 ghost use Rattle.av_plain.specs.Access as plain;
 ghost use Rattle.av_plain.specs.World.{World};
-ghost use Rattle.av_book.specs.Book.{ledger_of};
-ghost use Rattle.av_book.specs.Machine.{AreNamed, setting_of};
-ghost use Rattle.av_judge.specs.Notes.{lacks};
-ghost use Rattle.av_judge.specs.Says.{SaysOnly};
-ghost use Rattle.av_world.specs.Memories.{IsWorld};
-ghost use Rattle.av_access_judge.specs.Access.{Ends, end_of};
-ghost use Rattle.av_access_judge.specs.Come.{stop_of};
+ghost use Rattle.av_audit_book.specs.Book.{ledger_of};
+ghost use Rattle.av_audit_book.specs.Machine.{AreNamed, setting_of};
+ghost use Rattle.av_audit_judge.specs.Notes.{lacks};
+ghost use Rattle.av_audit_judge.specs.Says.{SaysOnly};
+ghost use Rattle.av_audit_world.specs.Memories.{IsWorld};
+ghost use Rattle.av_audit_access.specs.Access.{Ends, end_of};
+ghost use Rattle.av_audit_access.specs.Come.{stop_of};
 ghost use Rattle.av_audit.specs.Access.{IsFirstLine, end_below, turns_of};
 ghost use Rattle.av_audit.specs.Judge.{IsLeft};
 
 use crate::lengths::pages_met;
-use av_access_judge::{End, Stop, accesses};
+use av_audit_access::{End, Stop, accesses};
+use av_audit_book::{Book, Machine};
+use av_audit_judge::{ADDRESS_PAGES, cut, is_answer};
+use av_audit_world::Memories;
 use av_base::PAGE_SIZE;
-use av_book::{Book, Machine};
-use av_judge::{ADDRESS_PAGES, cut, is_answer};
 use av_text::Bytes;
 use av_trace::{Answer, Errno};
-use av_world::Memories;
 use std::alloc::{AllocError, Global};
 
 /// The first line of a unit, with its newline, and what is behind it.

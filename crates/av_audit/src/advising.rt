@@ -7,17 +7,17 @@ ghost use Rattle.av_plain.specs.Advice.{advice_answer as advice_answer_of, flag_
 ghost use Rattle.av_plain.specs.Ledger.{Ledger, Setting};
 ghost use Rattle.av_plain.specs.Refusal.{refusal, tests};
 ghost use Rattle.av_plain.specs.World.{Process, World, pages_to_hole, pages_to_locked};
-ghost use Rattle.av_book.specs.Book.{ledger_of};
-ghost use Rattle.av_world.specs.Memories.{IsWorld};
+ghost use Rattle.av_audit_book.specs.Book.{ledger_of};
+ghost use Rattle.av_audit_world.specs.Memories.{IsWorld};
 ghost use Rattle.av_audit.specs.Judge.{IsLeft, LeavesLedger};
 
 use crate::known::{hole_answer, says_zaps};
 use crate::lengths::{ends_too_high, is_bad_range, pages_met, pages_of};
+use av_audit_book::Book;
+use av_audit_judge::is_answer;
+use av_audit_world::{Edit, Memories};
 use av_base::{Flag, PAGE_SIZE};
-use av_book::Book;
-use av_judge::is_answer;
 use av_trace::{Advice, Answer, Errno};
-use av_world::{Edit, Memories};
 use std::alloc::{AllocError, Global};
 
 /// Why a madvise is refused before it looks at its pages, if it is.

@@ -3,14 +3,14 @@
 ghost use Rattle.std.specs.Prelude.{◌≡◌, [], IfOk, IsErr, OnErr};
 ghost use Rattle.av_plain.specs.Ledger.{Ledger, first_ledger};
 ghost use Rattle.av_plain.specs.World.{World};
-ghost use Rattle.av_book.specs.Machine.{setting_of};
+ghost use Rattle.av_audit_book.specs.Machine.{setting_of};
 ghost use Rattle.av_audit.specs.Judge.{IsAt, IsRight, machine_of, phase_of, verdict_of};
 ghost use Rattle.av_audit.specs.Swap.{FitsWords};
 
 use crate::units::is_legal;
-use av_book::{Book, Machine};
+use av_audit_book::{Book, Machine};
+use av_audit_world::Memories;
 use av_trace::Command;
-use av_world::Memories;
 use std::alloc::{AllocError, Global};
 
 /// What is said of a unit: it is legal, or it isn't.

@@ -6,17 +6,17 @@ ghost use Rattle.av_plain.specs.Fork.{inheritance as inheritance_of};
 ghost use Rattle.av_plain.specs.Ledger.{Ledger, Setting};
 ghost use Rattle.av_plain.specs.Refusal.{refusal, tests};
 ghost use Rattle.av_plain.specs.World.{World, pages};
-ghost use Rattle.av_book.specs.Book.{ledger_of};
-ghost use Rattle.av_world.specs.Memories.{IsWorld};
+ghost use Rattle.av_audit_book.specs.Book.{ledger_of};
+ghost use Rattle.av_audit_world.specs.Memories.{IsWorld};
 ghost use Rattle.av_audit.specs.Judge.{IsLeft};
 ghost use Rattle.av_plain.specs.Event.{after_fork};
 
+use av_audit_book::Book;
+use av_audit_events::{fork, keys_of};
+use av_audit_judge::is_answer;
+use av_audit_world::Memories;
 use av_base::MOST_PROCESSES;
-use av_book::Book;
-use av_events::{fork, keys_of};
-use av_judge::is_answer;
 use av_trace::{Answer, Errno};
-use av_world::Memories;
 use std::alloc::{AllocError, Global};
 
 /// Why a fork is refused, if it is.

@@ -4,13 +4,13 @@ ghost use Rattle.std.specs.Prelude.{◌≡◌, ◌+◌, ◌<◌, ◌^◌, ℕ, I
 ghost use Rattle.av_plain.specs.Map.{hole_answer as hole_answer_of};
 ghost use Rattle.av_plain.specs.World.{Process, pages_to_hole};
 ghost use Rattle.av_plain.specs.Zap.{keys_in, zaps_of};
-ghost use Rattle.av_book.specs.Book.{ledger_of};
+ghost use Rattle.av_audit_book.specs.Book.{ledger_of};
 ghost use Rattle.av_audit.specs.Known.{SaysEvents, map_answer as map_answer_of};
 
+use av_audit_book::Book;
+use av_audit_events::zap_range;
+use av_audit_judge::{all_fit, is_reply};
 use av_base::PAGE_SIZE;
-use av_book::Book;
-use av_events::zap_range;
-use av_judge::{all_fit, is_reply};
 use av_trace::{Answer, Errno, Reply};
 use std::alloc::{AllocError, Global};
 

@@ -5,15 +5,15 @@ ghost use Rattle.av_trace.specs.declared.command.Command.TheVariants as commands
 ghost use Rattle.av_plain.specs.Ledger.{Ledger, Setting};
 ghost use Rattle.av_plain.specs.Refusal.{refusal, tests, top};
 ghost use Rattle.av_plain.specs.World.{World};
-ghost use Rattle.av_book.specs.Book.{ledger_of};
-ghost use Rattle.av_world.specs.Memories.{IsWorld};
+ghost use Rattle.av_audit_book.specs.Book.{ledger_of};
+ghost use Rattle.av_audit_world.specs.Memories.{IsWorld};
 ghost use Rattle.av_audit.specs.Judge.{IsLeft};
 
+use av_audit_book::Book;
+use av_audit_judge::{is_answer, judges_exit, judges_munmap};
+use av_audit_world::{Edit, Memories};
 use av_base::{PAGE_SIZE, TOP_PAGE};
-use av_book::Book;
-use av_judge::{is_answer, judges_exit, judges_munmap};
 use av_trace::{Answer, Errno};
-use av_world::{Edit, Memories};
 use std::alloc::{AllocError, Global};
 
 /// Why an exit is refused, if it is.

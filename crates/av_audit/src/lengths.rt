@@ -4,8 +4,8 @@ ghost use Rattle.std.specs.Prelude.{◌≡◌, ◌+◌, ◌<◌, ◌≤◌, ◌^
 ghost use Rattle.av_base.specs.Page as bytes;
 ghost use Rattle.av_plain.specs.Refusal as refusals;
 
+use av_audit_judge::ADDRESS_PAGES;
 use av_base::PAGE_SIZE;
-use av_judge::ADDRESS_PAGES;
 
 /// A length rounded up to whole pages.
 pub fn pages_of(length: u64) -> u64

@@ -9,20 +9,20 @@ ghost use Rattle.av_plain.specs.Ledger.{Ledger, Setting};
 ghost use Rattle.av_plain.specs.Lock.{access_of, accesses_of as accesses_by};
 ghost use Rattle.av_plain.specs.Refusal.{refusal, tests};
 ghost use Rattle.av_plain.specs.World.{World, pages};
-ghost use Rattle.av_book.specs.Book.{ledger_of};
-ghost use Rattle.av_book.specs.Machine.{AreNamed, setting_of};
-ghost use Rattle.av_world.specs.Memories.{IsWorld};
+ghost use Rattle.av_audit_book.specs.Book.{ledger_of};
+ghost use Rattle.av_audit_book.specs.Machine.{AreNamed, setting_of};
+ghost use Rattle.av_audit_world.specs.Memories.{IsWorld};
 ghost use Rattle.av_audit.specs.Judge.{IsLeft};
 ghost use Rattle.av_audit.specs.Access.{Tells};
 
 use crate::accessing::{bytes_before, first_line, says, write_answer};
 use crate::lengths::{ends_too_high, pages_met};
-use av_access_judge::accesses;
+use av_audit_access::accesses;
+use av_audit_book::{Book, Machine};
+use av_audit_judge::is_answer;
+use av_audit_world::{Edit, Memories};
 use av_base::{Flag, PAGE_SIZE};
-use av_book::{Book, Machine};
-use av_judge::is_answer;
 use av_trace::{Answer, Errno};
-use av_world::{Edit, Memories};
 use std::alloc::{AllocError, Global};
 
 /// One command locks at most so many pages.

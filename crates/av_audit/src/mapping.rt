@@ -14,18 +14,18 @@ ghost use Rattle.av_plain.specs.Place.{Goes, is_room as is_room_of};
 ghost use Rattle.av_plain.specs.Refusal.{fixed_tests, place_tests, refusal, tests};
 ghost use Rattle.av_plain.specs.Step.{next};
 ghost use Rattle.av_plain.specs.World.{World, lives, pages};
-ghost use Rattle.av_book.specs.Book.{ledger_of};
-ghost use Rattle.av_world.specs.Memories.{IsWorld};
+ghost use Rattle.av_audit_book.specs.Book.{ledger_of};
+ghost use Rattle.av_audit_world.specs.Memories.{IsWorld};
 ghost use Rattle.av_audit.specs.Judge.{IsLeft, LeavesLedger};
 ghost use Rattle.av_audit.specs.Known.{SaysEvents, map_answer as map_answer_of};
 
 use crate::known::{hole_answer, map_answer, says_zaps};
 use crate::lengths::{pages_of, wraps};
+use av_audit_book::Book;
+use av_audit_judge::is_answer;
+use av_audit_world::{Edit, Memories};
 use av_base::{LOW_PAGE, PAGE_SIZE, Prot, TOP_PAGE};
-use av_book::Book;
-use av_judge::is_answer;
 use av_trace::{Answer, Errno, Place};
-use av_world::{Edit, Memories};
 use std::alloc::{AllocError, Global};
 
 /// The page of an address from which on n pages have to go, or why they can't.

@@ -13,20 +13,20 @@ ghost use Rattle.av_plain.specs.Refusal as refusals;
 ghost use Rattle.av_plain.specs.Refusal.{refusal, tests};
 ghost use Rattle.av_plain.specs.Step.{next};
 ghost use Rattle.av_plain.specs.World.{World, is_mapped, lives, pages};
-ghost use Rattle.av_book.specs.Book.{ledger_of};
-ghost use Rattle.av_world.specs.Memories.{IsWorld};
-ghost use Rattle.av_world.specs.Remap.{IsBelowTop};
+ghost use Rattle.av_audit_book.specs.Book.{ledger_of};
+ghost use Rattle.av_audit_world.specs.Memories.{IsWorld};
+ghost use Rattle.av_audit_world.specs.Remap.{IsBelowTop};
 ghost use Rattle.av_audit.specs.Judge.{IsLeft};
 ghost use Rattle.av_audit.specs.Known.{SaysEvents, map_answer as map_answer_of};
 
 use crate::known::map_answer;
 use crate::lengths::pages_of;
+use av_audit_book::Book;
+use av_audit_events::{move_entries, zap_range};
+use av_audit_judge::{all_fit, is_answer, is_reply};
+use av_audit_world::Memories;
 use av_base::{LOW_PAGE, PAGE_SIZE, TOP_PAGE};
-use av_book::Book;
-use av_events::{move_entries, zap_range};
-use av_judge::{all_fit, is_answer, is_reply};
 use av_trace::{Answer, Errno, Mode, Notes, Reply};
-use av_world::Memories;
 use std::alloc::{AllocError, Global};
 
 /// Whether rounding a length up to whole pages passes 64 bits.

@@ -5,20 +5,20 @@ ghost use Rattle.av_trace.specs.declared.command.Command.TheVariants as commands
 ghost use Rattle.av_plain.specs.Ledger.{Setting};
 ghost use Rattle.av_plain.specs.Refusal.{no_page, no_process, refusal};
 ghost use Rattle.av_plain.specs.World.{World};
-ghost use Rattle.av_book.specs.Book.{ledger_of};
-ghost use Rattle.av_book.specs.Machine.{setting_of};
-ghost use Rattle.av_world.specs.Memories.{IsWorld};
+ghost use Rattle.av_audit_book.specs.Book.{ledger_of};
+ghost use Rattle.av_audit_book.specs.Machine.{setting_of};
+ghost use Rattle.av_audit_world.specs.Memories.{IsWorld};
 ghost use Rattle.av_audit.specs.Judge.{IsLeft};
 
-use av_area_judge::judges_areas;
-use av_base::{PAGE_SIZE, Slot};
-use av_book::{Book, Machine};
-use av_judge::is_answer;
-use av_report_judge::{
+use av_audit_area::judges_areas;
+use av_audit_book::{Book, Machine};
+use av_audit_judge::is_answer;
+use av_audit_report::{
     judges_entry, judges_maps, judges_rmap, judges_slot, judges_stat, refuses_slot,
 };
+use av_audit_world::Memories;
+use av_base::{PAGE_SIZE, Slot};
 use av_trace::{Answer, Errno};
-use av_world::Memories;
 use std::alloc::{AllocError, Global};
 
 /// Why a report of a page is refused, if it is.

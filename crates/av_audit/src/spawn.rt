@@ -5,13 +5,13 @@ ghost use Rattle.av_trace.specs.declared.command.Command.TheVariants as commands
 ghost use Rattle.av_plain.specs.Ledger.{Ledger, Setting};
 ghost use Rattle.av_plain.specs.Refusal.{refusal, tests};
 ghost use Rattle.av_plain.specs.World.{World};
-ghost use Rattle.av_world.specs.Memories.{IsWorld};
+ghost use Rattle.av_audit_world.specs.Memories.{IsWorld};
 ghost use Rattle.av_audit.specs.Judge.{LeavesLedger};
 
+use av_audit_judge::is_answer;
+use av_audit_world::{Memories, Space};
 use av_base::MOST_PROCESSES;
-use av_judge::is_answer;
 use av_trace::{Answer, Errno};
-use av_world::{Memories, Space};
 use std::alloc::{AllocError, Global};
 
 /// Why a spawn is refused, if it is.

@@ -9,21 +9,21 @@ ghost use Rattle.av_plain.specs.Refusal.{refusal, tests};
 ghost use Rattle.av_plain.specs.Swapoff.{close_answer as answer_of_close, turn_off_events};
 ghost use Rattle.av_plain.specs.Swapon.{header_answer as answer_by, turn_on_events};
 ghost use Rattle.av_plain.specs.World.{World};
-ghost use Rattle.av_book.specs.Book.{ledger_of};
-ghost use Rattle.av_book.specs.Machine.{AreNamed, head_of, layout_of, setting_of};
-ghost use Rattle.av_book.specs.declared.machine.Head.{Head as AnyHead};
-ghost use Rattle.av_world.specs.Memories.{IsWorld};
-ghost use Rattle.av_swapoff_judge.specs.Close.{close_of};
+ghost use Rattle.av_audit_book.specs.Book.{ledger_of};
+ghost use Rattle.av_audit_book.specs.Machine.{AreNamed, head_of, layout_of, setting_of};
+ghost use Rattle.av_audit_book.specs.declared.machine.Head.{Head as AnyHead};
+ghost use Rattle.av_audit_world.specs.Memories.{IsWorld};
+ghost use Rattle.av_audit_swapoff.specs.Close.{close_of};
 ghost use Rattle.av_audit.specs.Judge.{IsLeft};
-ghost use Rattle.av_machine.specs.Heads.{AreCounted};
+ghost use Rattle.av_audit_machine.specs.Heads.{AreCounted};
 
 use crate::accessing::first_line;
-use av_book::{Area, Book, Machine};
-use av_events::{turn_off, turn_on};
-use av_judge::{is_answer, judges_reclaim};
-use av_swapoff_judge::{Close, closes};
+use av_audit_book::{Area, Book, Machine};
+use av_audit_events::{turn_off, turn_on};
+use av_audit_judge::{is_answer, judges_reclaim};
+use av_audit_swapoff::{Close, closes};
+use av_audit_world::Memories;
 use av_trace::{Answer, Errno};
-use av_world::Memories;
 use std::alloc::{AllocError, Global};
 
 /// Whether a unit is legal for `reclaim`.

@@ -3,9 +3,9 @@
 ghost use Rattle.std.specs.Prelude.{◌≡◌, IfOk};
 ghost use Rattle.av_plain.specs.Sound.{AllSound};
 ghost use Rattle.av_plain.specs.World.{World};
-ghost use Rattle.av_book.specs.Book.{ledger_of};
-ghost use Rattle.av_book.specs.Machine.{setting_of};
-ghost use Rattle.av_world.specs.Memories.{IsWorld};
+ghost use Rattle.av_audit_book.specs.Book.{ledger_of};
+ghost use Rattle.av_audit_book.specs.Machine.{setting_of};
+ghost use Rattle.av_audit_world.specs.Memories.{IsWorld};
 ghost use Rattle.av_audit.specs.Judge.{IsLeft};
 ghost use Rattle.av_audit.specs.Kind.{OfAreas, OfFrames, OfMarks, OfPages, OfProcesses, Reports};
 ghost use Rattle.av_audit.specs.Kind.{kind_of};
@@ -23,11 +23,11 @@ use crate::reporting::{
 };
 use crate::spawn::audits_spawn;
 use crate::swapping::{audits_reclaim, audits_swapoff, audits_swapon};
-use av_book::{Book, Machine};
-use av_judge::{judges_age, judges_complete};
-use av_neighbour_judge::{judges_compact, judges_merge};
+use av_audit_book::{Book, Machine};
+use av_audit_judge::{judges_age, judges_complete};
+use av_audit_neighbour::{judges_compact, judges_merge};
+use av_audit_world::Memories;
 use av_trace::Command;
-use av_world::Memories;
 use std::alloc::{AllocError, Global};
 
 /// Whether a unit is legal. Memories and book are then as it leaves them.

@@ -10,8 +10,8 @@ use Rattle.av_trace.specs.declared.command.Command.{Command}
 use Rattle.av_plain.specs.Ledger.{Ledger, Setting, first_ledger}
 use Rattle.av_plain.specs.World.{World}
 use Rattle.av_audit_laws.specs.Unit.{AreUnits, Leaves}
-use Rattle.av_book.specs.Machine.{setting_of}
-use Rattle.av_book.specs.declared.machine.Machine.{Machine}
+use Rattle.av_audit_book.specs.Machine.{setting_of}
+use Rattle.av_audit_book.specs.declared.machine.Machine.{Machine}
 use Rattle.std.specs.Prelude.{option_to_list, unwrap_or}
 use Rattle.av_audit_input.specs.Script.{AreLinesOf}
 use Rattle.av_audit.specs.Judge.{IsAt, IsRight}

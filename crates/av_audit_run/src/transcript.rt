@@ -4,7 +4,7 @@ ghost use Rattle.std.specs.Prelude.{◌≡◌, ◌≤◌, List, [], IfOk, IfErr,
 ghost use Rattle.av_ports.specs.Ports.{undone};
 ghost use Rattle.av_trace.specs.declared.command.Command.{Command};
 ghost use Rattle.av_plain.specs.Ledger.{first_ledger};
-ghost use Rattle.av_book.specs.Machine.{setting_of};
+ghost use Rattle.av_audit_book.specs.Machine.{setting_of};
 ghost use Rattle.av_audit.specs.Judge.{IsAt, machine_of, phase_of};
 ghost use Rattle.av_audit.specs.Swap.{FitsWords};
 ghost use Rattle.av_audit.specs.declared.auditor.Phase.TheVariants.{Going};
@@ -15,8 +15,8 @@ ghost use Rattle.av_audit_input.specs.Unit.{most_bytes};
 ghost use Rattle.av_audit_run.specs.Transcript.{AuditStops, Audits, BreaksOff, Judges, finding_of};
 
 use av_audit::{Auditor, Verdict};
+use av_audit_book::Machine;
 use av_audit_input::{Extent, InputErr, Script, read_command, read_trace, read_unit};
-use av_book::Machine;
 use av_ports::{Pending, Ports};
 use av_text::Bytes;
 use std::alloc::Global;

@@ -9,7 +9,7 @@ use Rattle.av_audit_input.specs.declared.input_err.InputErr.{InputErr}
 use Rattle.av_audit_input.specs.declared.input_err.InputErr.TheVariants as input
 use Rattle.av_audit_run.specs.declared.transcript.Finding.{Finding}
 use Rattle.av_audit_run.specs.declared.transcript.Finding.TheVariants as findings
-use Rattle.av_machine.specs.Heads.{IsSettingOf, OnlyFails}
+use Rattle.av_audit_machine.specs.Heads.{IsSettingOf, OnlyFails}
 use Rattle.av_replay.specs.declared.status.Status.{Status}
 use Rattle.av_replay.specs.declared.status.Status.TheVariants as statuses
 use Rattle.av_replay.specs.Audit.{BreaksOff, DoesAudit, EndsAudit, Finds, legal_text, status_by}

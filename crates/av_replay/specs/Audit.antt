@@ -10,7 +10,7 @@ use Rattle.av_audit_input.specs.declared.input_err.InputErr.TheVariants as input
 use Rattle.av_audit_run.specs.Transcript.{AuditStops, Audits}
 use Rattle.av_audit_run.specs.declared.transcript.Finding.{Finding}
 use Rattle.av_audit_run.specs.declared.transcript.Finding.TheVariants as findings
-use Rattle.av_machine.specs.Heads.{IsSettingOf, OnlyFails}
+use Rattle.av_audit_machine.specs.Heads.{IsSettingOf, OnlyFails}
 use Rattle.av_replay.specs.Attach.{Attaches, Tries}
 use Rattle.av_replay.specs.Summary.{EndsText}
 use Rattle.av_replay.specs.declared.status.Status.{Status}

@@ -11,7 +11,7 @@ use Rattle.av_plain.specs.Device.{Device, setting_of}
 use Rattle.av_plain.specs.Ledger.{Setting}
 use Rattle.av_plain.specs.Transcript.{Exchange}
 use Rattle.av_kernel.specs.Machine.{Machine}
-use Rattle.av_machine.specs.Heads.{IsSettingOf}
+use Rattle.av_audit_machine.specs.Heads.{IsSettingOf}
 use Rattle.av_mem.proofs.ServesLaws.{same-setting}
 use Rattle.av_io.specs.Sink.{Gained}
 use Rattle.av_ports.specs.Line.{IsLine}

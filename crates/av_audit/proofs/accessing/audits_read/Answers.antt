@@ -3,11 +3,11 @@ use Rattle.av_text.specs.Hex.{AreBytes}
 use Rattle.av_trace.specs.declared.reply.Answer.TheVariants.{Refused}
 use Rattle.av_trace.specs.declared.reply.Errno.TheVariants.{Esrch}
 use Rattle.av_plain.specs.Access.{bytes_served, read_answer}
-use Rattle.av_book.specs.Book.{ledger_of}
-use Rattle.av_book.specs.Machine.{setting_of}
-use Rattle.av_judge.specs.Says.{SaysOnly}
-use Rattle.av_judge.proofs.Finds.{if-ok}
-use Rattle.av_access_judge.specs.Access.{Ends, end_of}
+use Rattle.av_audit_book.specs.Book.{ledger_of}
+use Rattle.av_audit_book.specs.Machine.{setting_of}
+use Rattle.av_audit_judge.specs.Says.{SaysOnly}
+use Rattle.av_audit_judge.proofs.Finds.{if-ok}
+use Rattle.av_audit_access.specs.Access.{Ends, end_of}
 use Rattle.av_audit.proofs.AccessUnits.{read-left, read-no-end, read-no-line, read-refused}
 use Rattle.av_audit.proofs.EndLaws.{Ending}
 use Rattle.av_audit.proofs.accessing.audits_read.Goals as goal

@@ -2,10 +2,10 @@ use Rattle.std.proofs.Common.{◌≡◌, ◌+◌, ◌-◌, ◌^◌, ◌≤◌, f
 use Rattle.av_base.specs.Page.{page_of, pages_met}
 use Rattle.av_plain.specs.Access.{Accesses}
 use Rattle.av_plain.specs.Fault.{is_allowed, permits}
-use Rattle.av_book.specs.Book.{ledger_of}
-use Rattle.av_book.specs.Machine.{setting_of}
-use Rattle.av_world.proofs.WorldLaws.{world-top}
-use Rattle.av_access_judge.specs.Access.{Ends, end_of}
+use Rattle.av_audit_book.specs.Book.{ledger_of}
+use Rattle.av_audit_book.specs.Machine.{setting_of}
+use Rattle.av_audit_world.proofs.WorldLaws.{world-top}
+use Rattle.av_audit_access.specs.Access.{Ends, end_of}
 use Rattle.av_audit.specs.Access.{end_below, turns_of}
 use Rattle.av_audit.proofs.AccessLaws.{ends-below}
 use Rattle.av_audit.proofs.accessing.ends_at.Goals as goal

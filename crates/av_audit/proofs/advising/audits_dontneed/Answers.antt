@@ -3,8 +3,8 @@ use Rattle.av_base.specs.Page.{page_of, pages_of}
 use Rattle.av_plain.specs.Advice.{advice_answer}
 use Rattle.av_plain.specs.World.{pages, pages_to_locked, set_process, wiped, with_change_on}
 use Rattle.av_plain.specs.Zap.{keys_in, zaps_of}
-use Rattle.av_book.specs.Book.{ledger_of}
-use Rattle.av_world.specs.Memories.{IsWorld}
+use Rattle.av_audit_book.specs.Book.{ledger_of}
+use Rattle.av_audit_world.specs.Memories.{IsWorld}
 use Rattle.av_audit.specs.Known.{SaysEvents}
 use Rattle.av_audit.proofs.KnownUnits.{differ, dontneed-said, madvise-lives}
 use Rattle.av_audit.proofs.advising.audits_dontneed.Goals as goal

@@ -2,8 +2,8 @@ use Rattle.std.proofs.Common.{Bool, true, false, ap, subst, ◌∙◌}
 use Rattle.av_base.specs.Page.{page_of}
 use Rattle.av_plain.specs.Map.{hole_answer}
 use Rattle.av_plain.specs.World.{pages, set_process, with_change_on, with_page_flag}
-use Rattle.av_judge.specs.Says.{SaysOnly}
-use Rattle.av_world.specs.Memories.{IsWorld}
+use Rattle.av_audit_judge.specs.Says.{SaysOnly}
+use Rattle.av_audit_world.specs.Memories.{IsWorld}
 use Rattle.av_audit.proofs.KnownUnits.{differ, madvise-lives, flag-said}
 use Rattle.av_audit.proofs.advising.audits_flag.Goals as goal
 

@@ -2,9 +2,9 @@ use Rattle.std.proofs.Common.{sym, ◌∙◌}
 use Rattle.std.proofs.lemmas.Result.{IfOk-weaker}
 use Rattle.av_trace.specs.declared.command.Command.TheVariants.{Madvise}
 use Rattle.av_trace.specs.declared.reply.Answer.TheVariants.{Refused}
-use Rattle.av_book.specs.Book.{ledger_of}
-use Rattle.av_judge.specs.Says.{SaysOnly}
-use Rattle.av_judge.proofs.Finds.{if-ok}
+use Rattle.av_audit_book.specs.Book.{ledger_of}
+use Rattle.av_audit_judge.specs.Says.{SaysOnly}
+use Rattle.av_audit_judge.proofs.Finds.{if-ok}
 use Rattle.av_audit.proofs.JudgeLaws.{refused-left}
 use Rattle.av_audit.proofs.advising.audits_madvise.Goals as goal
 

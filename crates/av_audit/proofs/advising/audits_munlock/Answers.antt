@@ -5,9 +5,9 @@ use Rattle.av_trace.specs.declared.command.Command.TheVariants.{Munlock}
 use Rattle.av_trace.specs.declared.reply.Answer.TheVariants.{Refused}
 use Rattle.av_plain.specs.Map.{hole_answer}
 use Rattle.av_plain.specs.World.{pages, pages_to_hole, set_process, with_change_on, with_page_flag}
-use Rattle.av_judge.specs.Says.{SaysOnly}
-use Rattle.av_judge.proofs.Finds.{if-ok}
-use Rattle.av_world.specs.Memories.{IsWorld}
+use Rattle.av_audit_judge.specs.Says.{SaysOnly}
+use Rattle.av_audit_judge.proofs.Finds.{if-ok}
+use Rattle.av_audit_world.specs.Memories.{IsWorld}
 use Rattle.av_audit.proofs.JudgeLaws.{refused-leaves}
 use Rattle.av_audit.proofs.KnownUnits.{differ, munlock-lives, munlock-said}
 use Rattle.av_audit.proofs.advising.audits_munlock.Goals as goal

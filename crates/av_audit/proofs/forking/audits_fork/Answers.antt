@@ -1,9 +1,9 @@
 use Rattle.std.proofs.Common.{Bool, true, false, subst, sym, ◌∙◌}
 use Rattle.av_trace.specs.declared.command.Command.TheVariants.{Fork}
 use Rattle.av_trace.specs.declared.reply.Answer.TheVariants.{Done, Refused}
-use Rattle.av_book.specs.Book.{ledger_of}
-use Rattle.av_judge.specs.Says.{SaysOnly}
-use Rattle.av_judge.proofs.Finds.{if-ok}
+use Rattle.av_audit_book.specs.Book.{ledger_of}
+use Rattle.av_audit_judge.specs.Says.{SaysOnly}
+use Rattle.av_audit_judge.proofs.Finds.{if-ok}
 use Rattle.av_audit.proofs.ForkLaws.{fork-said}
 use Rattle.av_audit.proofs.JudgeLaws.{refused-left}
 use Rattle.av_audit.proofs.KnownUnits.{differ}

@@ -2,7 +2,7 @@ use Rattle.std.proofs.Common.{ap, ◌∙◌}
 use Rattle.std.proofs.lemmas.Result.{on_ok_weaker}
 use Rattle.av_plain.specs.Event.{after_fork}
 use Rattle.av_plain.specs.World.{pages}
-use Rattle.av_book.specs.Book.{ledger_of}
+use Rattle.av_audit_book.specs.Book.{ledger_of}
 use Rattle.av_audit.proofs.forking.follow_fork.Goals as goal
 
 pub returns : goal.returns

@@ -1,6 +1,6 @@
 use Rattle.std.proofs.Common.{ap, refl, sym, ◌∙◌}
 use Rattle.av_plain.specs.World.{pages}
-use Rattle.av_events.proofs.FilterLaws.{slice-cons}
+use Rattle.av_audit_events.proofs.FilterLaws.{slice-cons}
 use Rattle.av_audit.proofs.ForkLaws.{heir_pages, heir-all, heir-goes, heir-none, heir-stays}
 use Rattle.av_audit.proofs.forking.inheritance.Goals as goal
 

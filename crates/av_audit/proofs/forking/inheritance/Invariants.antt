@@ -1,6 +1,6 @@
 use Rattle.std.proofs.Common.{◌≡◌, ◌++◌, length}
 use Rattle.av_plain.specs.World.{World, pages}
-use Rattle.av_world.specs.Memories.{IsWorld}
+use Rattle.av_audit_world.specs.Memories.{IsWorld}
 use Rattle.av_audit.proofs.ForkLaws.{heir_pages}
 use Rattle.av_audit.proofs.forking.inheritance.Given as goal
 

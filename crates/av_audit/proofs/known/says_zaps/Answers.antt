@@ -5,8 +5,8 @@ use Rattle.av_trace.specs.declared.reply.Reply.{Reply}
 use Rattle.av_trace.specs.Note.{IsNote}
 use Rattle.av_plain.specs.Event.{Event, notes_of}
 use Rattle.av_plain.specs.Zap.{keys_in, zaps_of}
-use Rattle.av_book.specs.Book.{ledger_of}
-use Rattle.av_judge.specs.Says.{SaysReply}
+use Rattle.av_audit_book.specs.Book.{ledger_of}
+use Rattle.av_audit_judge.specs.Says.{SaysReply}
 use Rattle.av_audit.proofs.known.says_zaps.Goals as goal
 
 pub returns : goal.returns

@@ -1,10 +1,10 @@
 use Rattle.std.proofs.Common.{Bool, refl, subst, sym, ◌∙◌}
 use Rattle.av_trace.specs.declared.command.Command.TheVariants.{Exit}
 use Rattle.av_trace.specs.declared.reply.Answer.TheVariants.{Refused}
-use Rattle.av_book.specs.Book.{ledger_of}
-use Rattle.av_judge.specs.Says.{SaysOnly}
-use Rattle.av_judge.specs.Verdict.{IsVerdict}
-use Rattle.av_judge.proofs.Finds.{if-ok}
+use Rattle.av_audit_book.specs.Book.{ledger_of}
+use Rattle.av_audit_judge.specs.Says.{SaysOnly}
+use Rattle.av_audit_judge.specs.Verdict.{IsVerdict}
+use Rattle.av_audit_judge.proofs.Finds.{if-ok}
 use Rattle.av_plain.specs.World.{end_process}
 use Rattle.av_audit.proofs.JudgeLaws.{done-left, not-left, refused-left}
 use Rattle.av_audit.proofs.leaving.audits_exit.Goals as goal

@@ -1,14 +1,14 @@
 use Rattle.std.proofs.Common.{◌≡◌, ℕ, Bool, arith, refl, subst, sym, ◌∙◌}
 use Rattle.av_trace.specs.declared.command.Command.TheVariants.{Munmap}
 use Rattle.av_trace.specs.declared.reply.Answer.TheVariants.{Refused}
-use Rattle.av_book.specs.Book.{ledger_of}
-use Rattle.av_judge.specs.Says.{SaysOnly}
-use Rattle.av_judge.specs.Verdict.{IsVerdict}
-use Rattle.av_judge.proofs.Finds.{if-ok}
+use Rattle.av_audit_book.specs.Book.{ledger_of}
+use Rattle.av_audit_judge.specs.Says.{SaysOnly}
+use Rattle.av_audit_judge.specs.Verdict.{IsVerdict}
+use Rattle.av_audit_judge.proofs.Finds.{if-ok}
 use Rattle.std.specs.Int.{div_ceil}
 use Rattle.av_base.specs.Page.{page_of, pages_of}
 use Rattle.av_plain.specs.World.{no_pages, pages, set_process, with_pages}
-use Rattle.av_world.specs.Memories.{IsWorld}
+use Rattle.av_audit_world.specs.Memories.{IsWorld}
 use Rattle.av_audit.proofs.JudgeLaws.{alive, done-left, not-left, refused-left}
 use Rattle.av_audit.proofs.leaving.audits_munmap.Goals as goal
 

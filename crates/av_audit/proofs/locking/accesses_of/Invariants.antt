@@ -2,7 +2,7 @@ use Rattle.std.proofs.Common.{◌≡◌, ℕ, ◌+◌, ◌-◌, ◌<◌, ◌++�
 use Rattle.std.specs.List.{AllByRecursion}
 use Rattle.av_plain.specs.Lock.{accesses_of}
 use Rattle.av_plain.specs.World.{World, pages}
-use Rattle.av_world.specs.Memories.{IsWorld}
+use Rattle.av_audit_world.specs.Memories.{IsWorld}
 use Rattle.av_audit.proofs.locking.accesses_of.Given as goal
 
 abbrev pub invariant-loop-page : goal.invariant-loop-page

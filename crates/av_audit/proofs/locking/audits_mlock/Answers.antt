@@ -8,11 +8,11 @@ use Rattle.av_trace.specs.declared.reply.Errno.TheVariants.{Enomem}
 use Rattle.av_plain.specs.Access.{Accesses}
 use Rattle.av_plain.specs.Lock.{accesses_of, with_lock}
 use Rattle.av_plain.specs.World.{pages, pages_to_hole, set_process, with_change_on, with_page_flag}
-use Rattle.av_book.specs.Book.{ledger_of}
-use Rattle.av_book.specs.Machine.{setting_of}
-use Rattle.av_judge.specs.Says.{SaysOnly}
-use Rattle.av_judge.proofs.Finds.{if-ok}
-use Rattle.av_world.specs.Memories.{IsWorld}
+use Rattle.av_audit_book.specs.Book.{ledger_of}
+use Rattle.av_audit_book.specs.Machine.{setting_of}
+use Rattle.av_audit_judge.specs.Says.{SaysOnly}
+use Rattle.av_audit_judge.proofs.Finds.{if-ok}
+use Rattle.av_audit_world.specs.Memories.{IsWorld}
 use Rattle.av_audit.specs.Access.{Tells}
 use Rattle.av_audit.proofs.EndLaws.{WritesTo}
 use Rattle.av_audit.proofs.JudgeLaws.{refused-left}

@@ -1,11 +1,11 @@
 use Rattle.std.proofs.Common.{◌+◌, ◌^◌, option_map, subst, arith}
 use Rattle.av_base.specs.Page.{address_of}
 use Rattle.av_plain.specs.Access.{Accesses}
-use Rattle.av_book.specs.Book.{ledger_of}
-use Rattle.av_book.specs.Machine.{setting_of}
-use Rattle.av_judge.specs.Says.{SaysOnly}
-use Rattle.av_judge.proofs.Finds.{if-ok}
-use Rattle.av_access_judge.specs.Access.{Ends, end_of}
+use Rattle.av_audit_book.specs.Book.{ledger_of}
+use Rattle.av_audit_book.specs.Machine.{setting_of}
+use Rattle.av_audit_judge.specs.Says.{SaysOnly}
+use Rattle.av_audit_judge.proofs.Finds.{if-ok}
+use Rattle.av_audit_access.specs.Access.{Ends, end_of}
 use Rattle.av_audit.proofs.EndLaws.{WritesTo, tells-no-end, tells-no-line}
 use Rattle.av_audit.proofs.LockLaws.{all-higher, came-in, lock-telling}
 use Rattle.av_audit.proofs.locking.comes_in.Goals as goal

@@ -2,9 +2,9 @@ use Rattle.std.proofs.Common.{Bool, true, false, subst}
 use Rattle.av_trace.specs.declared.command.Command.TheVariants.{Mmap}
 use Rattle.av_trace.specs.declared.reply.Answer.TheVariants.{Refused}
 use Rattle.av_plain.specs.Map.{zaps_for_place}
-use Rattle.av_book.specs.Book.{ledger_of}
-use Rattle.av_judge.specs.Says.{SaysOnly}
-use Rattle.av_judge.proofs.Finds.{if-ok}
+use Rattle.av_audit_book.specs.Book.{ledger_of}
+use Rattle.av_audit_judge.specs.Says.{SaysOnly}
+use Rattle.av_audit_judge.proofs.Finds.{if-ok}
 use Rattle.av_audit.specs.Known.{SaysEvents, map_answer}
 use Rattle.av_audit.proofs.JudgeLaws.{refused-left}
 use Rattle.av_audit.proofs.KnownUnits.{differ, mmap-lives, mmap-said}

@@ -4,9 +4,9 @@ use Rattle.av_trace.specs.declared.command.Command.TheVariants.{Mprotect}
 use Rattle.av_trace.specs.declared.reply.Answer.TheVariants.{Refused}
 use Rattle.av_plain.specs.Map.{hole_answer}
 use Rattle.av_plain.specs.World.{pages, pages_to_hole, set_process, with_prot_on}
-use Rattle.av_judge.specs.Says.{SaysOnly}
-use Rattle.av_judge.proofs.Finds.{if-ok}
-use Rattle.av_world.specs.Memories.{IsWorld}
+use Rattle.av_audit_judge.specs.Says.{SaysOnly}
+use Rattle.av_audit_judge.proofs.Finds.{if-ok}
+use Rattle.av_audit_world.specs.Memories.{IsWorld}
 use Rattle.av_audit.proofs.JudgeLaws.{refused-leaves}
 use Rattle.av_audit.proofs.KnownUnits.{differ, mprotect-lives, mprotect-said}
 use Rattle.av_audit.proofs.mapping.audits_mprotect.Goals as goal

@@ -4,7 +4,7 @@ use Rattle.av_base.specs.Page.{pages_of}
 use Rattle.av_plain.specs.World.{pages, set_process, with_pages, zeros}
 use Rattle.av_plain.specs.Step.{next}
 use Rattle.av_trace.specs.declared.command.Command.TheVariants.{Mmap}
-use Rattle.av_world.specs.Memories.{IsWorld}
+use Rattle.av_audit_world.specs.Memories.{IsWorld}
 use Rattle.av_audit.specs.Known.{map_answer}
 use Rattle.av_audit.proofs.KnownUnits.{page-again}
 use Rattle.av_audit.proofs.mapping.map_at.Goals as goal

@@ -1,5 +1,5 @@
 use Rattle.std.proofs.lemmas.Result.{IfOk-weaker}
-use Rattle.av_book.specs.Book.{ledger_of}
+use Rattle.av_audit_book.specs.Book.{ledger_of}
 use Rattle.av_plain.specs.Map.{zaps_for_place}
 use Rattle.av_audit.proofs.KnownUnits.{no-zaps, says-alone}
 use Rattle.av_audit.proofs.mapping.says_mmap.Goals as goal

@@ -4,9 +4,9 @@ use Rattle.av_trace.specs.declared.command.Command.TheVariants.{Mremap}
 use Rattle.av_trace.specs.declared.reply.Answer.TheVariants.{Refused}
 use Rattle.av_plain.specs.Mremap.{MovesTo, events_to}
 use Rattle.av_plain.specs.World.{pages}
-use Rattle.av_book.specs.Book.{ledger_of}
-use Rattle.av_judge.specs.Says.{SaysOnly}
-use Rattle.av_judge.proofs.Finds.{if-ok}
+use Rattle.av_audit_book.specs.Book.{ledger_of}
+use Rattle.av_audit_judge.specs.Says.{SaysOnly}
+use Rattle.av_audit_judge.proofs.Finds.{if-ok}
 use Rattle.av_audit.specs.Known.{SaysEvents, map_answer}
 use Rattle.av_audit.proofs.JudgeLaws.{refused-left}
 use Rattle.av_audit.proofs.KnownUnits.{differ}

@@ -3,7 +3,7 @@ use Rattle.std.proofs.lemmas.Bool.{ne_eqb}
 use Rattle.std.proofs.lemmas.Result.{on_ok_weaker}
 use Rattle.av_plain.specs.Event.{EntriesMoved, after, after_all, notes_of}
 use Rattle.av_plain.specs.Zap.{keys_in, zaps_of}
-use Rattle.av_book.specs.Book.{ledger_of}
+use Rattle.av_audit_book.specs.Book.{ledger_of}
 use Rattle.av_audit.proofs.RemapLaws.{move-ledger, move-notes}
 use Rattle.av_audit.proofs.remapping.follow_mremap.Goals as goal
 

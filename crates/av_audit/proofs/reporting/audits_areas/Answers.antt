@@ -2,7 +2,7 @@ use Rattle.std.proofs.Common.{refl}
 use Rattle.std.proofs.lemmas.Result.{IfOk-weaker}
 use Rattle.av_trace.specs.declared.command.Command.TheVariants as commands
 use Rattle.av_trace.specs.declared.reply.Errno.TheVariants.{Esrch}
-use Rattle.av_book.specs.Book.{ledger_of}
+use Rattle.av_audit_book.specs.Book.{ledger_of}
 use Rattle.av_audit.proofs.JudgeLaws.{book-left, refused-left}
 use Rattle.av_audit.proofs.ReportingLaws.{dead, dead-alone, live-alone, live-space}
 use Rattle.av_audit.proofs.reporting.audits_areas.Goals as goal

@@ -1,7 +1,7 @@
 use Rattle.std.proofs.Common.{refl, sym, ◌∙◌}
 use Rattle.std.proofs.lemmas.Result.{IfOk-weaker}
 use Rattle.av_trace.specs.declared.command.Command.TheVariants as commands
-use Rattle.av_book.specs.Book.{ledger_of}
+use Rattle.av_audit_book.specs.Book.{ledger_of}
 use Rattle.av_audit.proofs.JudgeLaws.{book-left, refused-left}
 use Rattle.av_audit.proofs.reporting.audits_entry.Goals as goal
 

@@ -1,8 +1,8 @@
 use Rattle.std.proofs.Common.{refl}
 use Rattle.std.proofs.lemmas.Result.{IfOk-weaker}
 use Rattle.av_trace.specs.declared.command.Command.TheVariants as commands
-use Rattle.av_book.specs.Machine.{setting_of}
-use Rattle.av_book.specs.Book.{ledger_of}
+use Rattle.av_audit_book.specs.Machine.{setting_of}
+use Rattle.av_audit_book.specs.Book.{ledger_of}
 use Rattle.av_audit.proofs.JudgeLaws.{book-left}
 use Rattle.av_audit.proofs.reporting.audits_stat.Goals as goal
 

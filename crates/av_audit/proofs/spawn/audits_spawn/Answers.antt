@@ -2,8 +2,8 @@ use Rattle.std.proofs.Common.{◌≡◌, true, false, subst, sym, ◌∙◌}
 use Rattle.av_trace.specs.declared.command.Command.TheVariants.{Spawn}
 use Rattle.av_trace.specs.declared.reply.Answer.TheVariants.{Done, Refused}
 use Rattle.av_plain.specs.World.{no_pages}
-use Rattle.av_judge.specs.Says.{SaysOnly}
-use Rattle.av_judge.proofs.Finds.{if-ok}
+use Rattle.av_audit_judge.specs.Says.{SaysOnly}
+use Rattle.av_audit_judge.proofs.Finds.{if-ok}
 use Rattle.av_audit.proofs.JudgeLaws.{refused-leaves, spawn-leaves}
 use Rattle.av_audit.proofs.spawn.audits_spawn.Goals as goal
 

@@ -1,11 +1,11 @@
 use Rattle.std.proofs.Common.{refl}
 use Rattle.av_trace.specs.declared.command.Command.TheVariants.{Reclaim}
 use Rattle.av_plain.specs.World.{World}
-use Rattle.av_book.specs.Book.{ledger_of}
-use Rattle.av_book.specs.Machine.{setting_of}
-use Rattle.av_world.specs.Memories.{IsWorld}
-use Rattle.av_judge.specs.Verdict.{IsVerdict}
-use Rattle.av_judge.proofs.Finds.{if-ok}
+use Rattle.av_audit_book.specs.Book.{ledger_of}
+use Rattle.av_audit_book.specs.Machine.{setting_of}
+use Rattle.av_audit_world.specs.Memories.{IsWorld}
+use Rattle.av_audit_judge.specs.Verdict.{IsVerdict}
+use Rattle.av_audit_judge.proofs.Finds.{if-ok}
 use Rattle.av_audit.proofs.JudgeLaws.{book-left}
 use Rattle.av_audit.proofs.swapping.audits_reclaim.Goals as goal
 

@@ -1,12 +1,12 @@
 use Rattle.std.proofs.Common.{Option, option_map, refl, subst, sym, ◌∙◌}
 use Rattle.av_trace.specs.declared.reply.Answer.TheVariants.{Refused}
 use Rattle.av_trace.specs.declared.reply.Errno.TheVariants.{Einval}
-use Rattle.av_book.specs.Book.{ledger_of}
-use Rattle.av_book.specs.Machine.{setting_of}
-use Rattle.av_judge.specs.Says.{SaysOnly}
-use Rattle.av_judge.proofs.Finds.{if-ok}
-use Rattle.av_swapoff_judge.specs.Close.{Closes, IsWhole, close_of}
-use Rattle.av_swapoff_judge.specs.declared.closing.Close.{Close}
+use Rattle.av_audit_book.specs.Book.{ledger_of}
+use Rattle.av_audit_book.specs.Machine.{setting_of}
+use Rattle.av_audit_judge.specs.Says.{SaysOnly}
+use Rattle.av_audit_judge.proofs.Finds.{if-ok}
+use Rattle.av_audit_swapoff.specs.Close.{Closes, IsWhole, close_of}
+use Rattle.av_audit_swapoff.specs.declared.closing.Close.{Close}
 use Rattle.av_audit.proofs.SwapoffUnits.{swapoff-left, swapoff-no-end, swapoff-no-line, swapoff-refused}
 use Rattle.av_audit.proofs.swapping.audits_swapoff.Goals as goal
 

@@ -1,8 +1,8 @@
 use Rattle.std.proofs.Common.{subst}
 use Rattle.std.proofs.lemmas.Result.{IfOk-weaker}
 use Rattle.av_trace.specs.declared.command.Command.TheVariants as commands
-use Rattle.av_book.specs.Book.{ledger_of}
-use Rattle.av_book.specs.Machine.{setting_of}
+use Rattle.av_audit_book.specs.Book.{ledger_of}
+use Rattle.av_audit_book.specs.Machine.{setting_of}
 use Rattle.av_audit.specs.Judge.{IsLeft}
 use Rattle.av_audit.proofs.JudgeLaws.{left-is}
 use Rattle.av_audit.proofs.units.is_legal_for_pages.Goals as goal

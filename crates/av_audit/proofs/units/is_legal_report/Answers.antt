@@ -1,6 +1,6 @@
 use Rattle.std.proofs.Common.{refl}
 use Rattle.std.proofs.lemmas.Result.{IfOk-weaker}
-use Rattle.av_book.specs.Machine.{setting_of}
+use Rattle.av_audit_book.specs.Machine.{setting_of}
 use Rattle.av_audit.proofs.JudgeLaws.{left-is}
 use Rattle.av_audit.proofs.units.is_legal_report.Goals as goal
 

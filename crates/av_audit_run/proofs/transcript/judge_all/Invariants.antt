@@ -1,7 +1,7 @@
 use Rattle.std.proofs.Common.{◌≡◌, List, drop}
 use Rattle.av_audit.specs.Judge.{machine_of, phase_of}
 use Rattle.av_audit.specs.declared.auditor.Phase.TheVariants.{Going}
-use Rattle.av_book.specs.Machine.{setting_of}
+use Rattle.av_audit_book.specs.Machine.{setting_of}
 use Rattle.av_ports.specs.Ports.{AreUnfailed, undone}
 use Rattle.av_audit_input.specs.Input.{IsOpen, OnlyReads}
 use Rattle.av_audit_input.specs.Script.{AreLinesOf, IsScript}

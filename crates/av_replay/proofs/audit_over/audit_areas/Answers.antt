@@ -1,6 +1,6 @@
 use Rattle.std.proofs.Common.{Err, ap, subst, sym, refl, ◌<◌, ℕ}
 use Rattle.av_plain.specs.Device.{Device, seen_by}
-use Rattle.av_book.specs.Machine.{setting_of}
+use Rattle.av_audit_book.specs.Machine.{setting_of}
 use Rattle.av_ports.specs.Ports.{PortsView}
 use Rattle.av_replay.specs.Audit.{DoesAudit}
 use Rattle.av_replay.specs.declared.status.Status.TheVariants as statuses

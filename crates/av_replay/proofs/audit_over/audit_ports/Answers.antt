@@ -1,5 +1,5 @@
 use Rattle.std.proofs.Common.{subst, sym}
-use Rattle.av_book.specs.Machine.{setting_of}
+use Rattle.av_audit_book.specs.Machine.{setting_of}
 use Rattle.av_audit_run.specs.Transcript.{Audits}
 use Rattle.av_audit_run.specs.declared.transcript.Finding.{Finding}
 use Rattle.av_replay.specs.Audit.{EndsAudit}

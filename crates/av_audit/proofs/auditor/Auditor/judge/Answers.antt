@@ -1,5 +1,5 @@
 use Rattle.std.proofs.Common.{subst}
-use Rattle.av_book.specs.Machine.{setting_of}
+use Rattle.av_audit_book.specs.Machine.{setting_of}
 use Rattle.av_audit.specs.Judge.{IsRight}
 use Rattle.av_audit.proofs.auditor.Auditor.judge.Goals as goal
 

@@ -1,5 +1,5 @@
 use Rattle.std.proofs.Common.{refl, subst, sym}
-use Rattle.av_book.specs.Machine.{setting_of}
+use Rattle.av_audit_book.specs.Machine.{setting_of}
 use Rattle.av_plain.specs.Sound.{AllSound}
 use Rattle.av_audit.specs.Judge.{IsLeft, IsRight}
 use Rattle.av_audit.specs.declared.auditor.Auditor.{Auditor}

@@ -1,6 +1,0 @@
-use Rattle.std.proofs.Common.{refl}
-use Rattle.av_area_judge.proofs.WordLaws.{own-same}
-use Rattle.av_area_judge.proofs.words.own_number.Goals as goal
-
-pub returns : goal.returns
-returns c = λ own wide is. own-same c.args.word.now c.number_in.result own _ refl c.number_in.ensures.found c.number_in.ensures.none wide is
