@@ -262,6 +262,23 @@ written_next n rest at at' digits g large small down glyph w =
           ∙ ap (λ (d : ℕ). hex (rest / 16) ++ d ∷ drop (suc at) digits) (sym glyph) ∙ ap (λ (t : List ℕ). hex (rest / 16) ++ t) (sym place);
     }
 
+-- the same of two digits at once
+pub room_for_two : (rest at : ℕ) → 256 ≤ rest → rest < 16 ^ suc at → 2 ≤ at
+room_for_two rest zero large fits = absurd (omega arith)
+room_for_two rest (suc zero) large fits = absurd (omega arith)
+room_for_two rest (suc (suc at)) large fits = omega arith
+
+pub written_two : (n rest at : ℕ) (digits : List ℕ) (high low : ℕ) → 256 ≤ rest → rest < 2 ^ 64 → 2 ≤ at
+    → high ≡ digit_glyph false (rest % 256 / 16) → low ≡ digit_glyph false (rest % 256 % 16) → IsWritten n rest at digits
+    → IsWritten n (rest / 256) (at - 2) (set (set digits at low) (at - 1) high)
+written_two n rest at digits high low large small room is_high is_low w =
+    let a : rest % 256 % 16 ≡ rest % 16 = omega arith in
+    let b : rest % 256 / 16 ≡ rest / 16 % 16 = omega arith in
+    let c : rest / 16 / 16 ≡ rest / 256 = omega arith in
+    let one = written_next n rest at (at - 1) digits low (omega arith) small (omega arith) (is_low ∙ ap (digit_glyph false) a) w in
+    let two = written_next n (rest / 16) (at - 1) (at - 2) (set digits at low) high (omega arith) (omega arith) (omega arith) (is_high ∙ ap (digit_glyph false) b) one in
+    rw (← c) two
+
 pub written_last : (n rest at : ℕ) (digits : List ℕ) (g : ℕ) → rest < 16 → g ≡ digit_glyph false rest → IsWritten n rest at digits →
     take (16 - at) (drop at (set digits at g)) ≡ hex n
 written_last n rest at digits g small glyph w =

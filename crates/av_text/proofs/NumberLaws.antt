@@ -3,6 +3,7 @@ use Rattle.std.proofs.Common.{◌≡◌, ℕ, zero, suc, not, ◌+◌, ◌*◌, 
 use Rattle.std.specs.Prelude.{◌&&◌, ◌||◌}
 use Rattle.std.specs.Fmt.{decimal, digits, digits_onto, digit_glyph}
 use Rattle.std.proofs.Math.Nat.{mul-le-mul_left, pow-le-pow_right, pow-suc}
+use Rattle.std.proofs.lemmas.Fmt.{decimal_digit, decimal_step}
 use Rattle.std.proofs.lemmas.List.{take_all}
 use Rattle.std.proofs.lemmas.Bool.{cases_Bool, cases_eq, cases_lt, cond-true, cond-false, eqb-true, eq-eqb, ne_eqb, and_parts, and_from, leb-true, le-leb, lt-leb, lt-ltb, le-ltb, ltb-true}
 use Rattle.std.proofs.lemmas.Option.{cond_some, same_Some}
@@ -502,3 +503,28 @@ sure_fits k n base d places most digit small =
     let last : k + 1 ≤ 15 = omega arith in
     let room : 16 ^ (k + 1) ≤ 16 ^ 15 = pow-le-pow_right (lit< tt) last in
     omega arith
+
+-- ---- short numbers
+
+-- the digits of a number of at most four, one after another
+pub spelled_one : (n : ℕ) → n < 10 → (48 + n) ∷ [] ≡ decimal n
+spelled_one n h = sym (decimal_digit n h)
+
+pub spelled_two : (n : ℕ) → 10 ≤ n → n < 100 → (48 + n / 10) ∷ (48 + n % 10) ∷ [] ≡ decimal n
+spelled_two n lo hi =
+    ap (λ (t : List ℕ). t ++ (48 + n % 10) ∷ []) (spelled_one (n / 10) (omega arith)) ∙ sym (decimal_step n lo (omega arith))
+
+pub spelled_three : (n : ℕ) → 100 ≤ n → n < 1000 → (48 + n / 100) ∷ (48 + n % 100 / 10) ∷ (48 + n % 100 % 10) ∷ [] ≡ decimal n
+spelled_three n lo hi =
+    let a : n / 100 ≡ n / 10 / 10 = omega arith in
+    let b : n % 100 / 10 ≡ n / 10 % 10 = omega arith in
+    let c : n % 100 % 10 ≡ n % 10 = omega arith in
+    rw (a, b, c) (ap (λ (t : List ℕ). t ++ (48 + n % 10) ∷ []) (spelled_two (n / 10) (omega arith) (omega arith)) ∙ sym (decimal_step n (omega arith) (omega arith)))
+
+pub spelled_four : (n : ℕ) → 1000 ≤ n → n < 10000 → (48 + n / 100 / 10) ∷ (48 + n / 100 % 10) ∷ (48 + n % 100 / 10) ∷ (48 + n % 100 % 10) ∷ [] ≡ decimal n
+spelled_four n lo hi =
+    let a : n / 100 / 10 ≡ n / 10 / 100 = omega arith in
+    let d : n / 100 % 10 ≡ n / 10 % 100 / 10 = omega arith in
+    let b : n % 100 / 10 ≡ n / 10 % 100 % 10 = omega arith in
+    let c : n % 100 % 10 ≡ n % 10 = omega arith in
+    rw (a, d, b, c) (ap (λ (t : List ℕ). t ++ (48 + n % 10) ∷ []) (spelled_three (n / 10) (omega arith) (omega arith)) ∙ sym (decimal_step n (omega arith) (omega arith)))

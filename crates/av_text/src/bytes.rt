@@ -75,7 +75,22 @@ impl Bytes {
     }
 
     /// Adds a piece at the end. Without memory all stays.
+    #[inline(always)]
     pub fn append(&mut self, piece: &[u8]) -> Result<(), AllocError>
+        ensures ok { OnOk result (self.new ≡ self.old ++ piece.now) }
+        ensures err { OnErr result (self.new ≡ self.old) }
+    {
+        if piece.len() <= self.items.capacity() - self.items.len() {
+            self.items.extend_from_slice(piece)?;
+            return Ok(());
+        }
+        self.append_slow(piece)
+    }
+
+    /// The same, where the room is to grow.
+    #[cold]
+    #[inline(never)]
+    fn append_slow(&mut self, piece: &[u8]) -> Result<(), AllocError>
         ensures ok { OnOk result (self.new ≡ self.old ++ piece.now) }
         ensures err { OnErr result (self.new ≡ self.old) }
     {

@@ -177,6 +177,13 @@ pub fn add_hex(text: &mut Bytes, n: u64) -> Result<(), AllocError>
     let mut digits = [0u8; 16];
     let mut at = 15;
     let mut rest = n;
+    while 256 <= rest {
+        let (high, low) = pair_in_table((rest % 256) as u8);
+        digits[at] = low;
+        digits[at - 1] = high;
+        rest /= 256;
+        at -= 2;
+    }
     while 16 <= rest {
         digits[at] = table_digit((rest % 16) as u8);
         rest /= 16;

@@ -1,6 +1,6 @@
 //! Numbers in digits of base 10 or 16, without a leading zero.
 
-ghost use Rattle.std.specs.Prelude.{◌≡◌, ℕ, ◌<◌, ◌≤◌, option_map, IfSome, IfNone};
+ghost use Rattle.std.specs.Prelude.{◌≡◌, ℕ, ◌+◌, ◌/◌, ◌%◌, ◌<◌, ◌≤◌, option_map, IfSome, IfNone};
 ghost use Rattle.std.specs.Fmt.{decimal as digits_of};
 ghost use Rattle.av_text.specs.Number.{IsNumberIn, worth, starts_number, digits_from, number_from};
 ghost use Rattle.av_text.specs.Number.{number_at, decimal_at, process_at, len_at, address_at};
@@ -234,10 +234,55 @@ pub fn entry(bytes: &[u8]) -> Option<((u16, u64), &[u8])>
 pub fn add_decimal(text: &mut Bytes, n: u64) -> Result<(), AllocError>
     ensures { Adds result text.old text.new (digits_of n) }
 {
+    if n < 10_000 {
+        return add_short(text, n as u32);
+    }
     text.append(Buffer::new().format(n).as_bytes())
 }
 
+/// The two digits of each number below 100, one after another.
+static TENS: [u8; 200] = *b"\
+    0001020304050607080910111213141516171819\
+    2021222324252627282930313233343536373839\
+    4041424344454647484950515253545556575859\
+    6061626364656667686970717273747576777879\
+    8081828384858687888990919293949596979899";
+
+/// The two digits of a number below 100.
+#[inline(always)]
+fn ten_pair(n: u32) -> (u8, u8)
+    requires { n < 100 }
+    ensures tens { result.0 ≡ 48 + n / 10 }
+    ensures ones { result.1 ≡ 48 + n % 10 }
+{
+    let at = 2 * n as usize;
+    (TENS[at], TENS[at + 1])
+}
+
+/// Adds a number of at most four digits. Each length has its own copy, which the compiler makes
+/// without a call.
+#[inline(always)]
+fn add_short(text: &mut Bytes, n: u32) -> Result<(), AllocError>
+    requires { n < 10000 }
+    ensures { Adds result text.old text.new (digits_of n) }
+{
+    if n < 10 {
+        return text.append(&[b'0' + n as u8]);
+    }
+    if n < 100 {
+        let (tens, ones) = ten_pair(n);
+        return text.append(&[tens, ones]);
+    }
+    let (tens, ones) = ten_pair(n % 100);
+    if n < 1000 {
+        return text.append(&[b'0' + (n / 100) as u8, tens, ones]);
+    }
+    let (thousands, hundreds) = ten_pair(n / 100);
+    text.append(&[thousands, hundreds, tens, ones])
+}
+
 /// Adds a space and a number.
+#[inline(always)]
 pub fn add_number(text: &mut Bytes, n: u64) -> Result<(), AllocError>
     ensures { Adds result text.old text.new (field (digits_of n)) }
 {

@@ -126,6 +126,7 @@ impl Notes {
 }
 
 /// Adds a space and a slot.
+#[inline(always)]
 pub fn add_slot(text: &mut Bytes, slot: Slot) -> Result<(), AllocError>
     ensures { Adds result text.old text.new (field (slot_text slot)) }
 {
@@ -148,6 +149,7 @@ fn add_cause(text: &mut Bytes, cause: Cause) -> Result<(), AllocError>
 }
 
 /// Ends a line.
+#[inline(always)]
 pub fn end_line(text: &mut Bytes) -> Result<(), AllocError>
     ensures { Adds result text.old text.new (10 ∷ []) }
 {
@@ -155,6 +157,7 @@ pub fn end_line(text: &mut Bytes) -> Result<(), AllocError>
 }
 
 /// A name, and a number.
+#[inline(always)]
 pub fn number_line(text: &mut Bytes, name: &[u8], n: u64) -> Result<(), AllocError>
     ensures { Adds result text.old text.new (line name.now (digits_of n ∷ [])) }
 {
@@ -163,6 +166,7 @@ pub fn number_line(text: &mut Bytes, name: &[u8], n: u64) -> Result<(), AllocErr
 }
 
 /// A name, and a slot.
+#[inline(always)]
 pub fn slot_line(text: &mut Bytes, name: &[u8], slot: Slot) -> Result<(), AllocError>
     ensures { Adds result text.old text.new (line name.now (slot_text slot ∷ [])) }
 {
@@ -171,6 +175,7 @@ pub fn slot_line(text: &mut Bytes, name: &[u8], slot: Slot) -> Result<(), AllocE
 }
 
 /// A name, and the place of an entry.
+#[inline(always)]
 fn entry_line(text: &mut Bytes, name: &[u8], process: u16, address: u64) -> Result<(), AllocError>
     ensures { Adds result text.old text.new
         (line name.now (digits_of process ∷ hex_digits_of address ∷ [])) }
@@ -194,6 +199,7 @@ fn frame_line(
     add_number(text, u64::from(frame))
 }
 
+#[inline(always)]
 fn load_line(text: &mut Bytes, slot: Slot, frame: u32) -> Result<(), AllocError>
     ensures { Adds result text.old text.new (line_of_note (Note.Loaded slot frame)) }
 {
@@ -201,6 +207,7 @@ fn load_line(text: &mut Bytes, slot: Slot, frame: u32) -> Result<(), AllocError>
     add_number(text, u64::from(frame))
 }
 
+#[inline(always)]
 fn put_line(text: &mut Bytes, frame: u32, slot: Slot) -> Result<(), AllocError>
     ensures { Adds result text.old text.new (line_of_note (Note.Put frame slot)) }
 {
@@ -208,6 +215,7 @@ fn put_line(text: &mut Bytes, frame: u32, slot: Slot) -> Result<(), AllocError>
     add_slot(text, slot)
 }
 
+#[inline(always)]
 fn keep_line(text: &mut Bytes, frame: u32, cause: Cause) -> Result<(), AllocError>
     ensures { Adds result text.old text.new (line_of_note (Note.Kept frame cause)) }
 {
@@ -215,6 +223,7 @@ fn keep_line(text: &mut Bytes, frame: u32, cause: Cause) -> Result<(), AllocErro
     add_cause(text, cause)
 }
 
+#[inline(always)]
 fn move_line(text: &mut Bytes, from: u32, to: u32) -> Result<(), AllocError>
     ensures { Adds result text.old text.new (line_of_note (Note.Moved from to)) }
 {
@@ -223,6 +232,7 @@ fn move_line(text: &mut Bytes, from: u32, to: u32) -> Result<(), AllocError>
 }
 
 /// Adds the line of a note, without its newline.
+#[inline(always)]
 pub fn note_line(text: &mut Bytes, note: Note) -> Result<(), AllocError>
     ensures { Adds result text.old text.new (line_of_note note) }
 {

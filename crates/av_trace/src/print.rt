@@ -14,6 +14,7 @@ use av_text::Bytes;
 use std::alloc::AllocError;
 
 /// What begins the line of a note or a row.
+#[inline(always)]
 fn begin_row(text: &mut Bytes) -> Result<(), AllocError>
     ensures { Adds result text.old text.new (32 ∷ []) }
 {
@@ -21,6 +22,7 @@ fn begin_row(text: &mut Bytes) -> Result<(), AllocError>
 }
 
 /// Adds the text of a note: its line, which begins with a space and ends with a newline.
+#[inline(always)]
 pub fn note_text(text: &mut Bytes, note: Note) -> Result<(), AllocError>
     ensures { Adds result text.old text.new (whole_line (field (line_of_note note))) }
 {
@@ -29,6 +31,7 @@ pub fn note_text(text: &mut Bytes, note: Note) -> Result<(), AllocError>
     end_line(text)
 }
 
+#[inline(never)]
 fn add_notes(text: &mut Bytes, notes: &[Note]) -> Result<(), AllocError>
     ensures { Adds result text.old text.new (notes_text notes.now) }
 {
