@@ -7,8 +7,9 @@ ghost use Rattle.av_trace.specs.Line.{Says};
 ghost use Rattle.av_trace.specs.declared.command.Command.{Command as AnyCommand};
 ghost use Rattle.av_audit_input.specs.Script.{AreLinesOf, IsScript};
 
+use av_line::parse_line_into;
 use av_text::Bytes;
-use av_trace::{Command, parse_line_into};
+use av_trace::Command;
 use memchr::memchr;
 use std::alloc::{AllocError, Global};
 use std::mem::swap;

@@ -13,8 +13,8 @@ ghost use Rattle.av_audit_input.specs.Trace.{next_of};
 
 use crate::input_err::{InputErr, error_at};
 use crate::script::Script;
+use av_line::{LineErr, parse_line};
 use av_ports::{Pending, Ports, RunErr, read_line};
-use av_trace::{LineErr, parse_line};
 use std::alloc::Global;
 
 /// The lines of a trace, at most.

@@ -14,9 +14,10 @@ ghost use Rattle.av_replay.specs.Turn.{DoesLine, IsNotDone, IsNotAnswered, Takes
 use crate::kernel_ports::KernelPorts;
 use av_io::SinkErr;
 use av_kernel::Kernel;
+use av_line::{LineErr, parse_line_into};
 use av_ports::{Pending, RunErr, read_line, write_all};
 use av_text::Bytes;
-use av_trace::{Command, LineErr, Reply, parse_line_into, reply_text};
+use av_trace::{Command, Reply, reply_text};
 use std::alloc::Global;
 use std::mem::swap;
 

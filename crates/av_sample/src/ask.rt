@@ -10,9 +10,10 @@ ghost use Rattle.av_step.specs.Step.{sizes_of};
 ghost use Rattle.av_sample.specs.Answers.{Answers};
 
 use av_kernel::Kernel;
+use av_line::{LineErr, parse_line};
 use av_swapdev::SwapDev;
 use av_text::Bytes;
-use av_trace::{Command, LineErr, parse_line, reply_text};
+use av_trace::{Command, reply_text};
 use std::alloc::Global;
 
 /// A kernel does so many commands at most.

@@ -1,5 +1,6 @@
 //! The bytes that a line stores.
 
+use av_line::parse_line;
 use av_text::Bytes;
 use av_trace::*;
 use std::alloc::Global;

@@ -1,17 +1,16 @@
 //! A trace: what its lines command, and the text of each reply.
 //!
-//! Proved: a line is accepted exactly where it is one of the grammar (`specs/Command.antt`), and
-//! says one thing (`parse_line`, `one_meaning`); the text of every reply, exactly (`reply_text`),
-//! of its answer (`answer_line`) and of each note (`note_text`); two replies with one text are
-//! equal, whatever the commands (`one_reply`). Without memory `parse_line` fails only at a write,
-//! and what adds a text may have added a part of it.
+//! Proved: a line is a command exactly where it is one of the grammar (`specs/Command.antt`,
+//! `read_command`); the text of every reply, exactly (`reply_text`), of its answer (`answer_line`)
+//! and of each note (`note_text`); two replies with one text are equal, whatever the commands
+//! (`one_reply`). Without memory `read_command` fails only at a write, and what adds a text may
+//! have added a part of it.
 //!
 //! Only tested: nothing. Which reply a command has is no matter of this crate.
 #![tactic(auto)]
 
 mod advice;
 mod command;
-mod line;
 mod mode;
 mod note;
 mod place;
@@ -21,8 +20,7 @@ mod reply;
 mod row;
 
 pub use advice::Advice;
-pub use command::Command;
-pub use line::{LineErr, one_meaning, parse_line, parse_line_into};
+pub use command::{Command, read_command};
 pub use mode::Mode;
 pub use note::{Cause, Note, Notes};
 pub use place::Place;

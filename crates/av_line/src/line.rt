@@ -5,8 +5,8 @@ ghost use Rattle.av_trace.specs.declared.command.Command.{Command as AnyCommand}
 ghost use Rattle.av_trace.specs.Line.{is_blank, Says};
 ghost use Rattle.av_text.specs.Word.{BeginsWith};
 
-use crate::command::{Command, read_command};
 use av_text::Bytes;
+use av_trace::{Command, read_command};
 use std::alloc::Global;
 
 /// Why a line was not read.
