@@ -8,7 +8,8 @@ ghost use Rattle.av_plain.specs.Device.{seen_by};
 ghost use Rattle.av_swapdev.specs.Device.{most_areas, most_pages};
 ghost use Rattle.av_audit_book.specs.Machine.{AreNamed, setting_of};
 ghost use Rattle.av_audit_machine.specs.declared.heads.MachineErr.TheVariants.{Memory};
-ghost use Rattle.av_audit_machine.specs.Heads.{AreCounted, IsCounted, IsHead, IsLayoutIn, IsMachineOf};
+ghost use Rattle.av_audit_machine.specs.Heads.{AreCounted, IsCounted, IsHead};
+ghost use Rattle.av_audit_machine.specs.Heads.{IsLayoutIn, IsMachineOf};
 ghost use Rattle.av_audit_machine.specs.Heads.{OnlyFails};
 
 use av_audit_book::{Head, Layout, Machine};

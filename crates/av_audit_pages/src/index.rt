@@ -4,7 +4,8 @@ ghost use Rattle.std.specs.Prelude.{◌≡◌, Bool, None, OnErr, OnOk, Some, []
 ghost use Rattle.av_base.specs.Keys.{Key};
 ghost use Rattle.av_plain.specs.Ledger.{InFrame as NamesFrame};
 ghost use Rattle.av_audit_pages.specs.Entries.{cached_of, entry_of};
-ghost use Rattle.av_audit_pages.specs.Index.{AddsPair, CountsPairs, HasRoom, KeepsKeys, KeepsOthers};
+ghost use Rattle.av_audit_pages.specs.Index.{AddsPair, CountsPairs, HasRoom};
+ghost use Rattle.av_audit_pages.specs.Index.{KeepsKeys, KeepsOthers};
 ghost use Rattle.av_audit_pages.specs.Index.{KeepsPairs, TakesPair, Tells};
 
 use crate::entries::{Cached, Entry};

@@ -7,8 +7,8 @@
 //! not be sound. After want of memory a book may have followed a part of the notes.
 //!
 //! Not judged here: the line of the answer, and that the area is off in the end. What a pass spares
-//! is asked of the memories as the pass goes (`av_audit_judge`), and where there is no frame for a slot,
-//! for its numbers. The least slot in use and the entries that name it are looked up.
+//! is asked of the memories as the pass goes (`av_audit_judge`), and where there is no frame for a
+//! slot, for its numbers. The least slot in use and the entries that name it are looked up.
 //!
 //! Only tested: nothing.
 #![tactic(auto)]

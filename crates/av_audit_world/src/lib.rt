@@ -9,12 +9,12 @@
 //! greatest gap. Which pages are locked is said of what is kept alone, too: so a caller can ask for
 //! it without a word on what the definitions have.
 //!
-//! What is said of pages is kept by ranges (`av_audit_ranges`), and bytes by page. So a call costs some
-//! ways down a tree and what it goes over, whatever else the process has mapped; a move costs what
-//! it moves. A fork goes over the parent's ranges, shares the bytes of each page that was written,
-//! and lets go of those that don't go over; the bytes of a page are copied once one of the two
-//! writes to it. Processes with a locked page are noted (`locking`), so that no other is looked at
-//! for one. These costs are read off the code, and no clause says them.
+//! What is said of pages is kept by ranges (`av_audit_ranges`), and bytes by page. So a call costs
+//! some ways down a tree and what it goes over, whatever else the process has mapped; a move costs
+//! what it moves. A fork goes over the parent's ranges, shares the bytes of each page that was
+//! written, and lets go of those that don't go over; the bytes of a page are copied once one of the
+//! two writes to it. Processes with a locked page are noted (`locking`), so that no other is looked
+//! at for one. These costs are read off the code, and no clause says them.
 //!
 //! Only tested: nothing.
 #![tactic(auto)]
