@@ -8,10 +8,10 @@ ghost use Rattle.av_plain.specs.World.{World};
 ghost use Rattle.av_audit_book.specs.Book.{ledger_of};
 ghost use Rattle.av_audit_judge.specs.Verdict.{IsVerdict};
 
-use crate::text::{all_fit, is_reply};
+use crate::text::{all_fit, tells};
 use av_audit_book::Book;
 use av_audit_events::{zap_process, zap_range};
-use av_trace::Reply;
+use av_trace::Notes;
 use std::alloc::{AllocError, Global};
 
 /// Whether a unit is legal for `exit`, where nothing refuses that.
@@ -26,10 +26,10 @@ pub fn judges_exit(
         → IsVerdict m w (ledger_of book.old) (commands.Exit process) text.now legal
         (ledger_of book.new)) }
 {
-    let mut reply = Reply::new(alloc);
-    zap_process(book, alloc, process, &mut reply.notes)?;
-    all_fit(reply.notes.as_slice());
-    is_reply(alloc, &reply, text)
+    let mut notes = Notes::new(alloc);
+    zap_process(book, alloc, process, &mut notes)?;
+    all_fit(notes.as_slice());
+    tells(alloc, notes, text)
 }
 
 /// Whether a unit is legal for `munmap`, where nothing refuses that.
@@ -46,16 +46,9 @@ pub fn judges_munmap(
         → IsVerdict m w (ledger_of book.old) (commands.Munmap process address length) text.now
         legal (ledger_of book.new)) }
 {
-    let mut reply = Reply::new(alloc);
+    let mut notes = Notes::new(alloc);
     let pages = length.div_ceil(4096);
-    zap_range(
-        book,
-        alloc,
-        process,
-        address / 4096,
-        pages,
-        &mut reply.notes,
-    )?;
-    all_fit(reply.notes.as_slice());
-    is_reply(alloc, &reply, text)
+    zap_range(book, alloc, process, address / 4096, pages, &mut notes)?;
+    all_fit(notes.as_slice());
+    tells(alloc, notes, text)
 }

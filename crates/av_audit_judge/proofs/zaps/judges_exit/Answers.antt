@@ -2,7 +2,7 @@ use Rattle.std.proofs.Common.{◌++◌, List, refl, ap, subst, ◌∙◌}
 use Rattle.std.specs.List.{AllByRecursion}
 use Rattle.std.proofs.lemmas.Result.{IfOk-weaker}
 use Rattle.av_trace.specs.declared.command.Command.TheVariants as commands
-use Rattle.av_trace.specs.declared.reply.Reply.{Reply}
+use Rattle.av_trace.specs.declared.note.Note.{Note}
 use Rattle.av_trace.specs.Note.{IsNote}
 use Rattle.av_plain.specs.Event.{Event, notes_of}
 use Rattle.av_plain.specs.Zap.{keys_of_process, zaps_of}
@@ -16,10 +16,9 @@ pub returns : goal.returns
 returns c =
     let l = ledger_of c.args.book.now in
     let zaps : List Event = zaps_of l (keys_of_process l c.args.process) in
-    let notes = c.in_ok-zap_process.ensures.notes ∙ ap (λ (r : Reply). r.notes ++ notes_of zaps) c.new-reply.ensures in
+    let notes = c.in_ok-zap_process.ensures.notes ∙ ap (λ (n : List Note). n ++ notes_of zaps) c.new-notes.ensures in
     let fit = subst (AllByRecursion IsNote) (c.as_slice.ensures ∙ notes) c.all_fit.ensures in
-    IfOk-weaker c.is_reply.result _ _ (λ legal says m w none.
+    IfOk-weaker c.tells.result _ _ (λ legal says m w none.
     known-verdict m w l (ledger_of c.zap_process.new.book) (commands.Exit c.args.process) (said (notes_of zaps)) zaps c.args.text.now legal
     (exit-only m w l c.args.process none) (record { answer = tt; rest = (fit, refl) }) c.in_ok-zap_process.ensures.ledger
-    (subst (SaysReply legal c.args.text.now)
-    (λ i. record { answer = (c.new-reply.ensures i).answer; notes = notes i; rows = (c.new-reply.ensures i).rows }) says)) c.is_reply.ensures
+    (subst (λ n. SaysReply legal c.args.text.now (said n)) notes says)) c.tells.ensures

@@ -4,7 +4,7 @@ use Rattle.std.specs.List.{AllByRecursion}
 use Rattle.std.proofs.lemmas.Result.{IfOk-weaker}
 use Rattle.av_base.specs.Page.{page_of, pages_of}
 use Rattle.av_trace.specs.declared.command.Command.TheVariants as commands
-use Rattle.av_trace.specs.declared.reply.Reply.{Reply}
+use Rattle.av_trace.specs.declared.note.Note.{Note}
 use Rattle.av_trace.specs.Note.{IsNote}
 use Rattle.av_plain.specs.Event.{Event, after_all, notes_of}
 use Rattle.av_plain.specs.Zap.{keys_in, zaps_of}
@@ -24,12 +24,11 @@ returns c =
     let from = page_of c.args.address in
     let zaps : List Event = zaps_of l (keys_in l p from (pages_of c.args.length)) in
     let size = whole-pages c.args.length c.div_ceil-pages.result c.div_ceil-pages.ensures in
-    let notes = c.in_ok-zap_range.ensures.notes ∙ ap (λ n. c.new-reply.result.notes ++ notes_of (zaps_of l (keys_in l p from n))) size
-    ∙ ap (λ (r : Reply). r.notes ++ notes_of zaps) c.new-reply.ensures in
+    let notes = c.in_ok-zap_range.ensures.notes ∙ ap (λ n. c.new-notes.result ++ notes_of (zaps_of l (keys_in l p from n))) size
+    ∙ ap (λ (n : List Note). n ++ notes_of zaps) c.new-notes.ensures in
     let fit = subst (AllByRecursion IsNote) (c.as_slice.ensures ∙ notes) c.all_fit.ensures in
-    IfOk-weaker c.is_reply.result _ _ (λ legal says m w none.
+    IfOk-weaker c.tells.result _ _ (λ legal says m w none.
     known-verdict m w l (ledger_of c.zap_range.new.book) (commands.Munmap p c.args.address c.args.length) (said (notes_of zaps)) zaps c.args.text.now legal
     (munmap-only m w l p c.args.address c.args.length none) (record { answer = tt; rest = (fit, refl) })
     (c.in_ok-zap_range.ensures.ledger ∙ ap (λ n. after_all l (zaps_of l (keys_in l p from n))) size)
-    (subst (SaysReply legal c.args.text.now)
-    (λ i. record { answer = (c.new-reply.ensures i).answer; notes = notes i; rows = (c.new-reply.ensures i).rows }) says)) c.is_reply.ensures
+    (subst (λ n. SaysReply legal c.args.text.now (said n)) notes says)) c.tells.ensures
