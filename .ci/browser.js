@@ -101,11 +101,14 @@ at("find").value = "";
 at("find").dispatchEvent(new Event("input"));
 toggled.clear();
 const texts = selector => [...document.querySelectorAll(selector)].map(it => it.textContent);
-facts.named = [];
+[facts.named, facts.stuck] = [[], []];
 for (let n = 1; n <= Math.min(last, 12); n++) {
   go(n);
   const names = texts("#spaces h3:not(.gone), #spaces .row:not(.gone) .name");
   facts.named.push([at("comment").textContent, ...names].join("; "));
+  for (const it of document.querySelectorAll("#spaces .row .name")) {
+    if (!it.previousSibling.textContent.endsWith(" ")) facts.stuck.push(it.textContent);
+  }
 }
 const isEmpty = () => !document.querySelectorAll("#spaces .new, #cards .new").length;
 const answer = () => [at("reply").textContent, texts("#lines [aria-current] .soft")[0], isEmpty()];

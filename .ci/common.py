@@ -11,7 +11,7 @@ import subprocess
 import sys
 import tempfile
 import unittest
-from typing import Any, Callable, Iterable, Iterator
+from typing import Any, Callable, Iterable, Iterator, TypeVar
 
 from shared import ROOT
 
@@ -19,6 +19,8 @@ import swapfile
 
 # what a run ended with: status, standard output and standard error
 Ran = tuple[int, str, str]
+# what a check looks at
+T = TypeVar("T")
 # a change of a file: its name, the old text and the new one
 Change = tuple[str, str, str]
 
@@ -101,8 +103,21 @@ class Check:
         """Ends a case that can't be run here."""
         raise unittest.SkipTest(why)
 
-    def expect_none(self, what: str, found: Iterable[str]) -> None:
-        """Passes where nothing was found; else each thing is shown on a line of its own."""
+    def expect_none(
+        self, what: str, things: Iterable[T], tells: Callable[[T], str | bool], wrong: T
+    ) -> None:
+        """Passes where nothing is found wrong with any of the things; else each that is wrong is
+        shown on a line of its own: what `tells` says of it, or itself. To find nothing says
+        something only of what can find: so there must be things, and `wrong`, which is, is found.
+        """
+        things = list(things)
+        if not things:
+            found = ["there is nothing to look at"]
+        elif not tells(wrong):
+            found = [f"what is wrong isn't found: {wrong}"]
+        else:
+            told = [(it, tells(it)) for it in things]
+            found = [said if isinstance(said, str) else f"{it}" for it, said in told if said]
         self.expect(what, "\n".join(found), "")
 
     def end(self) -> None:

@@ -15,19 +15,19 @@ NO_CONTROL = {}
 class Edit:
     """Texts that stand once in a crate's files, and what comes in their place."""
 
-    def __init__(self, path: str):
+    def __init__(self, path: str, text: str):
         self.path = path
         self.crate = os.path.basename(os.path.dirname(path.replace("/must-fail", "")))
         self.key = f"{self.crate}/{os.path.basename(path)}".removesuffix(".edit")
         self.pairs, file, old = [], "", ""
-        for line in text_of(path).splitlines():
-            kind, _, text = line.partition(": ")
+        for line in text.splitlines():
+            kind, _, said = line.partition(": ")
             if kind == "file":
-                file = text
+                file = said
             elif kind == "old":
-                old = text
+                old = said
             else:
-                self.pairs.append((file, old, text))
+                self.pairs.append((file, old, said))
 
     def own_text(self, file: str) -> str:
         """A file of the crate as it is."""
@@ -66,4 +66,4 @@ class Edit:
 def edits(folders: str) -> list[Edit]:
     """The edits of the folders that a pattern names, by their paths."""
     found = sorted(glob.glob(f"{ROOT}/{folders}/*.edit"))
-    return [Edit(os.path.relpath(it, ROOT)) for it in found]
+    return [Edit(path, text_of(path)) for path in (os.path.relpath(it, ROOT) for it in found)]

@@ -3,6 +3,7 @@
 The commands are those of docs/REFERENCE.md: a heading for each, and the first sentence below it.
 What is proved of a crate is the head of its lib.rt (or main.rt).
 """
+import functools
 import glob
 import os
 import re
@@ -19,7 +20,8 @@ CARRIERS = {
     "av_base": "Prot Flags Steps",
     "av_vma": "Areas index joinable can_lend",
     "av_text": "Bytes",
-    "av_trace": "parse_line one_meaning reply_text note_text answer_line one_reply",
+    "av_trace": "read_command reply_text note_text answer_line one_reply",
+    "av_line": "parse_line one_meaning",
     "av_frames": "Frames",
     "av_pagetable": "Table RadixTable Tables",
     "av_lru": "Lru",
@@ -122,7 +124,20 @@ def anchor_of(heading: str) -> str:
     return re.sub(r"[^\w -]", "", heading.lower()).replace(" ", "-")
 
 
-def commands_list() -> Iterator[str]:
+def contents(text: str) -> Iterator[str]:
+    """The sections of a document, each with those below it. (Of a command's the name alone stands
+    there.)
+    """
+    rows: list[list[str]] = []
+    for level, heading in re.findall(r"^(##|###) (.*)", text, re.M):
+        if level == "##":
+            rows.append([])
+        name = heading if level == "##" else re.sub(r" [A-Z\[].*", "", heading)
+        rows[-1].append(f"[{name}](#{anchor_of(heading)})")
+    yield "; ".join(": ".join([first, *([", ".join(rest)] if rest else [])]) for first, *rest in rows)
+
+
+def commands_list(_: str) -> Iterator[str]:
     """The commands, each with what it does in a sentence, and the way to its section."""
     reference = Reference()
     for form in reference.forms.values():
@@ -131,7 +146,7 @@ def commands_list() -> Iterator[str]:
         yield f"- [`{words}`]({place}): {reference.first_sentence(form.name)}"
 
 
-def crates_table() -> Iterator[str]:
+def crates_table(_: str) -> Iterator[str]:
     """What each crate is, and what carries what is proved of it."""
     yield "| Crate | What it is | Carried by |"
     yield "|---|---|---|"
@@ -160,7 +175,7 @@ def wrong_versions() -> Iterator[tuple[str, str, str, list[str]]]:
         yield topic, definition_at(file, old), os.path.basename(path), broken
 
 
-def examples_table() -> Iterator[str]:
+def examples_table(_: str) -> Iterator[str]:
     """The wrong definitions, by the definition that each is a version of."""
     yield "| Definition | Wrong version: the examples that break |"
     yield "|---|---|"
@@ -173,19 +188,32 @@ def examples_table() -> Iterator[str]:
         yield f"| `{topic}`: `{name}` | {'; '.join(versions)} |"
 
 
-# the parts of documents that are made: the name that stands in the marks around each
-PARTS = {"commands": commands_list, "crates": crates_table, "examples": examples_table}
+# the parts of documents that are made of their other text or of other files, each by the name that
+# stands in the marks around it
+PARTS = {
+    "contents": contents,
+    "commands": commands_list,
+    "crates": crates_table,
+    "examples": examples_table,
+}
+# the documents that begin with a list of their contents
+WITH_CONTENTS = ("DECISIONS", "DEFINITIONS", "LINUX", "MAP", "REFERENCE", "SWAP")
 MARKED = re.compile(r"(<!-- made: (\w+) -->\n).*?(<!-- end -->)", re.S)
 
 
 def with_parts(text: str) -> str:
     """A document with its made parts as they should be."""
-    return MARKED.sub(lambda it: it[1] + "\n".join(PARTS[it[2]]()) + "\n" + it[3], text)
+    return MARKED.sub(lambda it: it[1] + "\n".join(PARTS[it[2]](text)) + "\n" + it[3], text)
 
 
 def without_parts(text: str) -> str:
     """What is written by hand in a document."""
     return MARKED.sub("", text)
+
+
+def made_of(file: str) -> str:
+    """A document as it should be."""
+    return with_parts(text_of(file))
 
 
 def help_texts() -> list[str]:
@@ -205,9 +233,8 @@ def man_page() -> str:
 
 
 # each file that has something made in it, and what it should be
-FILES = {
-    "README.md": lambda: with_parts(text_of("README.md")),
-    "docs/PROVED.md": lambda: with_parts(text_of("docs/PROVED.md")),
-    "docs/EXAMPLES.md": lambda: with_parts(text_of("docs/EXAMPLES.md")),
-    "docs/avsim.1": man_page,
-}
+WITH_PARTS = [
+    "README.md",
+    *(f"docs/{it}.md" for it in ("PROVED", "EXAMPLES", *WITH_CONTENTS)),
+]
+FILES = {it: functools.partial(made_of, it) for it in WITH_PARTS} | {"docs/avsim.1": man_page}

@@ -4,8 +4,8 @@ import time
 
 
 class Progress:
-    """Says on standard error how far a program of this name is: on a terminal in one line that changes, elsewhere a
-    line now and then, from two seconds on.
+    """Says on standard error how far a program of this name is: on a terminal in one line that
+    changes, elsewhere a line now and then, from two seconds on.
     """
 
     def __init__(self, name: str):

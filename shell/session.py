@@ -153,8 +153,10 @@ class Session:
         self.again()
         return gone
 
-    def load(self, name: str) -> list[list[str]]:
-        """Does the lines of a file, each as a step of its own, and gives their replies."""
+    def load(self, name: str) -> list[tuple[int, str, list[str]]]:
+        """Does the lines of a file, each as a step of its own, and gives its commands: of each the
+        number of its line, the line, and the reply.
+        """
         try:
             with open(os.path.expanduser(name), "rb") as it:
                 data = it.read(MOST_LOADED + 1)
@@ -165,7 +167,9 @@ class Session:
         lines = data.split(b"\n")
         if not lines[-1]:
             lines.pop()
-        return self.do(*([it] for it in lines))
+        replies = self.do(*([it] for it in lines))
+        numbered = [it for it in enumerate(lines, 1) if not says_nothing(it[1])]
+        return [(at, it.decode("ascii"), reply) for (at, it), reply in zip(numbered, replies)]
 
     def machine(self) -> str:
         """The comment that asks for the machine of this session: its frames and its swap files.

@@ -13,12 +13,14 @@ from shared.saying import count_of
 from program import EarlyEnd, Refused, lines_from
 from reasons import WORDS_OF_TALK, fault_of, no_command, reason_of, printable
 from reference import Reference
-from session import BadLine, Session, Trouble, says_nothing
+from session import BadLine, Session, Trouble
 from show import lines_of_show, processes_in
 from small import lines_for, without_blanks
-from terminal import Completion, History, Screen, Names, is_terminal, set_up
+from terminal import Completion, History, Screen, Names, is_refusal, is_terminal, set_up
 
 PROMPT = "> "
+# refused commands of a loaded file that are shown
+MOST_REFUSED = 10
 OWN_WORDS = (
     "show [P] | view [FILE] | undo [N] | save FILE | load FILE | touch P A LEN | "
     "help [COMMAND] | quit"
@@ -139,15 +141,22 @@ class Talk:
         if len(words) != 1:
             raise Trouble("load has one word, the name of a file: load my.trace")
         try:
-            replies = self.session.load(words[0])
+            done = self.session.load(words[0])
         except BadLine as bad:
             raise Trouble(
                 f"{words[0]}, line {bad.at + 1}: {self.sentence_for(bad.line)}; nothing is loaded"
             ) from None
-        commands = [it for it in self.session.lines() if not says_nothing(it)]
-        for line, reply in zip(commands[-len(replies) :], replies):
-            self.remember(line.decode("ascii"), reply)
-        self.screen.own(f"loaded: {count_of(len(replies), 'command')} of {words[0]}")
+        for _, line, reply in done:
+            self.remember(line, reply)
+        refused = [it for it in done if is_refusal(it[2])]
+        were = f", of which {len(refused)} {'was' if len(refused) == 1 else 'were'} refused"
+        loaded = f"loaded: {count_of(len(done), 'command')} of {words[0]}"
+        self.screen.own(loaded + were * bool(refused))
+        for number, line, reply in refused[:MOST_REFUSED]:
+            self.screen.own(f"line {number}: {printable(line)}")
+            self.screen.reply(reply)
+        if len(refused) > MOST_REFUSED:
+            self.screen.own(f"and {len(refused) - MOST_REFUSED} more")
         asked = self.session.machine_asked()
         if asked and asked != self.session.machine():
             wanted = asked.removeprefix("# Run it with ").removesuffix(".")

@@ -34,6 +34,11 @@ def has_colours() -> bool:
     return sys.stdout.isatty() and not unwanted
 
 
+def is_refusal(reply: list[str]) -> bool:
+    """Whether a reply says that the command, or what is left of it, isn't done."""
+    return reply[0].split(" ")[0] in REFUSALS
+
+
 class Screen:
     """Writes lines, each with its colour."""
 
@@ -46,7 +51,7 @@ class Screen:
 
     def reply(self, lines: list[str]) -> None:
         """Writes a reply."""
-        self.show(lines[0], "bad" if lines[0].split(" ")[0] in REFUSALS else "good")
+        self.show(lines[0], "bad" if is_refusal(lines) else "good")
         for line in lines[1:]:
             self.show(line, "note")
 

@@ -23,7 +23,9 @@ from transcript import Step
 # sizes of one picture at most
 MOST_SIZES = 64
 # the picture, and its space for the axes
-WIDTH, HEIGHT, LEFT, RIGHT, TOP, BOTTOM = 640, 400, 70, 20, 50, 60
+WIDTH, HEIGHT, LEFT, RIGHT, TOP, BOTTOM = 640, 400, 70, 80, 50, 60
+# the names of lines are so far apart at least
+APART = 16
 # what is drawn: its column, and its colour
 LINES = (("faults", "#1864ab"), ("loaded", "#2a7f3b"), ("written", "#c2410c"))
 
@@ -120,13 +122,22 @@ def axes(title: str, across: Callable, up: Callable, most: tuple[int, int]) -> l
     return found
 
 
-def line_of(column: str, colour: str, at: int, points: list[tuple[float, float]]) -> list[str]:
-    """A column as a line, with a point for each size and its name at the right."""
+def beside(ends: list[float]) -> list[float]:
+    """How high the names of lines stand that end so high: beside them, and where the ends are near
+    each other, the upper one's above the other's.
+    """
+    places, below = [0.0] * len(ends), float("inf")
+    for at in sorted(range(len(ends)), key=lambda it: (-ends[it], -it)):
+        places[at] = below = min(ends[at], below - APART)
+    return places
+
+
+def line_of(column: str, colour: str, y: float, points: list[tuple[float, float]]) -> list[str]:
+    """A column as a line, with a point for each size and its name at the right, so high."""
     path = " ".join(f"{x:.1f},{y:.1f}" for x, y in points)
     found = [f'<polyline points="{path}" fill="none" stroke="{colour}" stroke-width="2"/>']
     found += [f'<circle cx="{x:.1f}" cy="{y:.1f}" r="3.5" fill="{colour}"/>' for x, y in points]
-    how = f' fill="{colour}" text-anchor="end"'
-    return [*found, text_at(WIDTH - RIGHT, TOP + 16 + 18 * at, column, how)]
+    return [*found, text_at(WIDTH - RIGHT + 10, y + 4, column, f' fill="{colour}"')]
 
 
 def svg_of(title: str, sizes: list[Size]) -> str:
@@ -135,9 +146,12 @@ def svg_of(title: str, sizes: list[Size]) -> str:
     across = lambda value: LEFT + value * (WIDTH - LEFT - RIGHT) / most[0]
     up = lambda value: HEIGHT - BOTTOM - value * (HEIGHT - BOTTOM - TOP) / most[1]
     parts = axes(title, across, up, most)
-    for at, (column, colour) in enumerate(LINES):
-        points = [(across(it.frames), up(min(getattr(it.sums, column), most[1]))) for it in sizes]
-        parts += line_of(column, colour, at, points)
+    points = [
+        [(across(it.frames), up(min(getattr(it.sums, column), most[1]))) for it in sizes]
+        for column, _ in LINES
+    ]
+    for line, y, their in zip(LINES, beside([it[-1][1] for it in points]), points):
+        parts += line_of(*line, y, their)
     return "\n".join(
         [
             f'<svg xmlns="http://www.w3.org/2000/svg" width="{WIDTH}" height="{HEIGHT}" '

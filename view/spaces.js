@@ -102,7 +102,7 @@ function rowElement(number, process, row, kind, isMarked) {
   const box = make("div", `row ${kind}${count > BIG_CELLS ? " long" : ""}`);
   box.append(make("span", "text", `${kind === "gone" ? "was " : ""}${row.text}`));
   const name = namesIn(number, row);
-  if (name) box.append(make("span", "name soft", name));
+  if (name) box.append(" ", make("span", "name soft", name));
   const isGone = kind === "gone";
   const codeAt = page =>
     (isGone && change.entries.get(keyOf(number, page))) || codeIn(process, page);

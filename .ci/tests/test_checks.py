@@ -30,6 +30,18 @@ def third():
 
 check.end()
 """
+NONE = """\
+import sys
+sys.path.insert(0, {folder!r})
+from common import Check
+check = Check("played", needs_program=False)
+
+@check.case
+def none():
+    check.expect_none("none", {things}, {tells}, 5)
+
+check.end()
+"""
 
 
 class Texts(unittest.TestCase):
@@ -83,6 +95,19 @@ class Cases(unittest.TestCase):
     def test_the_list(self) -> None:
         self.assertEqual(self.said_by("-l"), (
             0, "first - Goes on behind what fails.\nsecond - \nthird - \n"))
+
+
+    def test_a_blind_finder_fails(self) -> None:
+        """To find nothing passes only where there was something, and what is wrong is found."""
+        for things, tells, passes in (
+            ("[1, 2]", "lambda it: it > 2", True),
+            ("[1, 3]", "lambda it: it > 2", False),
+            ("[]", "lambda it: it > 2", False),
+            ("[1, 2]", "lambda it: False", False),
+        ):
+            code = NONE.format(folder=f"{ROOT}/.ci", things=things, tells=tells)
+            ran = subprocess.run([sys.executable, "-B", "-c", code], capture_output=True, text=True)
+            self.assertEqual(ran.returncode == 0, passes, ran.stdout + ran.stderr)
 
 
 if __name__ == "__main__":

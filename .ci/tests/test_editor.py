@@ -10,6 +10,7 @@ from shared import ROOT
 
 from reference import Reference
 from test_programs import programs
+from transcript import forms
 
 EDITOR = f"{ROOT}/tools/editor"
 # writes the names of what vim sees in each line of a file
@@ -40,8 +41,15 @@ TRACE = (
     ("frobnicate 1", "Name Number"),
     ("spawn  1", "Bad"),
     ("swapon 0 prio 5", "Command Number Way Number"),
+    ("merge", "Command"),
 )
-TRANSCRIPT = (("ok", "Done"), (" new 1 20000 0", "Note"), ("err ESRCH", "Refused"))
+TRANSCRIPT = (
+    ("ok", "Done"),
+    (" new 1 20000 0", "Note"),
+    (" share 0", "Note"),
+    ("err ESRCH", "Refused"),
+)
+FIRST = ["examples/first.trace", "examples/first.transcript"]
 # what a shell completes
 ASK = """
 . tools/editor/completion.bash
@@ -62,6 +70,11 @@ class Vim(unittest.TestCase):
         for form in Reference().forms.values():
             ways = {it for way in form.ways for it in way if it.islower()}
             self.assertEqual({form.name, *ways} - known, set())
+
+    def test_each_note_is_known(self) -> None:
+        with open(f"{EDITOR}/vim/syntax/avsimtranscript.vim", encoding="utf-8") as it:
+            known = re.search(r"avsimNote /\^ \\zs\\\((.*)\\\)\\>/", it.read())
+        self.assertEqual(set(known[1].split("\\|")), set(forms()))
 
     def seen(self, room: str, name: str, lines: list[str]) -> list[str]:
         """What vim sees in the lines of a file."""
@@ -104,14 +117,25 @@ class Completion(unittest.TestCase):
 
     def test_words(self) -> None:
         for words, wanted in (
-            (["./avsim", "t"], ["talk"]),
+            (["./avsim", "t"], ["talk", "test"]),
+            (["./avsim", "re"], ["replay"]),
             (["./avsim", "work", "-"], ["--help"]),
+            (["./avsim", "audit", "-"], ["--help"]),
+            (["./avsim", "check", "-"], ["--help"]),
+            (["./avsim", "check", "examples/first."], FIRST),
+            (["./avsim", "replay", "examples/first."], FIRST),
+            (["./avsim", "audit", "4", "examples/first."], FIRST),
+            (["./avsim", "test", "-"], ["--quick"]),
+            (["./avsim", "help", "mer"], ["merge"]),
             (["./avsim", "run", "4", "examples/les"], ["examples/lessons"]),
             (["tools/record", "--no"], ["--no-faults"]),
             (["view/run", "4", "examples/first.tracex"], []),
         ):
-            self.assertEqual(self.asked(*words), wanted)
+            self.assertEqual(sorted(self.asked(*words)), wanted)
         self.assertIn("--steps", self.asked("view/run", "-"))
+
+    def test_each_command_is_completed(self) -> None:
+        self.assertEqual(self.asked("./avsim", "help", ""), [*Reference().forms])
 
     def test_each_program_is_completed(self) -> None:
         with open(f"{EDITOR}/completion.bash", encoding="utf-8") as it:

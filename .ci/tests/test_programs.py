@@ -3,8 +3,10 @@ import ast
 import glob
 import os
 import re
+import shutil
 import subprocess
 import sys
+import tempfile
 import unittest
 
 from shared import ROOT
@@ -64,6 +66,28 @@ class Programs(unittest.TestCase):
             for file in glob.glob(f"{ROOT}/{folder}/*.py"):
                 with self.subTest(file), open(file, encoding="utf-8") as it:
                     ast.parse(it.read(), feature_version=(3, 10))
+
+    def test_what_they_share_is_one_file(self) -> None:
+        for folder in ("tools", "view", "shell", "bench", ".ci"):
+            file = f"{ROOT}/{folder}/shared.py"
+            self.assertEqual(os.path.realpath(file), os.path.realpath(f"{ROOT}/shared/__init__.py"))
+
+    def test_a_copy_is_as_good_as_a_link(self) -> None:
+        """As in an archive that has the files that links lead to."""
+        with tempfile.TemporaryDirectory() as room:
+            for folder in ("tools", "view", "shell", "shared"):
+                shutil.copytree(f"{ROOT}/{folder}", f"{room}/{folder}")
+            shutil.move(f"{room}/shared/meter.py", f"{room}/shared/meter.txt")
+            self.assertFalse(os.path.islink(f"{room}/view/shared.py"))
+            ran = subprocess.run(
+                [sys.executable, "-B", f"{room}/view/run", "--help"], capture_output=True, text=True
+            )
+            self.assertIn("No module named 'shared.meter'", ran.stderr)
+            shutil.move(f"{room}/shared/meter.txt", f"{room}/shared/meter.py")
+            ran = subprocess.run(
+                [sys.executable, "-B", f"{room}/view/run", "--help"], capture_output=True, text=True
+            )
+            self.assertEqual((ran.returncode, ran.stderr), (0, ""))
 
     def test_there_are_some(self) -> None:
         self.assertGreater(len(programs()), 8)

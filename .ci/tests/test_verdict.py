@@ -5,7 +5,8 @@ import os
 import tempfile
 import unittest
 
-from replies import Command, Reply, commands_in, difference, replies_in, rows_of, shown
+from replies import BLOCK, MOST_SHOWN, Command, Reply
+from replies import commands_in, difference, lines_in, replies_in, rows_of, shown
 from swapfile import PAGE, make
 from verdict import Told, copies_of, explain, fault_of, found_at, hint_of, joined, opened
 
@@ -48,6 +49,13 @@ class Cut(unittest.TestCase):
         for line in (b"x" * 200_000 + b"\n", b"x" * 65536 + b" y\n"):
             found = [it.lines for it in replies_in(io.BytesIO(line + b" a\nok\n"))]
             self.assertEqual(found, [[line, b" a\n"], [b"ok\n"]])
+            pieces = list(lines_in(io.BytesIO(line)))
+            self.assertEqual(b"".join(pieces), line)
+            self.assertLessEqual(max(map(len, pieces)), BLOCK)
+
+    def test_a_command_may_be_long(self) -> None:
+        line = b"write 1 20000 " + b"0" * (BLOCK - 20)
+        self.assertEqual(list(commands_in(io.BytesIO(line))), [Command(1, line, len(line))])
 
 
 class Joined(unittest.TestCase):
@@ -96,9 +104,13 @@ class Shown(unittest.TestCase):
         self.assertEqual(difference([b"ok"], [b"ok", b" a"]), 1)
         self.assertEqual(shown(b"ok\n"), "ok")
         self.assertLess(len(shown(b"x" * 100)), 73)
+        for at in (0, MOST_SHOWN - 1):
+            self.assertEqual(shown(b"x" * MOST_SHOWN + b"\n", at), "x" * MOST_SHOWN)
+        self.assertEqual(shown(b"x" * (MOST_SHOWN + 1)), "x" * (MOST_SHOWN - 3) + "..")
         line = b"data " + b"0" * 8000 + b"1\n"
         self.assertTrue(shown(line, 8005).startswith("..000"))
         self.assertTrue(shown(line, 8005).endswith("01"))
+        self.assertEqual(shown(line, 4000), ".." + "0" * (MOST_SHOWN - 3) + "..")
 
     def test_what_differs_is_marked(self) -> None:
         found = list(rows_of(Reply(7, [b"ok\n", b" a\n"]), [b"ok\n", b" b\n"], ">"))

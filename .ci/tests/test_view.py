@@ -24,6 +24,16 @@ class Marks(unittest.TestCase):
         found = [sizes.step_of(it) for it in (1, 8, 9, 17, 41, 80, 765, 16384)]
         self.assertEqual(found, [1, 1, 2, 5, 10, 10, 100, 5000])
 
+    def test_names_stand_beside_their_lines(self) -> None:
+        for ends, wanted in (
+            ([50.0, 200.0, 300.0], [50.0, 200.0, 300.0]),
+            ([300.0, 340.0, 340.0], [300.0, 324.0, 340.0]),
+            ([340.0, 340.0, 340.0], [308.0, 324.0, 340.0]),
+            ([330.0, 335.0, 340.0], [308.0, 324.0, 340.0]),
+            ([335.0, 330.0, 340.0], [324.0, 308.0, 340.0]),
+        ):
+            self.assertEqual(sizes.beside(ends), wanted)
+
 
 class Named(unittest.TestCase):
     """Names of processes and mappings."""
