@@ -1,8 +1,9 @@
 """Random traces for a real kernel: calls of a few processes that share pages, most of them good,
 over a few pages at three places, with what `maps`, `areas`, `entry` and `rmap` show behind them.
+Of another kind are those whose ranges end where addresses do.
 
 Called as `.ci/random_calls.py SEED` it prints the trace of a seed, whose comment says with which
-machine it is run. The same seed makes the same trace.
+machine it is run; with `ends` behind it that of the other kind. The same seed makes the same trace.
 """
 import random
 import sys
@@ -43,9 +44,30 @@ MACHINES = (
     "6 frames and a swap file of 12 pages and one of 9 pages",
 )
 
+# where ranges end that are tried by themselves, each with how far beside it they do
+ENDS, BESIDE = (TOP, TOP, 2**47, 2**63, 2**64, 2**64), (-PAGE, -1, 0, 0, 0, 1, PAGE)
+# a page that on-linux has no place for: who maps it goes another way from then on
+NO_PLACE = 0x380000000000
+KINDS_OF_ENDS = {
+    "mmap": 4,
+    "munmap": 3,
+    "mprotect": 5,
+    "mremap": 4,
+    "madvise": 8,
+    "mlock": 8,
+    "munlock": 6,
+    "write": 12,
+    "fork": 8,
+    "exit": 1,
+    "rmap": 12,
+    "leave": 2,
+}
+
 
 class Trace:
     """The lines of a trace, as they are drawn."""
+
+    kinds = KINDS
 
     def __init__(self, seed: int):
         self.pick, self.machine = random.Random(seed), MACHINES[seed % len(MACHINES)]
@@ -160,7 +182,7 @@ class Trace:
         yield f"# Random calls. Run it with {self.machine}."
         yield from (f"swapon {it}" for it in range(self.areas))
         yield from ("spawn 1", "mmap 1 57344 rw- fixed 20000", "mmap 1 8192 rw-")
-        kinds, weights = zip(*KINDS.items())
+        kinds, weights = zip(*self.kinds.items())
         for _ in range(count):
             kind = self.pick.choices(kinds, weights)[0]
             line = getattr(self, kind)()
@@ -173,10 +195,44 @@ class Trace:
             yield from (f"{it} {process} 20000" for it in ("rmap", "entry"))
 
 
+class Ends(Trace):
+    """Lines whose ranges end at TOP, at 2^64 and about there, and in the page that they begin in;
+    some processes leave for where the kernel isn't asked.
+    """
+
+    kinds = KINDS_OF_ENDS
+
+    def __init__(self, seed: int):
+        super().__init__(seed)
+        self.machine, self.areas = MACHINES[0], 0
+
+    def page(self) -> int:
+        return self.pick.choice([0x20000, TOP]) + PAGE * self.pick.choice([-3, -2, -1, -1, 0, 1])
+
+    def range(self) -> str:
+        at = self.page()
+        if self.pick.random() < 0.5:
+            return f"{at:x} {self.length()}"
+        return f"{at:x} {(self.pick.choice(ENDS) + self.pick.choice(BESIDE) - at) % 2**64}"
+
+    def lock_range(self) -> str:
+        at, length = self.range().split(" ")
+        within = self.pick.choice([0, 1, 4095])
+        return f"{int(at, 16) + within:x} {self.pick.choice([int(length), 1, PAGE - within])}"
+
+    def leave(self) -> str:
+        return f"mmap {self.process()} {PAGE} rw- fixed {NO_PLACE:x}"
+
+
 def trace_of(seed: int, count: int = 150) -> str:
     """The trace of a seed, with so many drawn lines and reports between."""
     return "".join(f"{it}\n" for it in Trace(seed).lines(count))
 
 
+def ends_of(seed: int, count: int = 100) -> str:
+    """That of a seed whose ranges end where addresses do."""
+    return "".join(f"{it}\n" for it in Ends(seed).lines(count))
+
+
 if __name__ == "__main__":
-    print(trace_of(int(sys.argv[1])), end="")
+    print((ends_of if "ends" in sys.argv[2:] else trace_of)(int(sys.argv[1])), end="")

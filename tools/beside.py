@@ -21,6 +21,7 @@ NO_FRAME = "the model has no frame for it, or its device failed"
 MERGED = "the model has merged pages, which Linux does in its own time"
 LIMIT = "the model has as many processes as it takes"
 LOST = "its process went another way before, in line {}"
+SHARED = "a process that went another way has the frame, too; the other entries are the same"
 CHANGES = "and other pages are mapped then"
 # commands that may have done a part where they are refused
 MIDWAY = ("mprotect", "madvise", "mlock", "munlock")
@@ -208,13 +209,22 @@ class Beside:
         model, in_part = [said, *asked.reply[1:]], "cached" in asked.entry
         for _ in range(TRIES if line.name in ("entry", "rmap") else 1):
             linux = self.kernel.answer(words, said)
-            if is_alike(words, model, linux, in_part):
+            rows = [self.rows_known(line, it) for it in (model, linux)]
+            if is_alike(words, *rows, in_part):
                 if words != line.words:
                     raise NotAsked(NO_FRAME)
+                if rows != [model, linux]:
+                    raise NotAsked(SHARED)
                 return None
         if line.name in ("mlock", "munlock", "madvise"):
             self.lost[line.process] = line.number
         return Difference(line, asked.reply, linux, self.row_of(line, model, linux))
+
+    def rows_known(self, line: Line, reply: list[str]) -> list[str]:
+        """A reply, of an `rmap` without the rows of processes that went another way."""
+        if line.name != "rmap":
+            return reply
+        return [reply[0], *(it for it in reply[1:] if it.split(" ")[0] not in self.lost)]
 
     def row_of(self, line: Line, model: list[str], linux: list[str]) -> Row | None:
         """The row by which a line was answered so."""

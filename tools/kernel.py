@@ -205,7 +205,7 @@ class Kernel:
         number, address, length = asked[:3]
         base = self.shift.base
         goes_on = number in (MPROTECT, MADVISE, MLOCK, MUNLOCK)
-        is_needed = goes_on and address < base < address + up(length)
+        is_needed = goes_on and address < base < up(address + length)
         if is_needed:
             process.call(MUNMAP, base, PAGE)
         yield

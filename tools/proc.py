@@ -39,6 +39,8 @@ def areas_of(pid: int, file: str = "maps") -> list[Area]:
     """The areas of a process, by rising address; with their flags where the file is smaps."""
     found: list[Area] = []
     for line in lines_of(pid, file):
+        if line[:1].isupper() and not line.startswith("VmFlags:"):
+            continue
         if row := ROW.fullmatch(line):
             start, end = int(row[1], 16), int(row[2], 16)
             found.append(Area(start, end, row[3], row[4] == "s", row[5]))

@@ -237,7 +237,7 @@ BOUNDS = Row(*check.ONE_PROTECTION, is_over_bounds, says_bounds, True)
 LOW_B = Row("mremap", "`EPERM`: B is below LOW", is_low_target, says_target, True)
 NO_LENGTH = Row("mlock, munlock", "LEN 0", is_off_page, says_one_page, True)
 WRAPS = Row("mlock, munlock", "LEN near 2^64", is_near_end, says_other, True)
-MORE = Row("mlock, munlock", "more than 16,384 pages", is_long, says_other)
+MORE = Row("mlock, munlock", "more than 16,384 pages", is_long, says_other, True)
 NO_ACCESS = Row(*check.NO_ACCESS, has_no_access, says_hole)
 CAREFULLY = {
     "mmap": (LOWEST, HINT, PLACE, LAST),
@@ -256,6 +256,12 @@ UNMOVED = Row("mremap", "old range after `dontunmap`")
 WRITABLE = Row("mlock, munlock", "a locked page becomes writable")
 ADDED = Row("mlock, munlock", "pages that `mremap` adds")
 UNLOCKED = Row("mlock, munlock", "`dontunmap` of locked pages")
+# ---- rows that notes show, when a kernel's own transcript is judged
+FORCED = Row("read, write", "write to a frame that a fork left to several")
+KEPT_SLOT = Row("A page comes back", "the slot is dropped")
+JOINS_MORE = Row("merge", "what is looked at")
+UNMERGED = Row("merge", "`unmergeable`")
+MOVED_MERGED = Row("merge", "a page that `mremap` moves")
 # all of them
 ROWS = {*CAREFULLY["mmap"], *CAREFULLY["mremap"], *CAREFULLY["mlock"]} | {
     KEYS, ACCOUNTING, LIMITED, ENTRIES, GROWTH, UNMOVED, WRITABLE, ADDED, UNLOCKED

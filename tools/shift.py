@@ -41,15 +41,21 @@ class Shift:
         return address - self.by if SPLIT < address < TOP else address
 
     def range_there(self, address: int, length: int) -> tuple[int, int]:
-        """A range, with its length there. One that ends above TOP does so there."""
-        start, pages = self.there(address), up(length)
-        if address + pages > TOP:
+        """A range, with its length there. Its last page counts as a whole, wherever it begins. One
+        that ends above TOP does so there, and one that ends at 2^64 or passes it, too.
+        """
+        start, end = self.there(address), up(address + length)
+        longer = length + self.by
+        if end > TOP:
             if self.is_wide:
                 raise NotAsked(WIDE)
-            return start, length if start + pages > TOP else length + self.by
+            is_short = start + end - address <= TOP
+            # (a length that, rounded up, is 2^64 is none)
+            passes = end >= 2**64 and up(address % PAGE + longer) < 2**64
+            return start, longer if start != address and (is_short or passes) else length
         if not length:
             return start, 0
-        return start, length + self.there(address + pages - 1) + 1 - start - pages
+        return start, length + self.there(end - 1) - start - (end - 1 - address)
 
     def here(self, address: int) -> int:
         """The address of the trace that is there on the kernel."""

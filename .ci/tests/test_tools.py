@@ -1,5 +1,6 @@
 """Unit tests of tools/."""
 import os
+import random
 import tempfile
 import unittest
 
@@ -232,6 +233,24 @@ class Shifts(unittest.TestCase):
         shift = Shift(TOP - (1 << 28))
         for at in (0, 0x10000, TOP - PAGE, TOP - 1):
             self.assertEqual(shift.here(shift.there(at)), at)
+
+    def test_ranges_end_as_asked(self) -> None:
+        """A range has the same pages there, and ends above TOP or at 2^64 where it did."""
+        shift, pick = Shift(TOP - (1 << 28)), random.Random(1)
+        for _ in range(2000):
+            at = pick.choice([0x20000, TOP, TOP]) - pick.randint(1, 3) * PAGE
+            at += pick.choice([0, 0, 1, PAGE - 1])
+            end = pick.choice([TOP, 2**47, 2**63, 2**64]) + pick.choice([-PAGE, -1, 0, 1, PAGE])
+            length = pick.choice([pick.randint(0, 3 * PAGE), (end - at) % 2**64])
+            start, there = shift.range_there(at, length)
+            last, last_there = up(at + length), up(start + there)
+            self.assertEqual(shift.base < last_there, TOP < last)
+            self.assertEqual(2**64 <= last_there, 2**64 <= last)
+            self.assertLess(there, 2**64)
+            if last <= TOP:
+                self.assertEqual(shift.end_here(last_there), last)
+            if last == 2**64:
+                self.assertEqual(last_there, last)
 
     def test_the_gap_has_no_place(self) -> None:
         shift = Shift(TOP - PAGE)

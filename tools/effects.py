@@ -1,0 +1,78 @@
+"""The row of docs/LINUX.md by which a reply of the kernel isn't legal: from its line, from what the
+line's process had before it, and from what the kernel shows.
+
+It is the row of `rows` where the first line of the reply is another one. Where it is the same, Linux
+did something that the notes show, or a question behind the line.
+"""
+from typing import NamedTuple
+
+from proc import Area
+from ranges import Range, Ranges
+from rows import ADDED, ENTRIES, FORCED, JOINS_MORE, KEPT_SLOT, MOVED_MERGED, UNLOCKED, UNMERGED
+from rows import WRITABLE, Line, Row, careful, row_of
+
+
+class Shown(NamedTuple):
+    """A reply that isn't legal, that to the line for whose sake it stands there, and the model's
+    replies to both.
+    """
+
+    told: "Told"
+    main: "Told"
+    model: list[str]
+    main_model: list[str]
+
+
+class LineBefore(Line):
+    """A line with the areas that its process had."""
+
+    def __init__(self, kernel, number: int, words: list[str], said: str, before: list[Area]):
+        super().__init__(kernel, number, words, said)
+        self.before = before
+        self.ranges = Ranges(Range(it.start, it.end, it.prot) for it in before)
+
+    def has(self, flag: str) -> bool:
+        """Whether a page that the line names is in an area with this flag."""
+        end = self.at + int(self.words[3])
+        return any(flag in it.flags and it.start < end and self.at < it.end for it in self.before)
+
+
+def notes_of(reply: list[str], kind: str) -> list[str]:
+    return [it for it in reply[1:] if it.startswith(f"{kind} ")]
+
+
+def row_for(telling, shown: Shown) -> Row | None:
+    """The row that explains a reply; None where none does."""
+    main, said = shown.main, shown.main_model[0]
+    line = LineBefore(telling.kernel, main.line, main.words, said, main.before)
+    linux = main.reply[0]
+    if shown.told is main and linux != said:
+        found = [it for it in careful(line) if it.says(line, linux)]
+        return found[0] if found else row_of(line, linux, False)
+    if linux == said and said.startswith("err "):
+        return next((it for it in careful(line) if it.changes), None)
+    return row_of_notes(telling, line, shown)
+
+
+def row_of_notes(telling, line: LineBefore, shown: Shown) -> Row | None:
+    """The row by which Linux did more than it says, or less."""
+    linux, model = shown.main.reply, shown.main_model
+    more = len(linux) > len(model)
+    match line.name:
+        case "mprotect" if more and "w" in line.words[4] and line.has("lo"):
+            return WRITABLE
+        case "mremap" if line.how == "dontunmap" and line.has("lo"):
+            return UNLOCKED
+        case "mremap" if more and line.new > line.old and line.has("lo"):
+            return ADDED
+        case "mremap" | "madvise" if notes_of(linux, "copy") and line.has("mg"):
+            return MOVED_MERGED if line.name == "mremap" else UNMERGED
+        case "write" if len(notes_of(model, "drop")) > len(notes_of(linux, "drop")):
+            return KEPT_SLOT
+        case "write" | "mlock" if len(notes_of(linux, "copy")) > len(notes_of(model, "copy")):
+            return FORCED if not telling.drains or telling.counts["not drained"] else None
+        case "merge" if line.number in telling.joined_more:
+            return JOINS_MORE
+        case "fork" if shown.told.reply == ["empty"] and shown.model == ["zero"]:
+            return ENTRIES
+    return None

@@ -1,0 +1,106 @@
+"""`merge` by the kernel's thread ksmd: what it did, as notes. Its settings are put back."""
+import contextlib
+import os
+import time
+from typing import Iterator
+
+from kernel import KSM
+from shift import NotAsked
+from swapping import locked_frames
+
+# a page is merged at the second scan that finds its bytes the same, so some are needed
+SCANS, PATIENCE = 5, 60
+SETTINGS = {"pages_to_scan": "10000", "sleep_millisecs": "1", "smart_scan": "0"}
+SETTINGS |= {"use_zero_pages": "0"}
+
+
+def get(name: str) -> str:
+    with open(f"{KSM}/{name}", encoding="ascii") as it:
+        return it.read().strip()
+
+
+def put(name: str, value: str) -> None:
+    with open(f"{KSM}/{name}", "w", encoding="ascii") as it:
+        it.write(value)
+
+
+@contextlib.contextmanager
+def settings() -> Iterator[None]:
+    """Has ksmd look at all pages at once, and puts its settings back."""
+    old = {it: get(it) for it in ("run", *SETTINGS) if os.path.exists(f"{KSM}/{it}")}
+    try:
+        for name in filter(old.__contains__, SETTINGS):
+            put(name, SETTINGS[name])
+        put("run", "0")
+        yield
+    finally:
+        for name, value in reversed(old.items()):
+            put(name, value)
+
+
+class Merging:
+    """Does `merge`."""
+
+    def scan(self) -> None:
+        """Has ksmd scan all pages some times."""
+        begin, until = int(get("full_scans")), time.monotonic() + PATIENCE
+        put("run", "1")
+        while int(get("full_scans")) < begin + SCANS:
+            if time.monotonic() > until:
+                raise NotAsked(f"ksmd didn't end {SCANS} scans in {PATIENCE} seconds")
+            time.sleep(0.01)
+        put("run", "0")
+
+    def take(self, telling, words: list[str]) -> None:
+        frames = telling.frames
+        merged = set(filter(frames.is_merged, frames.mapped()))
+        try:
+            self.scan()
+        finally:
+            put("run", "0")
+        after = telling.look()
+        others = locked_frames(telling) | set(frames.cached.values())
+        looked_at = {frames.numbers[it] for it in frames.mapped() if it not in others}
+        notes = self.notes(frames, merged, after)
+        if any(it not in looked_at for it in self.joined):
+            telling.joined_more.add(telling.line)
+        frames.now = after
+        frames.prune()
+        telling.add(words, ["ok", *notes])
+        for number in sorted(after, key=int):
+            telling.ask_pages(number, sorted(after[number]))
+
+    def notes(self, frames, merged: set[int], after) -> list[str]:
+        """The notes of what joined. A merged frame has the number of the first page that came to
+        it; one that moved meanwhile keeps its own.
+        """
+        notes, first, numbers = [], {}, dict(frames.numbers)
+        self.joined: set[int] = set()
+        shared = {it: frames.numbers[it] for it in merged}
+        for number in sorted(after, key=int):
+            for page, it in sorted(after[number].items()):
+                was = frames.now[number].get(page, 0)
+                if it <= 0 or was <= 0:
+                    continue
+                own = frames.numbers[was]
+                if not frames.is_merged(it):
+                    numbers[it] = own
+                elif it not in shared and first.setdefault(it, own) == own:
+                    numbers[it] = own
+                else:
+                    if it not in shared:
+                        shared[it] = first[it]
+                        notes.append(f"share {first[it]}")
+                    if own != shared[it]:
+                        notes.append(f"join {number} {page:x} {shared[it]}")
+                        self.joined |= {own, shared[it]}
+                    numbers[it] = shared[it]
+        for it in notes:
+            frames.counts[it.split(" ")[0]] += 1
+        frames.numbers = numbers
+        return notes
+
+
+def can_merge() -> bool:
+    """Whether ksmd can be told when to scan."""
+    return os.access(f"{KSM}/run", os.W_OK)

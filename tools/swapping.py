@@ -1,0 +1,198 @@
+"""`reclaim` by MADV_PAGEOUT, over a swap file that is on for so long: what went out, as notes.
+
+The definitions send out what wasn't seen, and no file shows that of a kernel. So each frame is read
+first and kept as one that was seen, all are aged, those that the kernel leaves where they are get
+read again, and the others go out: `reclaim N` is told as a reclaim of all, an age of all, those
+reads, the reclaim of N, and the end of its writes.
+"""
+import contextlib
+import ctypes
+import errno
+import os
+import tempfile
+import time
+from typing import Iterator
+
+from shared.saying import Refused
+
+import swapfile
+from frames import Cut, Frames, slot_text
+from looking import IN_SWAP_CACHE, WRITEBACK, slot_of
+from proc import Area
+from ranges import PAGE
+from shift import NotAsked
+from stubs import MADVISE
+
+PAGEOUT, PREFER, FIRST = 21, 0x8000, 32767
+# pages of the swap file, and how long the writes of a pass may take
+PAGES, PATIENCE = 4096, 20
+UNREADABLE = "no process can read one of its frames, which so can't be kept as seen"
+WAITS = "a frame that the swap cache alone has would be in the way"
+
+
+def libc_call(name: str, *of: object) -> None:
+    libc = ctypes.CDLL(None, use_errno=True)
+    if getattr(libc, name)(*of):
+        number = ctypes.get_errno()
+        raise Refused(f"{name}: {os.strerror(number)} ({errno.errorcode.get(number, number)})")
+
+
+@contextlib.contextmanager
+def area(folder: str | None = None) -> Iterator[str]:
+    """A swap file that is on, before all others; off and gone in the end."""
+    with tempfile.TemporaryDirectory(prefix="avsim-swap-", dir=folder) as room:
+        file = f"{room}/swap.img"
+        swapfile.make(file, PAGES)
+        os.chmod(file, 0o600)
+        with open(file, "r+b") as it:
+            # (a file with holes can't be a swap area)
+            it.seek(PAGE)
+            it.write(bytes((PAGES - 1) * PAGE))
+        name = file.encode()
+        libc_call("swapon", name, PREFER | FIRST)
+        try:
+            yield file
+        finally:
+            libc_call("swapoff", name)
+
+
+class Swapping:
+    """Does `reclaim`."""
+
+    def __init__(self) -> None:
+        # which of the kernel's areas the file is, once a page went out
+        self.kind = -1
+
+    @staticmethod
+    def begin() -> tuple[list[str], list[str]]:
+        """The line that turns the area on, which stands before all others, and its reply."""
+        return ["swapon", "0"], [f"on {PAGES - 1} 0"]
+
+    @staticmethod
+    def shown(frames: Frames, slot: int) -> str:
+        cached = frames.cached.get(slot)
+        return f"slot {slot_text(slot)}" + (f" cached {frames.numbers[cached]}" if cached else "")
+
+    def take(self, telling, words: list[str]) -> None:
+        frames: Frames = telling.frames
+        mapped = set(frames.mapped())
+        if set(frames.cached.values()) - mapped:
+            raise NotAsked(WAITS)
+        if not mapped:
+            telling.add(words, ["ok"])
+            return
+        locked = locked_frames(telling)
+        kept = {frames.numbers[it]: "locked" for it in locked}
+        kept = {frames.numbers[it]: "ksm" for it in mapped if frames.is_merged(it)} | kept
+        for frame in sorted(mapped):
+            touch(telling, frame)
+        order = [*frames.inactive, *frames.active]
+        last = order[-int(words[1]) :]
+        by_number = {number: frame for frame, number in frames.numbers.items()}
+        victims = {by_number[it] for it in last if it not in kept}
+        out = self.send_out(telling, victims, mapped)
+        self.tell_ages(telling, order, kept)
+        for frame in sorted(victims - set(out)):
+            touch(telling, frame)
+        self.tell(telling, list(reversed(last)), by_number, kept, out)
+
+    # ---- what the kernel does
+
+    def send_out(self, telling, victims: set[int], mapped: set[int]) -> dict[int, int]:
+        """Which frames went out, each with its slot."""
+        frames, shift = telling.frames, telling.kernel.shift
+        for number, stub in telling.kernel.live.items():
+            for page, it in sorted(frames.now[number].items()):
+                if it in victims:
+                    stub.call(MADVISE, shift.there(page), PAGE, PAGEOUT)
+        until, flags = time.monotonic() + PATIENCE, frames.looker.flags
+        while any(flags(it) & WRITEBACK for it in mapped) and time.monotonic() < until:
+            time.sleep(0.005)
+        self.after = telling.look()
+        pairs = [
+            (was, self.after[number].get(page, 0))
+            for number, entries in frames.now.items()
+            for page, was in entries.items()
+            if was > 0
+        ]
+        out = {was: it for was, it in pairs if it < 0}
+        for was, it in pairs:
+            if it != out.get(was, was):
+                raise Cut("a frame went out in part, or moved meanwhile")
+        if set(out) - victims:
+            raise Cut("a page went to swap by itself")
+        kinds = {slot_of(it)[0] for it in out.values()} | {self.kind} - {-1}
+        if len(kinds) > 1:
+            raise Cut("pages went to another swap area")
+        self.kind = max(kinds, default=-1)
+        return out
+
+    # ---- what is told of it
+
+    def tell_ages(self, telling, order: list[int], kept: dict[int, str]) -> None:
+        """All frames are kept, and age. (They were read, so that each counts as seen.)"""
+        frames = telling.frames
+        if frames.inactive:
+            notes = [f"keep {it} {kept.get(it, 'referenced')}" for it in frames.inactive[::-1]]
+            telling.add(["reclaim", f"{len(frames.inactive)}"], ["ok", *notes], True)
+        notes = [f"age {it}" for it in order[::-1]]
+        telling.add(["age", f"{len(order)}"], ["ok", *notes], True)
+        frames.active, frames.inactive = [], order
+
+    def tell(self, telling, last: list[int], by_number: dict[int, int], kept, out) -> None:
+        frames, notes, begun = telling.frames, ["ok"], []
+        still = {it for it in out if frames.looker.flags(it) & IN_SWAP_CACHE}
+        frames.counts["out"] += len(out)
+        frames.counts["freed at once"] += len(set(out) - still)
+        for it in last:
+            frame = by_number[it]
+            frames.inactive.remove(it)
+            if frame not in out:
+                notes.append(f"keep {it} {kept.get(it, 'referenced')}")
+                frames.active.insert(0, it)
+                continue
+            slot = out[frame]
+            notes += self.notes_out(frames, it, frame, slot)
+            frames.inactive.insert(0, it)
+            frames.cached[slot] = frame
+            begun.append((it, slot_text(slot)))
+        telling.add(["reclaim", f"{len(last)}"], notes)
+        frames.now = self.after
+        for it, _ in begun:
+            frames.inactive.remove(it)
+            frames.inactive.append(it)
+        if begun:
+            done = [f"done {slot}" for _, slot in begun]
+            telling.add(["complete", f"{len(begun)}"], ["ok", *done], True)
+        for number in sorted(self.after, key=int):
+            telling.ask_pages(number, sorted(self.after[number]))
+
+    def notes_out(self, frames: Frames, number: int, frame: int, slot: int) -> list[str]:
+        """How a frame goes out."""
+        was = next((it for it, of in frames.cached.items() if of == frame), 0)
+        if was:
+            raise Cut("a frame that the swap cache had went out again")
+        name = slot_text(slot)
+        return [f"put {number} {name}", f"unmap {number}", f"start {name}", f"keep {number} started"]
+
+
+def touch(telling, frame: int) -> None:
+    """Reads a byte of a frame, so that it was seen."""
+    for number, page in telling.frames.walk(frame):
+        words = ["read", number, f"{page:x}", "1"]
+        reply = telling.kernel.answer(words, "")
+        if reply[0].startswith("data "):
+            telling.add(words, reply, True)
+            return
+    raise NotAsked(UNREADABLE)
+
+
+def locked_frames(telling) -> set[int]:
+    """The frames of locked pages."""
+    found = set()
+    for number, stub in telling.kernel.live.items():
+        areas: list[Area] = telling.kernel.areas(stub, "smaps")
+        locked = [it for it in areas if "lo" in it.flags]
+        entries = telling.frames.now[number].items()
+        found |= {it for page, it in entries for of in locked if of.start <= page < of.end and it > 0}
+    return found
