@@ -75,6 +75,8 @@ impl Bytes {
     }
 
     /// Adds a piece at the end. Without memory all stays.
+    // What there is room for is copied in line: where the caller knows the piece's length that is a
+    // store or two, and no call.
     #[inline(always)]
     pub fn append(&mut self, piece: &[u8]) -> Result<(), AllocError>
         ensures ok { OnOk result (self.new ≡ self.old ++ piece.now) }

@@ -259,8 +259,8 @@ fn ten_pair(n: u32) -> (u8, u8)
     (TENS[at], TENS[at + 1])
 }
 
-/// Adds a number of at most four digits. Each length has its own copy, which the compiler makes
-/// without a call.
+/// Adds a number of at most four digits, as most are. A text of known length is copied without a
+/// call.
 #[inline(always)]
 fn add_short(text: &mut Bytes, n: u32) -> Result<(), AllocError>
     requires { n < 10000 }

@@ -1,4 +1,7 @@
 //! Notes: what happened to an entry, a frame or a slot.
+//!
+//! What makes a note's line is in line up to the function that adds all of a reply (`print.rt`):
+//! then the lengths of its words are known where they are copied.
 
 ghost use Rattle.std.specs.Prelude.{◌≡◌, List, [], ◌∷◌, ◌++◌, OnOk, OnErr};
 ghost use Rattle.std.specs.Fmt.{decimal as digits_of};
