@@ -13,7 +13,18 @@ from typing import Iterator
 from shared import ROOT
 
 from common import edit_of
-from reference import Reference
+from reference import Form, Reference
+
+# what the commands are about
+GROUPS = {
+    "processes": "spawn fork exit",
+    "mappings": "mmap munmap mprotect mremap",
+    "what pages are for": "madvise mlock munlock",
+    "bytes": "read write",
+    "reports": "maps areas rmap entry stat slot",
+    "swap": "swapon swapoff reclaim age complete",
+    "frames": "merge compact",
+}
 
 # the items of a crate whose contracts carry what its head says; a crate without an entry has none
 CARRIERS = {
@@ -138,12 +149,18 @@ def contents(text: str) -> Iterator[str]:
 
 
 def commands_list(_: str) -> Iterator[str]:
-    """The commands, each with what it does in a sentence, and the way to its section."""
-    reference = Reference()
-    for form in reference.forms.values():
-        words = " ".join([form.name, *form.kinds])
-        place = f"docs/REFERENCE.md#{anchor_of(form.heading)}"
-        yield f"- [`{words}`]({place}): {reference.first_sentence(form.name)}"
+    """The commands by what they are about, each with the way to its section."""
+    forms = dict(Reference().forms)
+    for group, names in GROUPS.items():
+        yield f"- {group}: {', '.join(link_to(forms.pop(it)) for it in names.split())}"
+    if forms:
+        yield f"- Others: {', '.join(map(link_to, forms.values()))}"
+
+
+def link_to(form: Form) -> str:
+    """A command with its words, and the way to its section."""
+    words = " ".join([form.name, *form.kinds])
+    return f"[`{words}`](docs/REFERENCE.md#{anchor_of(form.heading)})"
 
 
 def crates_table(_: str) -> Iterator[str]:

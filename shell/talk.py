@@ -1,17 +1,16 @@
 """`avsim talk FRAMES [SWAP..]`: a session at a prompt, which no mistyped line ends."""
 import os
 import re
-import shutil
 import signal
 import sys
 import tempfile
-import textwrap
 from typing import Iterator
 
 from shared.saying import count_of
 
+from helping import OWN_WORDS, lines_of_help
 from program import EarlyEnd, Refused, lines_from
-from reasons import WORDS_OF_TALK, fault_of, no_command, reason_of, printable
+from reasons import WORDS_OF_TALK, fault_of, no_command, reason_of
 from reference import Reference
 from session import BadLine, Session, Trouble
 from show import lines_of_show, processes_in
@@ -21,10 +20,6 @@ from terminal import Completion, History, Screen, Names, is_refusal, is_terminal
 PROMPT = "> "
 # refused commands of a loaded file that are shown
 MOST_REFUSED = 10
-OWN_WORDS = (
-    "show [P] | view [FILE] | undo [N] | save FILE | load FILE | touch P A LEN | "
-    "help [COMMAND] | quit"
-)
 
 
 class Talk:
@@ -179,29 +174,8 @@ class Talk:
 
     def help(self, words: list[str]) -> None:
         """`help`, `help COMMAND`: what the reference says."""
-        width = min(shutil.get_terminal_size().columns, 100) - 2
-        if not words:
-            self.screen.own("\n".join(self.overview(width)))
-            return
-        lines = self.reference.help(words[0], width) if len(words) == 1 else []
-        if not lines and words[0] in ("?", *WORDS_OF_TALK):
-            lines = self.reference.help("Talk", width)
-        if not lines:
-            name = printable(" ".join(words))
-            raise Trouble(f"help knows no command {name}; help alone lists them")
-        self.screen.own("\n".join(lines).rstrip("\n"))
-
-    def overview(self, width: int) -> Iterator[str]:
-        """A line for each command, and the words of the shell."""
-        for form in self.reference.forms.values():
-            yield form.heading
-            yield from textwrap.wrap(
-                self.reference.first_sentence(form.name),
-                width,
-                initial_indent="    ",
-                subsequent_indent="    ",
-            )
-        yield OWN_WORDS
+        own = [] if words else [OWN_WORDS]
+        self.screen.own("\n".join([*lines_of_help(self.reference, words), *own]))
 
 
 def fault_of_file(name: str) -> str:

@@ -1,4 +1,4 @@
-"""`avsim check TRACE TRANSCRIPT FRAMES [SWAP..]`: whether a transcript is legal for a trace, by
+"""`avsim check TRACE TRANSCRIPT [FRAMES [SWAP..]]`: whether a transcript is legal for a trace, by
 `avsim audit`; and where it isn't, the reply and its command, and what avsim itself answers there.
 """
 import collections
@@ -14,6 +14,7 @@ from typing import BinaryIO, Iterable, Iterator, NamedTuple
 from shared.saying import count_of, name_of
 
 from program import Refused, start, why_ended
+from replay import machine_in
 from replies import AROUND, BLOCK, Command, Reply
 from replies import commands_in, lines_in, replies_in, row, rows_before, rows_of, shown
 from swapfile import PAGE
@@ -237,14 +238,15 @@ def check(program: str, words: list[str]) -> int:
     """Tells whether a transcript is legal, and shows the first reply that isn't. The status is that
     of `avsim audit`.
     """
-    if len(words) < 3:
-        raise Refused("TRACE, TRANSCRIPT and FRAMES are wanted: avsim check TRACE TRANSCRIPT 4", 2)
+    if len(words) < 2:
+        raise Refused("TRACE and TRANSCRIPT are wanted: avsim check my.trace my.transcript", 2)
     if words[:2] == ["-", "-"]:
         raise Refused("one of TRACE and TRANSCRIPT may come on standard input, not both", 2)
     with contextlib.ExitStack() as stack:
         files = [opened(it, stack) for it in words[:2]]
         names = [name_of(it) for it in words[:2]]
-        machine = Machine(program, words[2:])
+        room = stack.enter_context(tempfile.TemporaryDirectory(prefix="avsim-check-"))
+        machine = Machine(program, words[2:] or machine_in(files[0], room))
         told = machine.audit(*files)
         if told.status == ILLEGAL:
             explain(told.number(), files, names, machine)

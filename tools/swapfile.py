@@ -8,6 +8,8 @@ import stat
 import struct
 from typing import Sequence
 
+from shared.saying import Refused
+
 PAGE = 4096
 # where the fields of the header stand, and the words that end its page
 VERSION, LAST, COUNT, BAD = 1024, 1028, 1032, 1536
@@ -150,3 +152,13 @@ def words_of(machine: Machine, room: str) -> list[str]:
     for file, area in zip(files, machine.areas):
         make(file, *area)
     return [machine.frames, *files]
+
+
+def words_by_head(trace: str, room: str) -> list[str]:
+    """The words behind `run` of the machine that a trace asks for, or of one with all the frames
+    that there can be. Its swap files are made in a folder.
+    """
+    try:
+        return words_for(trace, room) if asked_by(trace) else [str(MOST_FRAMES)]
+    except (OSError, Unfit) as why:
+        raise Refused(f"a swap file can't be made: {why}") from None

@@ -25,6 +25,9 @@ Description
   it writes a summary of the replies. With audit it reads the replies, too, and
   says whether they are legal.
 
+  The script avsim, which starts this program, has other words: build, test,
+  replay, talk, why, check and help.
+
 Command line
   SEED                   0 to 18446744073709551615; each number is a load
   LINES                  1 to 1000000 lines, behind the first ones
