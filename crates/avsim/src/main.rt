@@ -2,9 +2,9 @@
 //! any.
 //!
 //! Proved: which text the words ask for, by the status of a run the number with which the program
-//! ends and the failure that it prints, and at which lines of a load how many hundredths are due.
-//! The texts themselves are only tested, and that they reach standard output and standard error,
-//! and what real swap files hold.
+//! ends and the failure that it prints, and at which lines of a load how many hundredths are due;
+//! and that of standard output no call is made after one that failed. The texts themselves are only
+//! tested, and that they reach standard output and standard error, and what real swap files hold.
 //!
 //! Texts are kept in a buffer that is handed on before each read of standard input and at the end.
 //! So whoever drives the program line by line sees each reply at once, and a long trace doesn't
@@ -17,10 +17,12 @@ ghost use Rattle.av_replay.specs.Attach.{HasNone};
 mod failure;
 mod help;
 mod meter;
+mod output;
 
 use crate::failure::{Failure, exit_number};
 use crate::help::text_for;
 use crate::meter::Meter;
+use crate::output::UntilFailed;
 use av_io::{ReadSource, WriteSink};
 use av_replay::{Status, run};
 use av_swapdev::{FileDev, HostFiles, SwapDev};
@@ -72,7 +74,7 @@ fn run_program(rt: &HostRuntime) -> Status {
         return print_text(rt, text);
     }
     let mut source = ReadSource::new(rt.reader());
-    let Ok(mut sink) = WriteSink::new(rt.alloc(), io::writer(rt)) else {
+    let Ok(mut sink) = WriteSink::new(rt.alloc(), UntilFailed::new(io::writer(rt))) else {
         return Status::Memory;
     };
     let Ok(mut dev) = host_dev(rt) else {
