@@ -103,6 +103,14 @@ class Check:
         """Ends a case that can't be run here."""
         raise unittest.SkipTest(why)
 
+    def skip_unproved(self, why: str) -> None:
+        """Ends a case that a program of `rt try`, with all that this looks at as it runs, can't
+        do.
+        """
+        with open(self.program, "rb") as it:
+            if b"AddressSanitizer" in it.read():
+                self.skip(f"an unproved program {why}")
+
     def expect_none(
         self, what: str, things: Iterable[T], tells: Callable[[T], str | bool], wrong: T
     ) -> None:
