@@ -17,8 +17,8 @@ _avsim_words() {
   done < <(compgen -W "$1" -- "$2")
 }
 
-_avsim_commands="spawn fork exit mmap munmap mprotect mremap madvise mlock munlock read write maps areas
-  rmap entry stat swapon swapoff slot reclaim age complete merge compact"
+_avsim_commands="spawn fork exit mmap munmap mprotect mremap madvise mlock munlock read write maps
+  areas rmap entry stat swapon swapoff slot reclaim age complete merge compact"
 
 # The words of ./avsim, and behind one of them its --help, or what else stands there: files where a
 # trace, a transcript or a swap file may.
