@@ -145,7 +145,7 @@ def contents(text: str) -> Iterator[str]:
             rows.append([])
         name = heading if level == "##" else re.sub(r" [A-Z\[].*", "", heading)
         rows[-1].append(f"[{name}](#{anchor_of(heading)})")
-    yield "; ".join(": ".join([first, *([", ".join(rest)] if rest else [])]) for first, *rest in rows)
+    yield "; ".join(": ".join(filter(None, [first, ", ".join(it)])) for first, *it in rows)
 
 
 def commands_list(_: str) -> Iterator[str]:

@@ -10,7 +10,7 @@ from shared.saying import count_of
 
 from helping import OWN_WORDS, lines_of_help
 from program import EarlyEnd, Refused, lines_from
-from reasons import WORDS_OF_TALK, fault_of, no_command, reason_of
+from reasons import WORDS_OF_TALK, fault_of, no_command, printable, reason_of
 from reference import Reference
 from session import BadLine, Session, Trouble
 from show import lines_of_show, processes_in

@@ -122,6 +122,7 @@ class Completion(unittest.TestCase):
             (["./avsim", "work", "-"], ["--help"]),
             (["./avsim", "audit", "-"], ["--help"]),
             (["./avsim", "check", "-"], ["--help"]),
+            (["./avsim", "replay", "-"], ["--help"]),
             (["./avsim", "check", "examples/first."], FIRST),
             (["./avsim", "replay", "examples/first."], FIRST),
             (["./avsim", "audit", "4", "examples/first."], FIRST),
@@ -133,6 +134,13 @@ class Completion(unittest.TestCase):
         ):
             self.assertEqual(sorted(self.asked(*words)), wanted)
         self.assertIn("--steps", self.asked("view/run", "-"))
+
+    def test_each_word_is_completed(self) -> None:
+        """As the launcher itself lists them."""
+        with open(f"{ROOT}/avsim", encoding="utf-8") as it:
+            listed = re.search(r"a word is missing: (.*?)\n +;;", it.read(), re.S)
+        words = set(re.findall(r"-*[a-z]+", listed[1])) - {"or"}
+        self.assertEqual(set(self.asked("./avsim", "")), words)
 
     def test_each_command_is_completed(self) -> None:
         self.assertEqual(self.asked("./avsim", "help", ""), [*Reference().forms])

@@ -17,8 +17,8 @@ _avsim_words() {
   done < <(compgen -W "$1" -- "$2")
 }
 
-_avsim_commands="spawn fork exit mmap munmap mprotect mremap madvise mlock munlock read write maps areas
-  rmap entry stat swapon swapoff slot reclaim age complete merge compact"
+_avsim_commands="spawn fork exit mmap munmap mprotect mremap madvise mlock munlock read write maps
+  areas rmap entry stat swapon swapoff slot reclaim age complete merge compact"
 
 # The words of ./avsim, and behind one of them its --help, or what else stands there: files where a
 # trace, a transcript or a swap file may.
@@ -30,7 +30,7 @@ _avsim() {
       "$begun" ;;
     2:test:*) _avsim_words --quick "$begun" ;;
     2:help:*) _avsim_words "$_avsim_commands" "$begun" ;;
-    2:check:-* | 2:run:* | 2:work:* | 2:audit:* | 2:talk:* | 2:why:*)
+    2:check:-* | 2:replay:-* | 2:run:* | 2:work:* | 2:audit:* | 2:talk:* | 2:why:*)
       _avsim_words --help "$begun" ;;
     2:replay:* | [23]:check:* | [5-9]:check:* | 1[0-2]:check:*) _avsim_files "$begun" ;;
     [3-9]:run:* | 10:run:* | [3-9]:audit:* | 10:audit:* | [3-9]:talk:* | 10:talk:*)
