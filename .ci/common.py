@@ -17,6 +17,8 @@ from shared import ROOT
 
 import swapfile
 
+# the crates that have worked examples of definitions
+WITH_EXAMPLES = ("av_laws", "av_examples")
 # what a run ended with: status, standard output and standard error
 Ran = tuple[int, str, str]
 # what a check looks at
@@ -196,6 +198,13 @@ def edit_of(file: str) -> tuple[list[Change], dict[str, list[str]]]:
         else:
             others.setdefault(kind, []).append(text)
     return [(place, "\n".join(old), "\n".join(new)) for place, old, new in changes], others
+
+
+def file_of_definition(place: str) -> str:
+    """The file below crates/ that an edit of a definition names: one of `av_plain`, unless the name
+    begins with a crate's.
+    """
+    return place if place.startswith("av_") else f"av_plain/{place}"
 
 
 class Session:

@@ -12,7 +12,7 @@ from typing import Iterator
 
 from shared import ROOT
 
-from common import edit_of
+from common import edit_of, file_of_definition
 from reference import Form, Reference
 
 # what the commands are about
@@ -174,8 +174,8 @@ def crates_table(_: str) -> Iterator[str]:
 
 
 def definition_at(file: str, text: str) -> str:
-    """The name of the definition of `av_plain` that a text stands in."""
-    code = text_of(f"crates/av_plain/{file}")
+    """The name of the definition that a text stands in."""
+    code = text_of(f"crates/{file_of_definition(file)}")
     behind = code[: code.index(text) + len(text)]
     names = re.findall(r"^(?:(?:abbrev|pub|record|data) )*(?!use\b|mod\b)(\w+)\b", behind, re.M)
     return names[-1] if names else ""

@@ -1,0 +1,9 @@
+pub mod Areas
+pub mod Flags
+pub mod Frames
+pub mod History
+pub mod Locks
+pub mod Merging
+pub mod Texts
+pub mod Views
+pub mod Words
