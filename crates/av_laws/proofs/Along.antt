@@ -1,5 +1,5 @@
 -- In a compaction the entries of a frame go along with it.
-use Rattle.std.proofs.Common.{◌≡◌, ℕ, Bool, true, List, [], ◌∷◌, ◌++◌, Option, Some, None, IsSomeAnd, option_map, refl, sym, ap, subst, ◌∙◌}
+use Rattle.std.proofs.Common.{◌≡◌, ℕ, true, List, [], ◌∷◌, ◌++◌, Option, Some, None, IsSomeAnd, option_map, refl, sym, ap, subst, ◌∙◌}
 use Rattle.std.proofs.lemmas.Bool.{eq-eqb, eqb-true}
 use Rattle.av_base.specs.Keys.{Key}
 use Rattle.av_base.specs.Words.{renamed}
@@ -10,7 +10,8 @@ use Rattle.av_trace.specs.declared.reply.Reply.{Reply}
 use Rattle.av_plain.specs.Compact.{MovesDown}
 use Rattle.av_plain.specs.Event.{Event, FreeSorted, after_all, after_note, after_notes, note_events, notes_of, placed_entry}
 use Rattle.av_plain.specs.Ledger.{Entry, InFrame, InSlot, Ledger, Setting, Zero, entry, names_frame}
-use Rattle.av_plain.specs.Transcript.{IsStep, State}
+use Rattle.av_plain.specs.Step.{IsLegal}
+use Rattle.av_plain.specs.World.{World}
 use Rattle.av_plain.proofs.Event.{entry-renamed}
 use Rattle.av_plain.proofs.Sound.Frames.{IsMove, move-is}
 use Rattle.av_laws.specs.Locked.{frame_after}
@@ -48,12 +49,11 @@ told : (notes : List Note) → notes_of (note_events notes ++ FreeSorted ∷ [])
 told [] = refl
 told (note ∷ notes) = ap (λ ns. note ∷ ns) (told notes)
 
-pub compact-along : (m : Setting) (old new : State) (reply : Reply) (k : Key) (f : ℕ) → IsStep m old Compact reply new
-    → Names old.ledger k f → Names new.ledger k (frame_after reply.notes f)
-compact-along m old new reply k f step h =
-    let done = step.legal.answer in
-    let notes : reply.notes ≡ done.0 = step.legal.notes ∙ ap notes_of done.2 ∙ told done.0 in
-    let ledger : new.ledger ≡ after_notes old.ledger done.0 = step.ledger ∙ ap (after_all old.ledger) done.2 ∙ sorted_free old.ledger done.0 in
-    subst (λ l. Names l k (frame_after reply.notes f)) (sym ledger)
-    (subst (λ ns. Names (after_notes old.ledger done.0) k (frame_after ns f)) (sym notes)
-    (go_along m old.ledger done.0 k f done.1 h))
+pub compact-along : (m : Setting) (w : World) (l : Ledger) (reply : Reply) (es : List Event) (k : Key) (f : ℕ) → IsLegal m w l Compact reply es
+    → Names l k f → Names (after_all l es) k (frame_after reply.notes f)
+compact-along m w l reply es k f legal h =
+    let done = legal.answer in
+    let notes : reply.notes ≡ done.0 = legal.notes ∙ ap notes_of done.2 ∙ told done.0 in
+    let ledger : after_all l es ≡ after_notes l done.0 = ap (after_all l) done.2 ∙ sorted_free l done.0 in
+    subst (λ now. Names now k (frame_after reply.notes f)) (sym ledger)
+    (subst (λ ns. Names (after_notes l done.0) k (frame_after ns f)) (sym notes) (go_along m l done.0 k f done.1 h))

@@ -34,10 +34,9 @@ use Rattle.av_plain.specs.Mremap.{events_to, range_zaps}
 use Rattle.av_plain.specs.Pass.{Completes, IsPass, IsSlotFor, Seeks, Spared, TakesFor, Turns, end_note, end_notes, frames_in_turn, has_turn, is_dirty, is_pinned, is_spared, is_stuck, stays_cached, turn_notes, unmap_notes}
 use Rattle.av_plain.specs.Reclaim.{Outcome, Outcomes, cause_of, from_tail, is_in_writeback, is_referenced, leave_notes}
 use Rattle.av_plain.specs.Refusal.{Refuses, refusal, tests}
-use Rattle.av_plain.specs.Step.{Follows}
+use Rattle.av_plain.specs.Step.{Follows, IsLegal}
 use Rattle.av_plain.specs.Swapoff.{Close, Closed, Empties, EndsAt, IsEmptied, NoRoom, Unread, map_notes, sparing_area, turn_off_events}
 use Rattle.av_plain.specs.Swapon.{turn_on_events}
-use Rattle.av_plain.specs.Transcript.{IsStep, State}
 use Rattle.av_plain.specs.World.{World, is_locked_page, pages, pages_to_hole}
 use Rattle.av_plain.specs.Zap.{keys_in, keys_of_process, orphan_drop, slot_behind_key, zap_of, zaps_of}
 use Rattle.av_plain.proofs.Event.{to_slot, to_unseen}
@@ -644,17 +643,16 @@ compact-spares : (m : Setting) (w : World) (l : Ledger) (command : Command) (es 
 compact-spares m w l Compact es answer rows is h = subst (AllSpareLocked w l) (sym h.2) (spare-moves m w l l h.0 h.1)
 compact-spares m w l command es answer rows is h = cc
 
-pub step-spares : (m : Setting) (old new : State) (command : Command) (reply : Reply) (h : IsStep m old command reply new)
-    → AllSpareLocked (memories_in old.world command) old.ledger h.events
-step-spares m old new command reply h = by (refusal (tests m old.world old.ledger command)) h.legal.answer
+pub legal-spares : (m : Setting) (w : World) (l : Ledger) (command : Command) (reply : Reply) (es : List Event) → IsLegal m w l command reply es
+    → AllSpareLocked (memories_in w command) l es
+legal-spares m w l command reply es h = by (refusal (tests m w l command)) h.answer
   where
-    follows : (b : Bool) → moves_frames command ≡ b → Follows m old.world old.ledger command h.events reply.answer reply.rows
-        → AllSpareLocked (memories_in old.world command) old.ledger h.events
-    follows true is x = compact-spares m old.world old.ledger command h.events reply.answer reply.rows is x
-    follows false is x = spare-less (memories_in old.world command) old.ledger h.events
-        (spare-follows m old.world old.ledger command h.events reply.answer reply.rows is x)
+    follows : (b : Bool) → moves_frames command ≡ b → Follows m w l command es reply.answer reply.rows
+        → AllSpareLocked (memories_in w command) l es
+    follows true is x = compact-spares m w l command es reply.answer reply.rows is x
+    follows false is x = spare-less (memories_in w command) l es (spare-follows m w l command es reply.answer reply.rows is x)
 
-    by : (o : Option Errno) → MatchOption o (Follows m old.world old.ledger command h.events reply.answer reply.rows)
-        (λ error. Refuses error h.events reply.answer reply.rows) → AllSpareLocked (memories_in old.world command) old.ledger h.events
+    by : (o : Option Errno) → MatchOption o (Follows m w l command es reply.answer reply.rows) (λ error. Refuses error es reply.answer reply.rows)
+        → AllSpareLocked (memories_in w command) l es
     by None x = follows (moves_frames command) refl x
-    by (Some error) x = subst (AllSpareLocked (memories_in old.world command) old.ledger) (sym x.1) tt
+    by (Some error) x = subst (AllSpareLocked (memories_in w command) l) (sym x.1) tt

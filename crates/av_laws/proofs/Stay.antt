@@ -39,10 +39,9 @@ use Rattle.av_plain.specs.Pass.{TakesFor}
 use Rattle.av_plain.specs.Reclaim.{from_tail}
 use Rattle.av_plain.specs.Refusal.{Refuses, refusal, tests}
 use Rattle.av_plain.specs.Sound.{AllSound, count}
-use Rattle.av_plain.specs.Step.{Follows}
+use Rattle.av_plain.specs.Step.{Follows, IsLegal}
 use Rattle.av_plain.specs.Swapoff.{Close, Closed, Empties, EndsAt, IsEmptied, NoRoom, Unread, map_notes, sparing_area, turn_off_events}
 use Rattle.av_plain.specs.Swapon.{turn_on_events}
-use Rattle.av_plain.specs.Transcript.{IsStep, State}
 use Rattle.av_plain.specs.World.{Process, World, is_locked_page, pages, pages_to_hole, pages_to_locked}
 use Rattle.av_plain.specs.Zap.{keys_in, keys_of_process, zaps_of}
 use Rattle.av_plain.proofs.Access.{after_all-append, after_notes-append, note_events-all, notes_of-append, notes_of-note_events}
@@ -654,17 +653,15 @@ module _ (m : Setting) (w : World) (l : Ledger) (s : AllSound m w l) (k : Key) (
   follows-stays (AsksSlot a page) es answer rows fine x locked keeps still uncopied h = at-events es [] x.1 h
   follows-stays Stat es answer rows fine x locked keeps still uncopied h = at-events es [] x.1 h
 
-pub step-stays : (m : Setting) (old new : State) (command : Command) (reply : Reply) (k : Key) (f : ℕ) → AllSound m old.world old.ledger
-    → IsStep m old command reply new → is_locked_page (pages (memories_in old.world command) k.0 k.1) ≡ true
+pub legal-stays : (m : Setting) (w : World) (l : Ledger) (command : Command) (reply : Reply) (es : List Event) (k : Key) (f : ℕ) → AllSound m w l
+    → IsLegal m w l command reply es → is_locked_page (pages (memories_in w command) k.0 k.1) ≡ true
     → takes_pages_of k.0 command ≡ false → moves_frames command ≡ false → list_any (is_copy_of k) reply.notes ≡ false
-    → IsSomeAnd (entry old.ledger k) (λ e. names_frame f e ≡ true) → IsSomeAnd (entry new.ledger k) (λ e. names_frame f e ≡ true)
-step-stays m old new command reply k f s h locked keeps still uncopied here =
-    subst (λ l. IsSomeAnd (entry l k) (λ e. names_frame f e ≡ true)) (sym h.ledger) (by (refusal (tests m old.world old.ledger command)) refl h.legal.answer)
+    → IsSomeAnd (entry l k) (λ e. names_frame f e ≡ true) → IsSomeAnd (entry (after_all l es) k) (λ e. names_frame f e ≡ true)
+legal-stays m w l command reply es k f s h locked keeps still uncopied here = by (refusal (tests m w l command)) refl h.answer
   where
-    by : (o : Option Errno) → refusal (tests m old.world old.ledger command) ≡ o
-        → MatchOption o (Follows m old.world old.ledger command h.events reply.answer reply.rows)
-        (λ error. Refuses error h.events reply.answer reply.rows)
-        → IsSomeAnd (entry (after_all old.ledger h.events) k) (λ e. names_frame f e ≡ true)
-    by None fine x = follows-stays m old.world old.ledger s k f command h.events reply.answer reply.rows fine x locked keeps still
-        (sym (ap (list_any (is_copy_of k)) h.legal.notes) ∙ uncopied) here
-    by (Some error) fine x = subst (λ es. IsSomeAnd (entry (after_all old.ledger es) k) (λ e. names_frame f e ≡ true)) (sym x.1) here
+    by : (o : Option Errno) → refusal (tests m w l command) ≡ o
+        → MatchOption o (Follows m w l command es reply.answer reply.rows) (λ error. Refuses error es reply.answer reply.rows)
+        → IsSomeAnd (entry (after_all l es) k) (λ e. names_frame f e ≡ true)
+    by None fine x = follows-stays m w l s k f command es reply.answer reply.rows fine x locked keeps still
+        (sym (ap (list_any (is_copy_of k)) h.notes) ∙ uncopied) here
+    by (Some error) fine x = subst (λ es. IsSomeAnd (entry (after_all l es) k) (λ e. names_frame f e ≡ true)) (sym x.1) here
