@@ -1,14 +1,16 @@
 //! What an auditor keeps, and what it answers.
 
-ghost use Rattle.std.specs.Prelude.{◌≡◌, [], IfOk, IsErr, OnErr};
+ghost use Rattle.std.specs.Prelude.{◌≡◌, ◌<◌, ◌≤◌, ◌^◌, [], length, IfOk, IsErr, OnErr};
 ghost use Rattle.av_plain.specs.Ledger.{Ledger, first_ledger};
 ghost use Rattle.av_plain.specs.World.{World};
 ghost use Rattle.av_audit_book.specs.Machine.{setting_of};
+ghost use Rattle.av_audit_machine.specs.FirstPages.{setting_by};
 ghost use Rattle.av_audit.specs.Judge.{IsAt, IsRight, machine_of, phase_of, verdict_of};
 ghost use Rattle.av_audit.specs.Swap.{FitsWords};
 
 use crate::units::is_legal;
 use av_audit_book::{Book, Machine};
+use av_audit_machine::{Head, machine_of_heads};
 use av_audit_world::Memories;
 use av_trace::Command;
 use std::alloc::{AllocError, Global};
@@ -51,8 +53,23 @@ fn to_verdict(legal: bool) -> Verdict
 }
 
 impl Auditor {
-    /// No process lives, and no frame or slot is used.
-    pub fn new(alloc: Global, machine: Machine) -> Auditor
+    /// At the first state of a machine of so many frames with these swap areas: no process lives,
+    /// and no frame or slot is used.
+    pub fn new(alloc: Global, frames: u32, heads: &[Head<'_>]) -> Result<Auditor, AllocError>
+        requires some { 0 < frames }
+        requires few { length heads.now ≤ 2 ^ 8 }
+        ensures setting { IfOk result (λ auditor.
+            setting_of (machine_of auditor) ≡ setting_by frames heads.now) }
+        ensures words { IfOk result (λ auditor. FitsWords (machine_of auditor)) }
+        ensures going { IfOk result (λ auditor. phase_of auditor ≡ Phase.Going) }
+        ensures first { IfOk result (λ auditor. IsAt auditor [] first_ledger) }
+    {
+        let machine = machine_of_heads(alloc, frames, heads)?;
+        Ok(Auditor::of_machine(alloc, machine))
+    }
+
+    /// At the first state of this machine.
+    pub fn of_machine(alloc: Global, machine: Machine) -> Auditor
         ensures going { phase_of result ≡ Phase.Going }
         ensures first { IsAt result [] first_ledger }
         ensures machine { machine_of result ≡ machine }

@@ -1,10 +1,9 @@
 -- The swap areas of a machine, by what page 0 of each says.
-use Rattle.std.proofs.Common.{◌≡◌, ℕ, zero, suc, ◌+◌, ◌<◌, ◌≤◌, ◌^◌, min, nat_lt, Bool, true, false, cond, ◌==◌, List, [], ◌∷◌, ◌++◌, length, get_or, Option}
+use Rattle.std.proofs.Common.{◌≡◌, ℕ, zero, suc, ◌+◌, ◌<◌, ◌≤◌, ◌^◌, nat_lt, Bool, true, false, cond, ◌==◌, List, [], ◌∷◌, ◌++◌, length, get_or, Option}
 use Rattle.std.proofs.Common.{Some, None, refl, sym, ap, subst, ◌∙◌, arith}
 use Rattle.std.proofs.lemmas.Bool.Decides.{nat_tests}
 use Rattle.std.specs.Prelude.{IfSome, Result, Err, Ok, codes, nat_eq, option_map, option_and_then, slice_get, unwrap_or}
 use Rattle.std.specs.List.{AllByRecursion, ends_with, list_any}
-use Rattle.av_swapdev.specs.Device.{most_pages}
 use Rattle.av_swapdev.specs.Header.{AddsUp, Layout as PlainLayout, all_named, answer_of, area_pages, bad_count, header_of, in_numbers, is_out, last_page}
 use Rattle.av_swapdev.specs.Header.{layout_of as layout_by, most_bad, order_of, read_by, read_in, with_slots}
 use Rattle.av_swapdev.specs.declared.header.Order.{Order}
@@ -12,7 +11,6 @@ use Rattle.av_swapdev.specs.declared.header.Header.{Header}
 use Rattle.av_swapdev.specs.declared.header.HeaderErr.{HeaderErr}
 use Rattle.av_swapdev.specs.declared.header.HeaderErr.TheVariants.{BadPage, LastPage, Short, Signature, TooManyBad}
 use Rattle.av_plain.specs.Device.{Device, setting_of, without_fault}
-use Rattle.av_plain.specs.Ledger.{size_of}
 use Rattle.av_audit_book.specs.Machine.{AreNamed, layout_of, setting_of as setting_of_machine}
 use Rattle.av_audit_book.specs.declared.machine.Head.{Head}
 use Rattle.av_audit_book.specs.declared.machine.Layout.{Layout}
@@ -161,18 +159,19 @@ machine-is frames d sizes machine count attached heads = by d.pages refl heads
           headers-told told 0 sizes machine.heads.items h k ∙ ap (λ a. header_by (slice_get sizes k) (told a 0)) here),
     )
 
-size-named : (sizes : List ℕ) → AllByRecursion (λ n. n ≤ most_pages) sizes → (k : ℕ) → 0 < unwrap_or (slice_get sizes k) 0
-    → (k < length sizes) × (unwrap_or (slice_get sizes k) 0 ≤ most_pages)
-size-named [] small k some = absurd (let never : 0 < 0 = some in omega (arith, never))
-size-named (s ∷ sizes) small zero some = (omega arith, small.0)
-size-named (s ∷ sizes) small (suc k) some = let h = size-named sizes small.1 k some in (omega (arith, h.0), h.1)
+size-named : (sizes : List ℕ) (most : ℕ) → AllByRecursion (λ n. n ≤ most) sizes → (k : ℕ) → 0 < unwrap_or (slice_get sizes k) 0
+    → (k < length sizes) × (unwrap_or (slice_get sizes k) 0 ≤ most)
+size-named [] most small k some = absurd (let never : 0 < 0 = some in omega (arith, never))
+size-named (s ∷ sizes) most small zero some = (omega arith, small.0)
+size-named (s ∷ sizes) most small (suc k) some = let h = size-named sizes most small.1 k some in (omega (arith, h.0), h.1)
 
-pub machine-named : (pages : Option (ℕ → ℕ → List ℕ)) (sizes : List ℕ) (machine : Machine) → length sizes ≤ 8
-    → AllByRecursion (λ n. n ≤ most_pages) sizes → AreHeads pages 0 sizes machine.heads.items → AreNamed (setting_of_machine machine)
-machine-named pages sizes machine few small h k some =
+pub machine-named : (pages : Option (ℕ → ℕ → List ℕ)) (sizes : List ℕ) (machine : Machine) (most : ℕ) → most ≤ 2 ^ 32
+    → length sizes ≤ 2 ^ 8 → AllByRecursion (λ n. n ≤ most) sizes → AreHeads pages 0 sizes machine.heads.items
+    → AreNamed (setting_of_machine machine)
+machine-named pages sizes machine most fits few small h k some =
     let is = ap (λ o. unwrap_or o 0) (sizes-are pages 0 sizes machine.heads.items h k) in
-    let named = size-named sizes small k (subst (λ n. 0 < n) is some) in
-    (omega (arith, named.0, few), subst (λ n. n ≤ 2 ^ 32) (sym is) (omega (arith, named.1)))
+    let named = size-named sizes most small k (subst (λ n. 0 < n) is some) in
+    (omega (arith, named.0, few), subst (λ n. n ≤ 2 ^ 32) (sym is) (omega (arith, named.1, fits)))
 
 -- a page with a fault
 pub fault-nothing : (read : Result PlainLayout HeaderErr) (fault : HeaderErr) → Err fault ≡ answer_of read → None ≡ without_fault read

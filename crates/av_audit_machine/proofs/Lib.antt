@@ -1,1 +1,2 @@
+pub mod FirstPageLaws
 pub mod HeadLaws

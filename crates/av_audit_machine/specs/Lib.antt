@@ -1,1 +1,2 @@
+pub mod FirstPages
 pub mod Heads

@@ -33,7 +33,7 @@ impl From<AllocError> for MachineErr {
 }
 
 /// What a page 0 says of an area with so many pages, if it has no fault.
-fn layout_in(alloc: Global, page: &[u8], size: u32) -> Result<Option<Layout>, AllocError>
+pub fn layout_in(alloc: Global, page: &[u8], size: u32) -> Result<Option<Layout>, AllocError>
     requires { length page.now ≡ page_size }
     ensures layout { IfOk result (IsLayoutIn page.now size) }
     ensures counted { IfOk result IsCounted }

@@ -115,7 +115,7 @@ pub fn audit<P: Ports>(alloc: Global, machine: Machine, ports: &mut P) -> Result
     let mut pending = Pending::new(alloc)?;
     let mut script = Script::new(alloc);
     let ended = read_trace(alloc, ports, &mut pending, &mut script)?;
-    let mut auditor = Auditor::new(alloc, machine);
+    let mut auditor = Auditor::of_machine(alloc, machine);
     let mut unit = Vec::new(alloc);
     judge_all(
         alloc,

@@ -41,7 +41,7 @@ fn refuse_words(error: WordsErr) -> Outcome
 /// areas, if there are some. The device has none before.
 ///
 /// `audit` reads a trace, the line `%%` and a transcript, and judges that by the definitions alone,
-/// over areas of which only page 0 is read: `legal` is written where it is, and else the status
+/// over areas of which sizes and page 0 decide: `legal` is written where it is, and else the status
 /// tells the first reply that isn't.
 ///
 /// `work` reads nothing. It makes its lines from the seed, each when it is done, writes none of

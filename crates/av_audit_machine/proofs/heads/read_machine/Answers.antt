@@ -1,8 +1,9 @@
-use Rattle.std.proofs.Common.{◌≡◌, ℕ, ◌+◌, ◌≤◌, ◌++◌, ◌∷◌, [], List, length, length-take-le, take, drop, drop-cons, get_or, refl, sym, ap, subst, ◌∙◌, arith}
+use Rattle.std.proofs.Common.{◌≡◌, ◌+◌, ◌++◌, ◌∷◌, [], length, length-take-le, take, drop-cons, get_or, refl, sym, ap, subst, ◌∙◌, arith}
 use Rattle.std.proofs.Common.{take-add, take_all}
 use Rattle.std.specs.Prelude.{if◌then◌else◌}
 use Rattle.std.proofs.lemmas.List.{with_items_is}
 use Rattle.av_plain.specs.Device.{seen_by}
+use Rattle.av_swapdev.specs.Device.{most_pages}
 use Rattle.av_audit_book.specs.declared.machine.Machine.{Machine}
 use Rattle.av_audit_machine.specs.Heads.{IsHead}
 use Rattle.av_audit_machine.proofs.HeadLaws.{AreHeads, heads-more, machine-counted, machine-is, machine-named}
@@ -53,7 +54,7 @@ returns-clause-named g c =
     let pages = g.D.SwapDev.pages c.args.dev.now in
     let machine : Machine = record { frames = c.args.frames; heads = c.loop-area.heads } in
     let all = take_all c.loop-area.area c.args.sizes.now (omega (arith, c.loop-area-test.false)) in
-    machine-named pages c.args.sizes.now machine c.requires.few c.requires.small
+    machine-named pages c.args.sizes.now machine most_pages (omega arith) (omega (arith, c.requires.few)) c.requires.small
     (subst (λ s. AreHeads pages 0 s machine.heads.items) all c.loop-area.invariant.heads)
 
 pub returns-clause-counted : goal.returns-clause-counted
