@@ -77,7 +77,8 @@ CARRIERS = {
     "av_audit_machine": "read_machine",
     "av_audit": "Auditor",
     "av_audit_input": "Script read_command read_trace read_unit",
-    "av_audit_run": "audit audits_of_inputs legal_or_stopped stopped_once",
+    "av_audit_run": "audit audits_of_inputs legal_or_stopped stopped_once "
+    "breaks_come_before_what_is_wrong",
     "av_swap_laws": "frames_are_put slots_are_loaded slots_are_dropped soundness_goes_on",
     "av_evict": "System reclaim age complete seek",
     "av_spaces": "Spaces",
@@ -99,7 +100,8 @@ CARRIERS = {
     "av_kernel": "Kernel",
     "av_words": "read_words",
     "av_ports": "Ports Pending read_on read_line write_all",
-    "av_replay": "run good_traces_are_done done_runs_write_their_transcript bad_lines_end_runs "
+    "av_replay": "run good_traces_are_done good_traces_are_judged "
+    "done_runs_write_their_transcript bad_lines_end_runs "
     "lines_are_done_up_to_the_most replies_are_out_before_a_read failed_writes_cut_the_last_reply",
     "av_round_laws": "done_runs_are_found_legal",
     "avsim": "text_for exit_number Failure",

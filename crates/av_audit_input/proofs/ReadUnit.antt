@@ -5,7 +5,7 @@ use Rattle.std.specs.Prelude.{IfSome, nat_lt}
 use Rattle.std.proofs.lemmas.Bool.Decides.{nat_tests}
 use Rattle.std.proofs.lemmas.Bool.{true≢false}
 use Rattle.av_io.specs.Source.{Took, in_front, HasEnded}
-use Rattle.av_ports.specs.Ports.{PortsView, undone}
+use Rattle.av_ports.specs.Ports.{PortsView, room, undone}
 use Rattle.av_ports.proofs.Bytes.{Took-then, in_front-then}
 use Rattle.av_audit_input.specs.Input.{IsEnded, IsOpen, IsPortErr}
 use Rattle.av_audit_input.specs.Unit.{is_whole, units_of, Cuts, IsOne, IsPiece, LeavesPiece, StopsPiece, StopsUnit, TakesPiece, TakesUnit}
@@ -99,25 +99,27 @@ with-piece left left' unit unit' ahead0 ahead ahead' old now part took not takes
 
 -- ---- where it isn't read whole
 
-port-stops : (error : InputErr) (left : ℕ) (unit ahead : List ℕ) → IsPortErr error → StopsPiece error left unit ahead
-port-stops input.Read left unit ahead is = tt
-port-stops input.Write left unit ahead is = tt
-port-stops input.Memory left unit ahead is = tt
-port-stops (input.BadLine n) left unit ahead (inl is) = cc
-port-stops (input.BadLine n) left unit ahead (inr is) = cc
-port-stops input.TooMany left unit ahead (inl is) = cc
-port-stops input.TooMany left unit ahead (inr is) = cc
-port-stops input.TooLong left unit ahead (inl is) = cc
-port-stops input.TooLong left unit ahead (inr is) = cc
+port-stops : (error : InputErr) (left : ℕ) (unit ahead : List ℕ) → IsPortErr error → ahead ≡ [] → StopsPiece error left unit ahead
+port-stops input.Read left unit ahead is none = none
+port-stops input.Write left unit ahead is none = none
+port-stops input.Memory left unit ahead is none = tt
+port-stops (input.BadLine n) left unit ahead (inl is) none = cc
+port-stops (input.BadLine n) left unit ahead (inr is) none = cc
+port-stops input.TooMany left unit ahead (inl is) none = cc
+port-stops input.TooMany left unit ahead (inr is) none = cc
+port-stops input.TooLong left unit ahead (inl is) none = cc
+port-stops input.TooLong left unit ahead (inr is) none = cc
 
 -- source or sink failed
-pub unread : (error : InputErr) (left : ℕ) (unit ahead0 ahead ahead' : List ℕ) (old now new : PortsView) → IsPart unit
-    → Took (undone ahead0 old) (undone ahead now) unit → undone ahead' new ≡ undone ahead now → IsPortErr error
-    → StopsUnit error left unit ahead0 ahead' old new
-unread error left unit ahead0 ahead ahead' old now new part took same is = record {
+pub unread : (error : InputErr) (left0 left : ℕ) (unit ahead0 ahead ahead' : List ℕ) (old now new : PortsView) → IsPart unit
+    → Took (undone ahead0 old) (undone ahead now) unit → left0 ≡ left + length unit → undone ahead' new ≡ undone ahead now → IsPortErr error
+    → ahead' ≡ [] → StopsUnit error left0 unit (undone ahead0 old) ahead' new
+unread error left0 left unit ahead0 ahead ahead' old now new part took counts same is none = record {
   took = subst (λ o. Took (undone ahead0 old) o unit) (sym same) took;
   part = part;
-  stops = port-stops error left unit ahead' is;
+  few = omega (arith, counts);
+  near = omega (arith, ap length none);
+  stops = port-stops error left0 unit ahead' is none;
 }
 
 piece-stops : (error : InputErr) (left0 left : ℕ) (unit ahead : List ℕ) → IsPart unit → left0 ≡ left + length unit → is_whole unit ahead ≡ false
@@ -137,10 +139,15 @@ piece-stops input.Write left0 left unit ahead part counts not h = absurd h
 
 -- the next piece was not taken
 pub untaken : (error : InputErr) (left0 left : ℕ) (unit ahead0 ahead : List ℕ) (old now : PortsView) → IsPart unit
-    → Took (undone ahead0 old) (undone ahead now) unit → left0 ≡ left + length unit → is_whole unit ahead ≡ false → LeavesPiece error left ahead
-    → StopsUnit error left0 unit ahead0 ahead old now
-untaken error left0 left unit ahead0 ahead old now part took counts not h =
-    record { took = took; part = part; stops = piece-stops error left0 left unit ahead part counts not h }
+    → Took (undone ahead0 old) (undone ahead now) unit → left0 ≡ left + length unit → length ahead ≤ room → is_whole unit ahead ≡ false
+    → LeavesPiece error left ahead → StopsUnit error left0 unit (undone ahead0 old) ahead now
+untaken error left0 left unit ahead0 ahead old now part took counts near not h = record {
+  took = took;
+  part = part;
+  few = omega (arith, counts);
+  near = near;
+  stops = piece-stops error left0 left unit ahead part counts not h;
+}
 
 pub untaken-none : (error : InputErr) (left : ℕ) (ahead : List ℕ) → LeavesPiece error left ahead → IsPortErr error → ⊥
 untaken-none input.TooLong left ahead h (inl is) = cc

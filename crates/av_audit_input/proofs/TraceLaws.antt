@@ -9,7 +9,7 @@ use Rattle.av_trace.specs.declared.command.Command.{Command}
 use Rattle.av_trace.specs.Line.{Says}
 use Rattle.av_ports.specs.declared.line.Line.{Line}
 use Rattle.av_ports.specs.Line.{IsLine, IsNext}
-use Rattle.av_ports.specs.Ports.{AreUnfailed, PortsView, ReadsOn, StaysOpen, undone}
+use Rattle.av_ports.specs.Ports.{AreUnfailed, PortsView, ReadsOn, StaysOpen, room, undone}
 use Rattle.av_ports.proofs.Bytes.{in_front-then, Took-then}
 use Rattle.av_audit_input.specs.Input.{FailsBy, FailsOnly, IsEnded}
 use Rattle.av_ports.proofs.Times.{unfailed_then}
@@ -178,41 +178,45 @@ past-none ahead now commands none took = record { good = tt; count = refl; says 
 
 -- behind these lines the mark comes, or nothing
 pub ends-marked : (ended : Bool) (lines : List (List ℕ)) (cs : List Command) (number : ℕ) (ahead mid after : List ℕ) (old now new : PortsView)
-    → Past lines cs number ahead mid old now → number ≤ 16777216 → StaysOpen old.source now.source
+    → Past lines cs number ahead mid old now → number ≤ 16777216 → StaysOpen old.source now.source → length after ≤ room
     → TakesMark ended mid after now new → TakesTrace ended cs ahead after old new
-ends-marked false lines cs number ahead mid after old now new past few stays takes = record {
+ends-marked false lines cs number ahead mid after old now new past few stays near takes = record {
   lines = lines;
   bytes = all_lines lines ++ (mark ++ 10 ∷ []);
   trace = past-trace lines cs number ahead mid old now past few;
   took = Took-then (undone ahead old) (undone mid now) (undone after new) (all_lines lines) (mark ++ 10 ∷ []) past.took takes.0.took;
+  near = near;
   ends = (sym (lines-more lines mark), λ untold. takes.1 (stays untold));
 }
-ends-marked true lines cs number ahead mid after old now new past few stays (inl same, ended) = record {
+ends-marked true lines cs number ahead mid after old now new past few stays near (inl same, ended) = record {
   lines = lines;
   bytes = all_lines lines;
   trace = past-trace lines cs number ahead mid old now past few;
   took = subst (λ o. Took (undone ahead old) o (all_lines lines)) (sym same) past.took;
+  near = near;
   ends = (inl (inl refl), ended);
 }
-ends-marked true lines cs number ahead mid after old now new past few stays (inr takes, ended) = record {
+ends-marked true lines cs number ahead mid after old now new past few stays near (inr takes, ended) = record {
   lines = lines;
   bytes = all_lines lines ++ (mark ++ []);
   trace = past-trace lines cs number ahead mid old now past few;
   took = Took-then (undone ahead old) (undone mid now) (undone after new) (all_lines lines) (mark ++ []) past.took takes.took;
+  near = near;
   ends = (inr (ap (λ l. all_lines lines ++ l) (append-nil mark)), ended);
 }
 
 -- behind these lines a last one comes
 pub ends-line : (lines : List (List ℕ)) (line : List ℕ) (cs cs' : List Command) (number : ℕ) (ahead mid after : List ℕ) (old now new : PortsView)
-    → Past lines cs number ahead mid old now → number < 16777216 → TakesLine line [] mid after now new → Keeps line cs cs' → IsEnded after new
-    → TakesTrace true cs' ahead after old new
-ends-line lines line cs cs' number ahead mid after old now new past few takes keeps ended =
+    → Past lines cs number ahead mid old now → number < 16777216 → length after ≤ room → TakesLine line [] mid after now new → Keeps line cs cs'
+    → IsEnded after new → TakesTrace true cs' ahead after old new
+ends-line lines line cs cs' number ahead mid after old now new past few near takes keeps ended =
     let w = with-line lines line cs cs' number ahead mid old now past takes.is_line keeps in
     record {
       lines = lines ++ line ∷ [];
       bytes = all_lines lines ++ (line ++ []);
       trace = record { good = w.0; few = omega (arith, w.1, few); says = w.2 };
       took = Took-then (undone ahead old) (undone mid now) (undone after new) (all_lines lines) (line ++ []) past.took takes.took;
+      near = near;
       ends = (
         inl (inr (ap (λ l. (all_lines lines ++ l) ++ 10 ∷ []) (append-nil line) ∙ append_assoc (all_lines lines) line (10 ∷ [])
             ∙ sym (lines-more lines line))),
@@ -222,13 +226,13 @@ ends-line lines line cs cs' number ahead mid after old now new past few takes ke
 
 -- the input ends behind these lines
 pub ends-next : (lines : List (List ℕ)) (cs cs' : List Command) (number : ℕ) (ahead mid after : List ℕ) (old now new : PortsView)
-    → Past lines cs number ahead mid old now → number < 16777216 → StaysOpen old.source now.source
+    → Past lines cs number ahead mid old now → number < 16777216 → StaysOpen old.source now.source → length after ≤ room
     → TakesNext nexts.End mid after now new cs cs' → TakesTrace true cs' ahead after old new
-ends-next lines cs cs' number ahead mid after old now new past few stays (inl h) =
+ends-next lines cs cs' number ahead mid after old now new past few stays near (inl h) =
     subst (λ l. TakesTrace true l ahead after old new) (sym h.1)
-    (ends-marked true lines cs number ahead mid after old now new past (omega (arith, few)) stays h.0)
-ends-next lines cs cs' number ahead mid after old now new past few stays (inr h) =
-    ends-line lines h.0 cs cs' number ahead mid after old now new past few h.1 h.2 h.3
+    (ends-marked true lines cs number ahead mid after old now new past (omega (arith, few)) stays near h.0)
+ends-next lines cs cs' number ahead mid after old now new past few stays near (inr h) =
+    ends-line lines h.0 cs cs' number ahead mid after old now new past few near h.1 h.2 h.3
 
 -- ---- a line that isn't taken
 
@@ -262,13 +266,14 @@ no-mark line ahead mid old now reads next not =
 
 -- a trace stops behind these lines
 pub stops-line : (error : InputErr) (lines : List (List ℕ)) (cs : List Command) (number : ℕ) (ahead mid after : List ℕ) (old now new : PortsView)
-    → Past lines cs number ahead mid old now → number < 16777216 → undone after new ≡ undone mid now
+    → Past lines cs number ahead mid old now → number < 16777216 → undone after new ≡ undone mid now → length after ≤ room
     → StopsLine error (number + 1) after new → StopsWithin error ahead after old new
-stops-line error lines cs number ahead mid after old now new past few same stops = record {
+stops-line error lines cs number ahead mid after old now new past few same near stops = record {
   lines = lines;
   commands = cs;
   trace = past-trace lines cs number ahead mid old now past (omega (arith, few));
   took = subst (λ o. Took (undone ahead old) o (all_lines lines)) (sym same) past.took;
+  near = near;
   stops = by error (subst (λ n. StopsLine error (n + 1) after new) (sym past.count) stops);
 }
   where
@@ -281,13 +286,14 @@ stops-line error lines cs number ahead mid after old now new past few same stops
     by input.Memory h = h
 
 pub stops-mark : (error : InputErr) (lines : List (List ℕ)) (cs : List Command) (ahead mid after : List ℕ) (old now new : PortsView)
-    → Past lines cs 16777216 ahead mid old now → undone after new ≡ undone mid now
+    → Past lines cs 16777216 ahead mid old now → undone after new ≡ undone mid now → length after ≤ room
     → StopsMark error after new → StopsWithin error ahead after old new
-stops-mark error lines cs ahead mid after old now new past same stops = record {
+stops-mark error lines cs ahead mid after old now new past same near stops = record {
   lines = lines;
   commands = cs;
   trace = past-trace lines cs 16777216 ahead mid old now past (omega arith);
   took = subst (λ o. Took (undone ahead old) o (all_lines lines)) (sym same) past.took;
+  near = near;
   stops = by error stops;
 }
   where
@@ -300,11 +306,11 @@ stops-mark error lines cs ahead mid after old now new past same stops = record {
     by input.Memory h = absurd h
 
 pub mark-within : (r : Result Bool InputErr) (lines : List (List ℕ)) (cs : List Command) (number : ℕ) (ahead mid after : List ℕ)
-    (old now new : PortsView) → Past lines cs number ahead mid old now → number ≡ 16777216
+    (old now new : PortsView) → Past lines cs number ahead mid old now → number ≡ 16777216 → length after ≤ room
     → OnErr r (undone after new ≡ undone mid now) → IfErr r (λ e. StopsMark e after new) → IfErr r (λ e. StopsWithin e ahead after old new)
-mark-within (Ok ended) lines cs number ahead mid after old now new past all same stops = tt
-mark-within (Err error) lines cs number ahead mid after old now new past all same stops =
-    stops-mark error lines cs ahead mid after old now new (subst (λ n. Past lines cs n ahead mid old now) all past) same stops
+mark-within (Ok ended) lines cs number ahead mid after old now new past all near same stops = tt
+mark-within (Err error) lines cs number ahead mid after old now new past all near same stops =
+    stops-mark error lines cs ahead mid after old now new (subst (λ n. Past lines cs n ahead mid old now) all past) same near stops
 
 pub mark-fails-since : (r : Result Bool InputErr) (a b c : PortsView) → AreUnfailed a b → StaysOpen a.source b.source → FailsOnly r b c → FailsOnly r a c
 mark-fails-since (Ok ended) a b c was stays h = unfailed_then a b c was h

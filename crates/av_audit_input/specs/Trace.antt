@@ -6,7 +6,7 @@ use Rattle.av_io.specs.Source.{Took}
 use Rattle.av_trace.specs.declared.command.Command.{Command}
 use Rattle.av_trace.specs.Line.{Says}
 use Rattle.av_ports.specs.Line.{IsLine, IsTooLong}
-use Rattle.av_ports.specs.Ports.{IsAtEnd, PortsView, StaysOpen, undone}
+use Rattle.av_ports.specs.Ports.{IsAtEnd, PortsView, StaysOpen, room, undone}
 use Rattle.av_ports.specs.declared.run_err.RunErr.{RunErr}
 use Rattle.av_ports.specs.declared.run_err.RunErr.TheVariants as errors
 use Rattle.av_audit_input.specs.Input.{IsEnded}
@@ -57,14 +57,15 @@ EndsTrace false lines bytes ahead old new =
 EndsTrace true lines bytes ahead old new =
     (AreLines lines bytes ⊎ (bytes ≡ all_lines lines ++ mark)) × IsEnded ahead new
 
--- these bytes were taken, which are a trace of these commands, to its end; and whether the input
--- has ended with it
+-- these bytes were taken, which are a trace of these commands, to its end; whether the input has
+-- ended with it; and no more was read behind them than one read gives
 pub record TakesTrace (ended : Bool) (commands : List Command) (ahead ahead' : List ℕ)
     (old new : PortsView) : Type 0 where
   pub lines : List (List ℕ)
   pub bytes : List ℕ
   pub trace : IsTrace lines commands
   pub took : Took (undone ahead old) (undone ahead' new) bytes
+  pub near : length ahead' ≤ room
   pub ends : EndsTrace ended lines bytes ahead' old new
 
 -- ---- where no trace is read
@@ -111,13 +112,15 @@ abbrev pub StopsTrace : InputErr → ℕ → List ℕ → PortsView → Type 0
 StopsTrace input.TooMany count ahead now = (count ≡ most_lines) × IsNoMark ahead now
 StopsTrace error count ahead now = StopsLine error (count + 1) ahead now
 
--- some lines of a trace were taken, and the next one not
+-- some lines of a trace were taken, and the next one not; and no more was read behind them than one
+-- read gives
 pub record StopsWithin (error : InputErr) (ahead ahead' : List ℕ) (old new : PortsView) : Type 0
   where
     pub lines : List (List ℕ)
     pub commands : List Command
     pub trace : IsTrace lines commands
     pub took : Took (undone ahead old) (undone ahead' new) (all_lines lines)
+    pub near : length ahead' ≤ room
     pub stops : StopsTrace error (length lines) ahead' new
 
 -- ---- one line

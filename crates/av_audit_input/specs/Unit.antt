@@ -1,10 +1,11 @@
 -- A transcript, unit by unit.
-use Rattle.std.specs.Prelude.{◌≡◌, ◌⊎◌, ℕ, ◌+◌, ◌-◌, ◌==◌, ◌<◌, ◌^◌, ◌&&◌, not, Bool, true, false}
+use Rattle.std.specs.Prelude.{◌≡◌, ◌⊎◌, ℕ, ◌+◌, ◌-◌, ◌==◌, ◌<◌, ◌≤◌, ◌^◌, ◌&&◌, not, Bool}
+use Rattle.std.specs.Prelude.{true, false}
 use Rattle.std.specs.Prelude.{if◌then◌else◌, List, [], ◌∷◌, ◌++◌, length, take, Option, IfSome}
 use Rattle.std.specs.List.{flat_map}
 use Rattle.av_io.specs.Source.{Took}
 use Rattle.av_ports.specs.Line.{HasNoNewline}
-use Rattle.av_ports.specs.Ports.{PortsView, undone}
+use Rattle.av_ports.specs.Ports.{PortsView, room, undone}
 use Rattle.av_audit_input.specs.declared.input_err.InputErr.{InputErr}
 use Rattle.av_audit_input.specs.declared.input_err.InputErr.TheVariants as input
 
@@ -52,21 +53,26 @@ TakesUnit true unit left left' ahead ahead' old new =
 TakesUnit false unit left left' ahead ahead' old new =
     (unit ≡ []) × (left' ≡ left) × (undone ahead' new ≡ undone ahead old)
 
--- no more was taken of a unit: it has more bytes than may still come, or something else failed
+-- why no more was taken of a unit: it has more bytes than may still come, memory was wanting, or a
+-- call failed, and then nothing is left of what was read
 abbrev pub StopsPiece : InputErr → ℕ → List ℕ → List ℕ → Type 0
 StopsPiece input.TooLong left unit ahead =
     (piece : List ℕ) × (rest : List ℕ) × (ahead ≡ piece ++ rest) × IsOne (unit ++ piece)
     × (left < length (unit ++ piece))
 StopsPiece (input.BadLine n) left unit ahead = ⊥
 StopsPiece input.TooMany left unit ahead = ⊥
-StopsPiece error left unit ahead = Unit {0}
+StopsPiece input.Memory left unit ahead = Unit {0}
+StopsPiece error left unit ahead = ahead ≡ []
 
--- a unit, or a part of one, and no more was taken
-pub record StopsUnit (error : InputErr) (left : ℕ) (unit ahead ahead' : List ℕ)
-    (old new : PortsView) : Type 0 where
-  pub took : Took (undone ahead old) (undone ahead' new) unit
+-- of what was to come a unit, or a part of one, and no more was taken, and no more is left of what
+-- was read than one read gives
+pub record StopsUnit (error : InputErr) (left : ℕ) (unit : List ℕ) (before : Option (List ℕ))
+    (ahead : List ℕ) (now : PortsView) : Type 0 where
+  pub took : Took before (undone ahead now) unit
   pub part : (unit ≡ []) ⊎ IsOne unit
-  pub stops : StopsPiece error left unit ahead'
+  pub few : length unit ≤ left
+  pub near : length ahead ≤ room
+  pub stops : StopsPiece error left unit ahead
 
 -- ---- pieces of a unit
 

@@ -1,8 +1,9 @@
 //! Reading a trace, up to its mark.
 
-ghost use Rattle.std.specs.Prelude.{◌≡◌, ◌≢◌, ◌<◌, List, [], IfOk, IfErr, OnOk, OnErr, true, false};
+ghost use Rattle.std.specs.Prelude.{◌≡◌, ◌≢◌, ◌<◌, ◌≤◌, List, [], IfOk, IfErr, OnOk, OnErr, length};
+ghost use Rattle.std.specs.Prelude.{true, false};
 ghost use Rattle.av_ports.specs.Line.{HasNoNewline};
-ghost use Rattle.av_ports.specs.Ports.{undone};
+ghost use Rattle.av_ports.specs.Ports.{room, undone};
 ghost use Rattle.av_trace.specs.declared.command.Command.{Command};
 ghost use Rattle.av_audit_input.specs.Input.{FailsOnly, OnlyReads};
 ghost use Rattle.av_audit_input.specs.Script.{Becomes, IsScript};
@@ -84,6 +85,7 @@ fn next_line<P: Ports>(
     ensures taken { IfOk result (λ next. Becomes script.old script.new (TakesNext next pending.old
         pending.new (P.view ports.old) (P.view ports.new))) }
     ensures stops { IfErr result (λ e. StopsLine e number pending.new (P.view ports.new)) }
+    ensures near { length pending.new ≤ room }
     ensures same { OnErr result
         (undone pending.new (P.view ports.new) ≡ undone pending.old (P.view ports.old)) }
     ensures only { OnlyReads (P.view ports.old) (P.view ports.new) }
@@ -117,6 +119,7 @@ fn take_mark<P: Ports>(ports: &mut P, pending: &mut Pending) -> Result<bool, Inp
     ensures taken { IfOk result (λ ended. TakesMark ended pending.old pending.new (P.view ports.old)
         (P.view ports.new)) }
     ensures stops { IfErr result (λ e. StopsMark e pending.new (P.view ports.new)) }
+    ensures near { length pending.new ≤ room }
     ensures same { OnErr result
         (undone pending.new (P.view ports.new) ≡ undone pending.old (P.view ports.old)) }
     ensures only { OnlyReads (P.view ports.old) (P.view ports.new) }

@@ -1,7 +1,8 @@
 //! Reading a transcript, unit by unit.
 
-ghost use Rattle.std.specs.Prelude.{◌≡◌, ◌<◌, IfOk, IfErr, OnOk, OnErr, is_ok, length, true, false};
-ghost use Rattle.av_ports.specs.Ports.{undone};
+ghost use Rattle.std.specs.Prelude.{◌≡◌, ◌<◌, ◌≤◌, [], IfOk, IfErr, OnOk, OnErr, is_ok, length};
+ghost use Rattle.std.specs.Prelude.{true, false};
+ghost use Rattle.av_ports.specs.Ports.{room, undone};
 ghost use Rattle.av_audit_input.specs.Input.{FailsOnly, HasMore, IsEnded, IsNoPortErr, IsOpen};
 ghost use Rattle.av_audit_input.specs.Input.{IsPortErr};
 ghost use Rattle.av_audit_input.specs.Input.{OnlyReads};
@@ -71,7 +72,9 @@ fn has_more<P: Ports>(
     ensures same { undone pending.new (P.view ports.new) ≡ undone pending.old (P.view ports.old) }
     ensures only { OnlyReads (P.view ports.old) (P.view ports.new) }
     ensures fails { FailsOnly result (P.view ports.old) (P.view ports.new) }
+    ensures near { length pending.new ≤ room }
     ensures err { IfErr result IsPortErr }
+    ensures none_left { OnErr result (pending.new ≡ []) }
     // Behind its end nothing is read.
     ensures over { extent.old.ended ≡ true → is_ok result ≡ true }
     ensures kept { P.kept ports.new ≡ P.kept ports.old }
@@ -102,8 +105,9 @@ pub fn read_unit<P: Ports>(
     ensures taken { IfOk result (λ some. TakesUnit some unit.new.items extent.old.left
         extent.new.left pending.old pending.new (P.view ports.old) (P.view ports.new)) }
     ensures none { IfOk result (λ some. some ≡ false → extent.new.ended ≡ true) }
-    ensures stops { IfErr result (λ e. StopsUnit e extent.old.left unit.new.items pending.old
-        pending.new (P.view ports.old) (P.view ports.new)) }
+    ensures stops { IfErr result (λ e. StopsUnit e extent.old.left unit.new.items
+        (undone pending.old (P.view ports.old)) pending.new (P.view ports.new)) }
+    ensures near { length pending.new ≤ room }
     ensures stays { IfOk result (λ some. IsOpen extent.old.ended extent.new.ended pending.new
         (P.view ports.old) (P.view ports.new)) }
     ensures only { OnlyReads (P.view ports.old) (P.view ports.new) }

@@ -1,5 +1,5 @@
 -- What is found of units is found of all of them, and of none two things.
-use Rattle.std.proofs.Common.{◌≡◌, ℕ, suc, ◌+◌, Bool, true, false, List, [], ◌∷◌, ◌++◌, ◌⊎◌, length, length-append, Option, Some, None}
+use Rattle.std.proofs.Common.{◌≡◌, ℕ, ◌+◌, ◌<◌, ◌≤◌, Bool, true, false, List, [], ◌∷◌, ◌++◌, ◌⊎◌, length, length-append, Option, Some, None}
 use Rattle.std.proofs.Common.{refl, sym, ap, subst, ◌∙◌}
 use Rattle.std.proofs.Common.{arith, append-nil, append_assoc, inl, inr}
 use Rattle.std.specs.Prelude.{IfSome, unwrap_or}
@@ -13,9 +13,10 @@ use Rattle.av_audit_laws.proofs.UnitLaws.{leaves-one}
 use Rattle.av_audit_input.specs.Input.{IsEnded}
 use Rattle.av_audit_input.specs.Trace.{EndsTrace}
 use Rattle.av_audit_input.specs.Unit.{bytes_of, units_of}
+use Rattle.av_audit_input.specs.declared.input_err.InputErr.{InputErr}
 use Rattle.av_audit_run.specs.declared.transcript.Finding.{Finding}
 use Rattle.av_audit_run.specs.declared.transcript.Finding.TheVariants as findings
-use Rattle.av_audit_run.specs.Transcript.{AreLegal, Audits, FindsIn, IsAuditOf, IsFinding, IsFront, IsWrong, StopsAt}
+use Rattle.av_audit_run.specs.Transcript.{AreLegal, Audits, BreaksOff, FindsIn, IsAuditOf, IsFinding, IsFront, IsWrong, StopsAt}
 
 -- what the others are legal from
 behind : (m : Setting) (w : World) (l : Ledger) (done others : List Command) (legal rest : List (List ℕ)) (w1 w' : World) (l1 l' : Ledger)
@@ -69,38 +70,39 @@ goes-on m w w1 w2 l l1 l2 others rest c cs u us ew el eo er h wrong =
     by : (IsUnit m w l c u → ⊥) → ⊥
     by never = never (h.0, h.1, h.2)
 
-stops-once : (m : Setting) (w : World) (l : Ledger) (done ended others later : List Command) (legal valid rest more : List (List ℕ))
+-- no more units are legal than stand before one that is wrong
+no-more : (m : Setting) (w : World) (l : Ledger) (done ended others later : List Command) (legal valid rest more : List (List ℕ))
     (w1 w2 : World) (l1 l2 : Ledger) → done ++ others ≡ ended ++ later → legal ++ rest ≡ valid ++ more
-    → AreUnits m w l done legal w1 l1 → AreUnits m w l ended valid w2 l2 → IsWrong m w1 l1 others rest → IsWrong m w2 l2 later more
-    → length legal ≡ length valid
-stops-once m w l [] [] others later [] [] rest more w1 w2 l1 l2 cs us h g here there = refl
-stops-once m w l [] (d ∷ ended) others later [] (v ∷ valid) rest more w1 w2 l1 l2 cs us h g here there =
-    absurd (goes-on m w w1 g.0 l l1 g.1 others rest d (ended ++ later) v (valid ++ more) h.0 h.1 cs us g.2 here)
-stops-once m w l (c ∷ done) [] others later (u ∷ legal) [] rest more w1 w2 l1 l2 cs us h g here there =
+    → AreUnits m w l done legal w1 l1 → AreUnits m w l ended valid w2 l2 → IsWrong m w2 l2 later more → length legal ≤ length valid
+no-more m w l [] ended others later [] valid rest more w1 w2 l1 l2 cs us h g there = omega arith
+no-more m w l [] ended others later (u ∷ legal) valid rest more w1 w2 l1 l2 cs us h g there = absurd h
+no-more m w l (c ∷ done) ended others later [] valid rest more w1 w2 l1 l2 cs us h g there = absurd h
+no-more m w l (c ∷ done) [] others later (u ∷ legal) [] rest more w1 w2 l1 l2 cs us h g there =
     absurd (goes-on m w w2 h.0 l l2 h.1 later more c (done ++ others) u (legal ++ rest) g.0 g.1 (sym cs) (sym us) h.2 there)
-stops-once m w l (c ∷ done) (d ∷ ended) others later (u ∷ legal) (v ∷ valid) rest more w1 w2 l1 l2 cs us h g here there =
+no-more m w l (c ∷ done) [] others later (u ∷ legal) (v ∷ valid) rest more w1 w2 l1 l2 cs us h g there = absurd g
+no-more m w l (c ∷ done) (d ∷ ended) others later (u ∷ legal) [] rest more w1 w2 l1 l2 cs us h g there = absurd g
+no-more m w l (c ∷ done) (d ∷ ended) others later (u ∷ legal) (v ∷ valid) rest more w1 w2 l1 l2 cs us h g there =
     let same-command = command-first c d (done ++ others) (ended ++ later) cs in
     let same-unit = unit-first u v (legal ++ rest) (valid ++ more) us in
     let leaves : Leaves m w l c u g.0 g.1 = subst (λ c. Leaves m w l c u g.0 g.1) (sym same-command)
     (subst (λ u. Leaves m w l d u g.0 g.1) (sym same-unit) g.2) in
     let same = leaves-one m w l c u h.0 g.0 h.1 g.1 h.2 leaves in
-    ap suc (stops-once m h.0 h.1 done ended others later legal valid rest more w1 w2 l1 l2
+    let few = no-more m h.0 h.1 done ended others later legal valid rest more w1 w2 l1 l2
     (command-rest c d (done ++ others) (ended ++ later) cs) (unit-rest u v (legal ++ rest) (valid ++ more) us) h.3
-    (subst (λ v. AreUnits m v h.1 ended valid w2 l2) (sym same.0) (subst (λ k. AreUnits m g.0 k ended valid w2 l2) (sym same.1) g.3))
-    here there)
-stops-once m w l [] [] others later [] (v ∷ valid) rest more w1 w2 l1 l2 cs us h g here there = absurd g
-stops-once m w l [] (d ∷ ended) others later [] [] rest more w1 w2 l1 l2 cs us h g here there = absurd g
-stops-once m w l [] ended others later (u ∷ legal) valid rest more w1 w2 l1 l2 cs us h g here there = absurd h
-stops-once m w l (c ∷ done) ended others later [] valid rest more w1 w2 l1 l2 cs us h g here there = absurd h
-stops-once m w l (c ∷ done) [] others later (u ∷ legal) (v ∷ valid) rest more w1 w2 l1 l2 cs us h g here there = absurd g
-stops-once m w l (c ∷ done) (d ∷ ended) others later (u ∷ legal) [] rest more w1 w2 l1 l2 cs us h g here there = absurd g
+    (subst (λ v. AreUnits m v h.1 ended valid w2 l2) (sym same.0) (subst (λ k. AreUnits m g.0 k ended valid w2 l2) (sym same.1) g.3)) there in
+    omega (arith, few)
+
+before : (m : Setting) (commands : List Command) (units : List (List ℕ)) (number other : ℕ)
+    → StopsAt m commands units number IsWrong → StopsAt m commands units other IsWrong → number ≤ other
+before m commands units number other s t =
+    let few = no-more m [] first_ledger s.done t.done s.others t.others s.legal t.legal s.rest t.rest s.world t.world
+    s.ledger t.ledger (sym s.commands_are ∙ t.commands_are) (sym s.units_are ∙ t.units_are) s.are_units t.are_units t.stops in
+    omega (arith, few, s.number_is, t.number_is)
 
 pub stopped-once : (m : Setting) (commands : List Command) (units : List (List ℕ)) (number other : ℕ)
     → StopsAt m commands units number IsWrong → StopsAt m commands units other IsWrong → number ≡ other
 stopped-once m commands units number other s t =
-    s.number_is ∙ ap (λ n. n + 1) (stops-once m [] first_ledger s.done t.done s.others t.others s.legal t.legal s.rest t.rest s.world t.world
-    s.ledger t.ledger (sym s.commands_are ∙ t.commands_are) (sym s.units_are ∙ t.units_are) s.are_units t.are_units s.stops t.stops)
-    ∙ sym t.number_is
+    omega (arith, before m commands units number other s t, before m commands units other number t s)
 
 -- ---- more units behind
 
@@ -152,6 +154,15 @@ took-told content before None bytes is took = absurd (never (sym is ∙ took))
     never : Some content ≡ None → ⊥
     never e = cc
 took-told content before (Some rest) bytes is took = (rest, refl, ap (λ o. unwrap_or o content) (sym is ∙ took))
+
+pub breaks-before : (error : InputErr) (m : Setting) (commands : List Command) (content rest : List ℕ) (new : PortsView) (number : ℕ)
+    → (h : BreaksOff error m commands (Some content) rest new) → StopsAt m commands (units_of content) number IsWrong → length h.units < number
+breaks-before error m commands content rest new number h s =
+    let t = took-told content (Some content) h.between (bytes_of h.units) refl h.cuts.took in
+    let first = subst (λ o. IfSome o (λ rest. units_of (bytes_of h.units ++ rest) ≡ h.units ++ units_of rest)) t.1 h.cuts.first in
+    let few = no-more m [] first_ledger h.done s.done h.others s.others h.units s.legal (units_of t.0) s.rest h.legal.0 s.world h.legal.1 s.ledger
+    (sym h.commands_are ∙ s.commands_are) (sym (ap units_of t.2 ∙ first) ∙ s.units_are) h.legal.2 s.are_units s.stops in
+    omega (arith, few, s.number_is)
 
 ended-told : (ahead rest : List ℕ) (now : PortsView) → undone ahead now ≡ Some rest → IsEnded ahead now → rest ≡ []
 ended-told ahead rest now is ended = by now.source.left is ended.1.ended

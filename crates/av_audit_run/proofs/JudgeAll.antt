@@ -1,29 +1,29 @@
 -- The units that were judged so far, and where the judging ends.
-use Rattle.std.proofs.Common.{◌≡◌, ℕ, zero, suc, ◌+◌, ◌<◌, ◌≤◌, List, [], ◌∷◌, ◌++◌, length, length-append, take, take-add, drop, drop-cons, get_or, Option}
+use Rattle.std.proofs.Common.{◌≡◌, ℕ, zero, suc, ◌+◌, ◌<◌, ◌≤◌, List, [], ◌∷◌, ◌++◌, length, length-append, take, take-add, drop, Option}
 use Rattle.std.proofs.Common.{Some, None, refl, sym, ap, subst, ◌∙◌, arith, append-nil, inl, inr}
 use Rattle.std.specs.List.{AllByRecursion}
 use Rattle.std.proofs.lemmas.List.{drop_all, take-append-drop}
-use Rattle.av_io.specs.Source.{in_front}
-use Rattle.av_ports.specs.Ports.{PortsView, undone}
-use Rattle.av_ports.proofs.Bytes.{in_front-then}
+use Rattle.av_io.specs.Source.{Took}
+use Rattle.av_ports.specs.Ports.{PortsView, room, undone}
 use Rattle.av_trace.specs.declared.command.Command.{Command}
 use Rattle.av_plain.specs.Ledger.{Ledger, Setting, first_ledger}
 use Rattle.av_plain.specs.World.{World}
 use Rattle.av_audit_laws.specs.Unit.{AreUnits, Leaves}
 use Rattle.av_audit_book.specs.Machine.{setting_of}
 use Rattle.av_audit_book.specs.declared.machine.Machine.{Machine}
-use Rattle.std.specs.Prelude.{option_to_list, unwrap_or}
+use Rattle.std.specs.Prelude.{unwrap_or}
 use Rattle.av_audit_input.specs.Script.{AreLinesOf}
 use Rattle.av_audit.specs.Judge.{IsAt, IsRight}
 use Rattle.av_audit.specs.declared.auditor.Verdict.{Verdict}
 use Rattle.av_audit.specs.declared.auditor.Verdict.TheVariants as verdicts
 use Rattle.av_audit.specs.declared.auditor.Auditor.{Auditor}
+use Rattle.av_audit_input.specs.Input.{IsEnded}
 use Rattle.av_audit_input.specs.Unit.{bytes_of, most_bytes, Cuts, IsOne, StopsUnit}
 use Rattle.av_audit_input.specs.declared.input_err.InputErr.{InputErr}
 use Rattle.av_audit_input.specs.declared.input_err.InputErr.TheVariants as input
 use Rattle.av_audit_input.proofs.UnitLaws.{bytes-more, cut-more, cut-none}
 use Rattle.av_audit_run.specs.declared.transcript.Finding.{Finding}
-use Rattle.av_audit_run.specs.Transcript.{finding_of, BreaksOff, IsWrong, Judges, StopsAt, StopsReading}
+use Rattle.av_audit_run.specs.Transcript.{finding_of, BreaksOff, IsWrong, Judges, StopsAt}
 use Rattle.av_audit_run.specs.declared.transcript.Finding.TheVariants as findings
 
 units-more : (m : Setting) (w : World) (l : Ledger) (cs : List Command) (us : List (List ℕ)) (w' w'' : World) (l' l'' : Ledger) (c : Command)
@@ -99,9 +99,9 @@ module _ {m : Setting} {commands : List Command} {number : ℕ} {before now : Op
   parts = sym (take-append-drop number commands)
 
   -- no unit is left
-  none-left : (Ended : Type 0) → Ended → (Stops : Setting → World → Ledger → List Command → List (List ℕ) → Type 0)
+  none-left : (Stops : Setting → World → Ledger → List Command → List (List ℕ) → Type 0)
       → Stops m h.world h.ledger (drop number commands) [] → StopsAt m commands h.units (number + 1) Stops
-  none-left Ended ended Stops stops = record {
+  none-left Stops stops = record {
     done = take number commands;
     others = drop number commands;
     commands_are = parts;
@@ -115,24 +115,26 @@ module _ {m : Setting} {commands : List Command} {number : ℕ} {before now : Op
     stops = stops;
   }
 
-  pub missing : {after : Option (List ℕ)} {Ended : Type 0} {command : Command} {others : List Command} → after ≡ now → Ended
-      → drop number commands ≡ command ∷ others → Judges (findings.Illegal (number + 1)) m commands before after Ended
-  missing {after} {Ended} {command} {others} none ended is = subst (λ o. Judges (findings.Illegal (number + 1)) m commands before o Ended) (sym none) (record {
+  pub missing : {command : Command} {others : List Command} (rest : List ℕ) (new : PortsView) → undone rest new ≡ now → IsEnded rest new
+      → drop number commands ≡ command ∷ others → Judges (findings.Illegal (number + 1)) m commands before rest new
+  missing {command} {others} rest new none ended is = record {
     units = h.units;
     each = h.each;
-    cuts = h.cuts;
+    cuts = subst (Cuts h.units before) (sym none) h.cuts;
     few = omega (arith, h.counts);
-    finds = (none-left Ended ended IsWrong (subst (λ cs. IsWrong m h.world h.ledger cs []) (sym is) tt), inr ended);
-  })
+    near = omega (arith, ap length ended.0);
+    finds = (none-left IsWrong (subst (λ cs. IsWrong m h.world h.ledger cs []) (sym is) tt), inr ended);
+  }
 
   -- nor a command
-  pub all-legal : {after : Option (List ℕ)} {Ended : Type 0} → after ≡ now → Ended → take number commands ≡ commands
-      → Judges findings.Legal m commands before after Ended
-  all-legal {after} {Ended} none ended all = subst (λ o. Judges findings.Legal m commands before o Ended) (sym none) (record {
+  pub all-legal : (rest : List ℕ) (new : PortsView) → undone rest new ≡ now → IsEnded rest new → take number commands ≡ commands
+      → Judges findings.Legal m commands before rest new
+  all-legal rest new none ended all = record {
     units = h.units;
     each = h.each;
-    cuts = h.cuts;
+    cuts = subst (Cuts h.units before) (sym none) h.cuts;
     few = omega (arith, h.counts);
+    near = omega (arith, ap length ended.0);
     finds = (
       (
         h.world,
@@ -141,10 +143,11 @@ module _ {m : Setting} {commands : List Command} {number : ℕ} {before now : Op
       ),
       ended,
     );
-  })
+  }
 
   -- a unit was taken that ends it
-  module _ {after : Option (List ℕ)} {left' : ℕ} {unit : List ℕ} (t : OneMore m commands number before after left' h.units unit) where
+  module _ {left' : ℕ} {unit : List ℕ} (rest : List ℕ) (new : PortsView)
+      (t : OneMore m commands number before (undone rest new) left' h.units unit) where
     one-left : (Stops : Setting → World → Ledger → List Command → List (List ℕ) → Type 0)
         → Stops m h.world h.ledger (drop number commands) (unit ∷ []) → StopsAt m commands (h.units ++ unit ∷ []) (number + 1) Stops
     one-left Stops stops = record {
@@ -161,70 +164,57 @@ module _ {m : Setting} {commands : List Command} {number : ℕ} {before now : Op
       stops = stops;
     }
 
-    pub wrong : (Ended : Type 0) → IsWrong m h.world h.ledger (drop number commands) (unit ∷ [])
-        → Judges (findings.Illegal (number + 1)) m commands before after Ended
-    wrong Ended stops = record {
+    pub wrong : length rest ≤ room → IsWrong m h.world h.ledger (drop number commands) (unit ∷ [])
+        → Judges (findings.Illegal (number + 1)) m commands before rest new
+    wrong near stops = record {
       units = h.units ++ unit ∷ [];
       each = t.each;
       cuts = t.cuts;
       few = omega (arith, t.counts);
+      near = near;
       finds = (one-left IsWrong stops, inl (sym t.many));
     }
 
   -- no more could be read, or memory was wanting
-  breaks : (error : InputErr) (now' : Option (List ℕ)) (units : List (List ℕ)) → Cuts units before now' → AllByRecursion IsOne units
-      → AreUnits m [] first_ledger (take number commands) units h.world h.ledger → StopsReading error (length (bytes_of units)) now'
-      → BreaksOff error m commands before
-  breaks error now' units cuts each are stops = record {
+  pub breaks : (error : InputErr) (unit rest : List ℕ) (new : PortsView) → StopsUnit error left unit now rest new
+      → BreaksOff error m commands before rest new
+  breaks error unit rest new stops = record {
     done = take number commands;
     others = drop number commands;
     commands_are = parts;
-    units = units;
-    each = each;
-    now = now';
-    cuts = cuts;
-    legal = (h.world, h.ledger, are);
+    units = h.units;
+    each = h.each;
+    between = now;
+    cuts = h.cuts;
+    legal = (h.world, h.ledger, h.are_units);
+    left = left;
+    counts = h.counts;
+    unit = unit;
     stops = stops;
   }
 
-  pub wants-memory : BreaksOff input.Memory m commands before
-  wants-memory = breaks input.Memory now h.units h.cuts h.each h.are_units tt
-
--- where the next unit stands when it isn't read whole
-stops-reading : (error : InputErr) (count left : ℕ) (unit ahead ahead' : List ℕ) (old new : PortsView) → most_bytes ≡ left + count
-    → StopsUnit error left unit ahead ahead' old new → StopsReading error count (undone ahead old)
-stops-reading input.TooLong count left unit ahead ahead' old new all h =
-    let s = h.stops in (
-      unit ++ s.0,
-      in_front s.1 new.source.left,
-      h.took ∙ ap (in_front unit) (ap (λ (l : List ℕ). in_front l new.source.left) s.2 ∙ in_front-then s.0 s.1 new.source.left)
-          ∙ sym (in_front-then unit s.0 (in_front s.1 new.source.left)),
-      s.3,
-      omega (arith, all, s.4),
-    )
-stops-reading (input.BadLine n) count left unit ahead ahead' old new all h = absurd h.stops
-stops-reading input.TooMany count left unit ahead ahead' old new all h = absurd h.stops
-stops-reading input.Read count left unit ahead ahead' old new all h = tt
-stops-reading input.Write count left unit ahead ahead' old new all h = tt
-stops-reading input.Memory count left unit ahead ahead' old new all h = tt
-
-pub reading-breaks : {error : InputErr} {left : ℕ} {unit ahead ahead' : List ℕ} {old new : PortsView} {m : Setting} {commands : List Command} {number : ℕ}
-    {before : Option (List ℕ)} {auditor : Auditor} → StopsUnit error left unit ahead ahead' old new
-    → LegalSoFar m commands number before (undone ahead old) left auditor → BreaksOff error m commands before
-reading-breaks {error} {left} {unit} {ahead} {ahead'} {old} {new} {m} {commands} {number} {before} {auditor} stops h =
-    breaks h error (undone ahead old) h.units h.cuts h.each h.are_units
-    (stops-reading error (length (bytes_of h.units)) left unit ahead ahead' old new h.counts stops)
+  -- memory was wanting for a unit that was read
+  pub wants-memory : (left' : ℕ) (unit rest : List ℕ) (new : PortsView)
+      → IsOne unit × (left ≡ left' + length unit) × Cuts (unit ∷ []) now (undone rest new) → length rest ≤ room
+      → BreaksOff input.Memory m commands before rest new
+  wants-memory left' unit rest new takes near = breaks input.Memory unit rest new (record {
+    took = subst (Took now (undone rest new)) (append-nil unit) takes.2.took;
+    part = inr takes.0;
+    few = omega (arith, takes.1);
+    near = near;
+    stops = tt;
+  })
 
 -- ---- a unit that is read
 
 -- a unit behind the last command
-pub too-many : {m : Setting} {commands : List Command} {number : ℕ} {before now after : Option (List ℕ)} {left : ℕ} {auditor : Auditor}
-    {unit : List ℕ} (left' : ℕ) (Ended : Type 0) → (h : LegalSoFar m commands number before now left auditor)
-    → IsOne unit × (left ≡ left' + length unit) × Cuts (unit ∷ []) now after → number ≡ length commands
-    → Judges (findings.Illegal (length commands + 1)) m commands before after Ended
-too-many {m} {commands} {number} {before} {now} {after} {left} {auditor} {unit} left' Ended h takes all =
-    subst (λ n. Judges (findings.Illegal (n + 1)) m commands before after Ended) all
-    (wrong h (one-more left' h takes) Ended (subst (λ cs. IsWrong m h.world h.ledger cs (unit ∷ [])) (sym (drop_all number commands (omega (arith, all)))) tt))
+pub too-many : {m : Setting} {commands : List Command} {number : ℕ} {before now : Option (List ℕ)} {left : ℕ} {auditor : Auditor}
+    {unit : List ℕ} (left' : ℕ) (rest : List ℕ) (new : PortsView) → (h : LegalSoFar m commands number before now left auditor)
+    → IsOne unit × (left ≡ left' + length unit) × Cuts (unit ∷ []) now (undone rest new) → length rest ≤ room → number ≡ length commands
+    → Judges (findings.Illegal (length commands + 1)) m commands before rest new
+too-many {m} {commands} {number} {before} {now} {left} {auditor} {unit} left' rest new h takes near all =
+    subst (λ n. Judges (findings.Illegal (n + 1)) m commands before rest new) all
+    (wrong h rest new (one-more left' h takes) near (subst (λ cs. IsWrong m h.world h.ledger cs (unit ∷ [])) (sym (drop_all number commands (omega (arith, all)))) tt))
 
 -- what is said of it on the machine that is kept
 pub on-machine : {old now : Machine} {read unit : List ℕ} (w : World) (l : Ledger) (command : Command) (verdict : Verdict) (auditor : Auditor)
@@ -239,22 +229,23 @@ verdict-legal verdicts.Legal number e = refl
 verdict-legal verdicts.Illegal number e = cc
 
 -- a unit for the next command was read, and that is said of it
-module _ {m : Setting} {commands others : List Command} {number : ℕ} {before now after : Option (List ℕ)} {left : ℕ} {auditor : Auditor}
-    {command : Command} {unit : List ℕ} (left' : ℕ) (h : LegalSoFar m commands number before now left auditor)
-    (takes : IsOne unit × (left ≡ left' + length unit) × Cuts (unit ∷ []) now after) (is : drop number commands ≡ command ∷ others)
+module _ {m : Setting} {commands others : List Command} {number : ℕ} {before now : Option (List ℕ)} {left : ℕ} {auditor : Auditor}
+    {command : Command} {unit : List ℕ} (left' : ℕ) (rest : List ℕ) (new : PortsView)
+    (h : LegalSoFar m commands number before now left auditor)
+    (takes : IsOne unit × (left ≡ left' + length unit) × Cuts (unit ∷ []) now (undone rest new)) (is : drop number commands ≡ command ∷ others)
     (auditor' : Auditor) where
   -- the audit ends with it
-  pub verdict-ends : {finding : Finding} (Ended : Type 0) (verdict : Verdict) → IsRight m h.world h.ledger command unit verdict auditor'
-      → finding_of verdict (number + 1) ≡ Some finding → Judges finding m commands before after Ended
-  verdict-ends {finding} Ended verdicts.Legal right ends = cc
-  verdict-ends {finding} Ended verdicts.Illegal right ends =
+  pub verdict-ends : {finding : Finding} (verdict : Verdict) → length rest ≤ room → IsRight m h.world h.ledger command unit verdict auditor'
+      → finding_of verdict (number + 1) ≡ Some finding → Judges finding m commands before rest new
+  verdict-ends {finding} verdicts.Legal near right ends = cc
+  verdict-ends {finding} verdicts.Illegal near right ends =
       let same : findings.Illegal (number + 1) ≡ finding = ap (λ o. unwrap_or o finding) ends in
-      subst (λ f. Judges f m commands before after Ended) same
-      (wrong h (one-more left' h takes) Ended (subst (λ cs. IsWrong m h.world h.ledger cs (unit ∷ [])) (sym is) right))
+      subst (λ f. Judges f m commands before rest new) same
+      (wrong h rest new (one-more left' h takes) near (subst (λ cs. IsWrong m h.world h.ledger cs (unit ∷ [])) (sym is) right))
 
   -- it goes on, since the unit is legal
   pub verdict-goes : (verdict : Verdict) → IsRight m h.world h.ledger command unit verdict auditor' → verdict ≡ verdicts.Legal
-      → LegalSoFar m commands (number + 1) before after left' auditor'
+      → LegalSoFar m commands (number + 1) before (undone rest new) left' auditor'
   verdict-goes verdict right legal =
       let r = subst (λ v. IsRight m h.world h.ledger command unit v auditor') legal right in
       let t = one-more left' h takes in

@@ -1,2 +1,3 @@
 pub mod JudgeAll
 pub mod Findings
+pub mod Front

@@ -1,15 +1,14 @@
 -- What an audit finds in a transcript.
-use Rattle.std.specs.Prelude.{◌≡◌, ◌⊎◌, ℕ, ◌+◌, ◌<◌, ◌≤◌, Bool, List, [], ◌∷◌, ◌++◌}
+use Rattle.std.specs.Prelude.{◌≡◌, ◌⊎◌, ℕ, ◌+◌, ◌≤◌, Bool, List, [], ◌∷◌, ◌++◌}
 use Rattle.std.specs.Prelude.{length, Option, Some, None}
 use Rattle.std.specs.List.{AllByRecursion}
-use Rattle.av_io.specs.Source.{Took}
-use Rattle.av_ports.specs.Ports.{PortsView, undone}
+use Rattle.av_ports.specs.Ports.{PortsView, room, undone}
 use Rattle.av_trace.specs.declared.command.Command.{Command}
 use Rattle.av_plain.specs.Ledger.{Ledger, Setting, first_ledger}
 use Rattle.av_plain.specs.World.{World}
 use Rattle.av_audit_laws.specs.Unit.{AreUnits, IsUnit}
 use Rattle.av_audit_input.specs.Input.{IsEnded}
-use Rattle.av_audit_input.specs.Unit.{Cuts, IsOne, bytes_of, most_bytes, units_of}
+use Rattle.av_audit_input.specs.Unit.{Cuts, IsOne, StopsUnit, bytes_of, most_bytes, units_of}
 use Rattle.av_audit_input.specs.Trace.{AreLines, IsTrace, StopsWithin, TakesTrace, all_lines, mark}
 use Rattle.av_audit_input.specs.declared.input_err.InputErr.{InputErr}
 use Rattle.av_audit_input.specs.declared.input_err.InputErr.TheVariants as input
@@ -57,41 +56,33 @@ FindsIn (findings.Illegal n) m commands units Ended =
 -- ---- a transcript that is read
 
 -- Some units were taken, and that was found of them. They are the first ones of the transcript, all
--- where it has ended, and have no more bytes than they may have.
+-- where it has ended, and have no more bytes than they may have; and no more was read behind them
+-- than one read gives.
 pub record Judges (finding : Finding) (m : Setting) (commands : List Command)
-    (before now : Option (List ℕ)) (Ended : Type 0) : Type 0 where
+    (before : Option (List ℕ)) (rest : List ℕ) (new : PortsView) : Type 0 where
   pub units : List (List ℕ)
   pub each : AllByRecursion IsOne units
-  pub cuts : Cuts units before now
+  pub cuts : Cuts units before (undone rest new)
   pub few : length (bytes_of units) ≤ most_bytes
-  pub finds : FindsIn finding m commands units Ended
+  pub near : length rest ≤ room
+  pub finds : FindsIn finding m commands units (IsEnded rest new)
 
--- behind so many bytes a unit has more than there may be
-abbrev pub IsOver : ℕ → Option (List ℕ) → Type 0
-IsOver count now =
-    (part : List ℕ) × (rest : Option (List ℕ)) × Took now rest part × IsOne part
-    × (most_bytes < count + length part)
-
--- why a next unit was not judged
-abbrev pub StopsReading : InputErr → ℕ → Option (List ℕ) → Type 0
-StopsReading input.TooLong count now = IsOver count now
-StopsReading (input.BadLine n) count now = ⊥
-StopsReading input.TooMany count now = ⊥
-StopsReading error count now = Unit {0}
-
--- Some units were taken, which are legal for the first commands; and the next was not judged, whose
--- bytes stand in what was to come then.
+-- Some units were taken, which are legal for the first commands. Of the next one, which was not
+-- judged, all or a part was taken, of the bytes that may still come; and nothing behind it.
 pub record BreaksOff (error : InputErr) (m : Setting) (commands : List Command)
-    (before : Option (List ℕ)) : Type 0 where
+    (before : Option (List ℕ)) (rest : List ℕ) (new : PortsView) : Type 0 where
   pub done : List Command
   pub others : List Command
   pub commands_are : commands ≡ done ++ others
   pub units : List (List ℕ)
   pub each : AllByRecursion IsOne units
-  pub now : Option (List ℕ)
-  pub cuts : Cuts units before now
+  pub between : Option (List ℕ)
+  pub cuts : Cuts units before between
   pub legal : AreLegal m done units
-  pub stops : StopsReading error (length (bytes_of units)) now
+  pub left : ℕ
+  pub counts : most_bytes ≡ left + length (bytes_of units)
+  pub unit : List ℕ
+  pub stops : StopsUnit error left unit between rest new
 
 -- ---- trace and transcript
 
@@ -103,17 +94,17 @@ pub record Audits (finding : Finding) (m : Setting) (old new : PortsView) : Type
   pub ended : Bool
   pub trace : TakesTrace ended commands [] ahead old between
   pub rest : List ℕ
-  pub judges : Judges finding m commands (undone ahead between) (undone rest new)
-      (IsEnded rest new)
+  pub judges : Judges finding m commands (undone ahead between) rest new
 
--- the trace was not read; or it was, and then not the transcript
+-- memory was wanting before anything was done; or the trace was not read; or it was, and then not
+-- the transcript
 abbrev pub AuditStops : InputErr → Setting → PortsView → PortsView → Type 0
 AuditStops error m old new =
-    (error ≡ input.Memory)
+    ((error ≡ input.Memory) × (new ≡ old))
     ⊎ ((rest : List ℕ) × StopsWithin error [] rest old new)
-    ⊎ ((commands : List Command) × (ahead : List ℕ) × (between : PortsView) × (ended : Bool)
+    ⊎ ((commands : List Command) × (ahead rest : List ℕ) × (between : PortsView) × (ended : Bool)
     × TakesTrace ended commands [] ahead old between
-    × BreaksOff error m commands (undone ahead between))
+    × BreaksOff error m commands (undone ahead between) rest new)
 
 -- what is found at the unit of this number, if the audit ends there
 abbrev pub finding_of : Verdict → ℕ → Option Finding

@@ -5,8 +5,11 @@
 //! each is legal in its turn; else the first that isn't is named, which may be wanting, or come
 //! behind the last command (`audit`). Where the source tells what it has left that is so of all
 //! units of the transcript (`audits_of_inputs`). One that is legal has no first reply that isn't
-//! (`legal_or_stopped`), and another has that at one number alone (`stopped_once`). Nothing is
-//! written, and where the error tells of the source or of a flush, it was that which failed.
+//! (`legal_or_stopped`), and another has that at one number alone (`stopped_once`). Where an audit
+//! breaks off behind the trace, it took legal units, and of the next one a part or all; where source
+//! or sink failed nothing was read behind that. So it passed over no unit that isn't legal
+//! (`breaks_come_before_what_is_wrong`). Of a transcript no more is read than 2^32 bytes and what one
+//! more read gives. Nothing is written, and nothing fails but what the error tells of.
 //!
 //! Only tested: that memory suffices.
 #![tactic(auto)]
@@ -14,5 +17,7 @@
 mod laws;
 mod transcript;
 
-pub use laws::{audits_of_inputs, legal_or_stopped, stopped_once};
+pub use laws::{
+    audits_of_inputs, breaks_come_before_what_is_wrong, legal_or_stopped, stopped_once,
+};
 pub use transcript::{Finding, audit};

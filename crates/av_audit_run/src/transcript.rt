@@ -65,11 +65,10 @@ fn judge_all<P: Ports>(
     ensures judges { IfOk result (λ finding. (commands : List Command)
         → IsScript script.now commands
         → Judges finding (setting_of (machine_of auditor.old)) commands
-        (undone pending.old (P.view ports.old)) (undone pending.new (P.view ports.new))
-        (IsEnded pending.new (P.view ports.new))) }
+        (undone pending.old (P.view ports.old)) pending.new (P.view ports.new)) }
     ensures stops { IfErr result (λ e. (commands : List Command) → IsScript script.now commands
         → BreaksOff e (setting_of (machine_of auditor.old)) commands
-        (undone pending.old (P.view ports.old))) }
+        (undone pending.old (P.view ports.old)) pending.new (P.view ports.new)) }
     ensures only { OnlyReads (P.view ports.old) (P.view ports.new) }
     ensures fails { FailsOnly result (P.view ports.old) (P.view ports.new) }
     ensures over { extent.old.ended ≡ true → IfErr result IsNoPortErr }

@@ -5,6 +5,7 @@ use Rattle.av_io.specs.Count.{Rose}
 use Rattle.av_plain.specs.Device.{Device, setting_of}
 use Rattle.av_plain.specs.Ledger.{Setting}
 use Rattle.av_ports.specs.Ports.{OnlySink, PortsView}
+use Rattle.av_audit_input.proofs.InputLaws.{only-none, unfailed-none}
 use Rattle.av_audit_input.specs.declared.input_err.InputErr.{InputErr}
 use Rattle.av_audit_input.specs.declared.input_err.InputErr.TheVariants as input
 use Rattle.av_audit_run.specs.declared.transcript.Finding.{Finding}
@@ -21,7 +22,7 @@ module _ (m : Setting) (old new : PortsView) where
       → EndsText status mid.sink new.sink legal_text → EndsAudit status m old new
   legal-ends statuses.Done mid finds only ends = (mid, finds, only, ends)
   legal-ends statuses.WriteFault mid finds only ends = inr (mid, finds, only, ends)
-  legal-ends statuses.Memory mid finds only ends = inr (inr (mid, finds, only, ends))
+  legal-ends statuses.Memory mid finds only ends = inr (mid, finds, only, ends)
   legal-ends statuses.Usage mid finds only ends = absurd ends
   legal-ends statuses.AttachFault mid finds only ends = absurd ends
   legal-ends (statuses.BadLine number) mid finds only ends = absurd ends
@@ -37,7 +38,7 @@ module _ (m : Setting) (old new : PortsView) where
   breaks-ends input.TooLong breaks = breaks
   breaks-ends input.Read breaks = breaks
   breaks-ends input.Write breaks = inl breaks
-  breaks-ends input.Memory breaks = inr (inl breaks)
+  breaks-ends input.Memory breaks = inl breaks
 
   -- an audit that was begun doesn't end so
   pub never-misused : (status : Status) → EndsAudit status m old new → status ≢ statuses.Usage
@@ -67,8 +68,11 @@ is-told (Some pages) = refl
 -- memory was wanting before anything was read
 pub wanting : (frames : ℕ) (old : PortsView) → DoesAudit frames statuses.Memory old old
 wanting frames old =
-    let told = told-by old.device.pages in
-    (setting_of frames (record old.device { pages = Some told }), (told, is-told old.device.pages, refl), inl refl)
+    let told = told-by old.device.pages in (
+      setting_of frames (record old.device { pages = Some told }),
+      (told, is-told old.device.pages, refl),
+      inl (inl (refl, refl), only-none old, unfailed-none old),
+    )
 
 -- nothing failed of the device before it
 pub does-after : (frames : ℕ) (status : Status) (old mid new : PortsView) (m : Setting) → old ≡ mid → IsSettingOf frames old.device m

@@ -14,4 +14,5 @@ pub mod LoadLines
 pub mod Loads
 pub mod Sums
 pub mod Audits
+pub mod AuditTraces
 pub mod Asks

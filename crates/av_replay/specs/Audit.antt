@@ -1,13 +1,16 @@
 -- How an audit ends.
-use Rattle.std.specs.Prelude.{◌≡◌, ◌⊎◌, ℕ, List, [], ◌∷◌, ◌++◌, codes, length, None}
+use Rattle.std.specs.Prelude.{◌≡◌, ◌⊎◌, ℕ, ◌<◌, List, [], ◌∷◌, ◌++◌, codes, length, None}
 use Rattle.av_io.specs.Count.{Rose}
+use Rattle.av_io.specs.Sink.{HasFailed}
 use Rattle.av_plain.specs.Device.{Device, setting_of}
 use Rattle.av_plain.specs.Ledger.{Setting}
-use Rattle.av_ports.specs.Ports.{PortsView, OnlySink}
+use Rattle.av_ports.specs.Ports.{PortsView, AreUnfailed, IsReadFault, OnlySink}
+use Rattle.av_trace.specs.declared.command.Command.{Command}
 use Rattle.av_audit_input.specs.Input.{FailsBy, OnlyReads}
 use Rattle.av_audit_input.specs.declared.input_err.InputErr.{InputErr}
 use Rattle.av_audit_input.specs.declared.input_err.InputErr.TheVariants as input
-use Rattle.av_audit_run.specs.Transcript.{AuditStops, Audits}
+use Rattle.av_audit_input.specs.Unit.{most_bytes, units_of}
+use Rattle.av_audit_run.specs.Transcript.{AuditStops, Audits, IsFinding}
 use Rattle.av_audit_run.specs.declared.transcript.Finding.{Finding}
 use Rattle.av_audit_run.specs.declared.transcript.Finding.TheVariants as findings
 use Rattle.av_audit_machine.specs.Heads.{IsSettingOf, OnlyFails}
@@ -20,9 +23,9 @@ use Rattle.av_replay.specs.declared.status.Status.TheVariants as statuses
 abbrev pub legal_text : List ℕ
 legal_text = codes "legal" ++ 10 ∷ []
 
--- an audit came to this, having written nothing
+-- an audit came to this, having written nothing, and nothing failed
 abbrev pub Finds : Finding → Setting → PortsView → PortsView → Type 0
-Finds finding m old new = Audits finding m old new × OnlyReads old new
+Finds finding m old new = Audits finding m old new × OnlyReads old new × AreUnfailed old new
 
 -- it was found legal, and that was written, or not, by the status
 abbrev pub WritesLegal : Status → Setting → PortsView → PortsView → Type 0
@@ -45,9 +48,23 @@ EndsAudit statuses.ReadFault m old new = BreaksOff input.Read m old new
 EndsAudit statuses.WriteFault m old new =
     BreaksOff input.Write m old new ⊎ WritesLegal statuses.WriteFault m old new
 EndsAudit statuses.Memory m old new =
-    (new ≡ old) ⊎ BreaksOff input.Memory m old new ⊎ WritesLegal statuses.Memory m old new
+    BreaksOff input.Memory m old new ⊎ WritesLegal statuses.Memory m old new
 EndsAudit statuses.Usage m old new = ⊥
 EndsAudit statuses.AttachFault m old new = ⊥
+
+-- What an audit ends with of a trace of these commands, its mark and this transcript: that is so of
+-- all units of it, unless there are too many bytes, memory is wanting, or source or sink failed.
+abbrev pub IsJudged :
+    Status → Setting → List Command → List ℕ → PortsView → PortsView → Type 0
+IsJudged statuses.Done m commands transcript old new =
+    IsFinding findings.Legal m commands (units_of transcript)
+IsJudged (statuses.Illegal n) m commands transcript old new =
+    IsFinding (findings.Illegal n) m commands (units_of transcript)
+IsJudged statuses.TooLong m commands transcript old new = most_bytes < length transcript
+IsJudged statuses.ReadFault m commands transcript old new = IsReadFault old.source new.source
+IsJudged statuses.WriteFault m commands transcript old new = HasFailed old.sink new.sink
+IsJudged statuses.Memory m commands transcript old new = Unit {0}
+IsJudged status m commands transcript old new = ⊥
 
 -- what an audit says that was begun, on a machine of so many frames over the device
 abbrev pub DoesAudit : ℕ → Status → PortsView → PortsView → Type 0

@@ -25,19 +25,13 @@ pub record RefusesWords (status : Status) (words : List (List ℕ)) : Type 0 whe
   pub only : status ≡ statuses.Usage → HasNoForm words
   pub always : status ≢ statuses.Memory → HasNoForm words → status ≡ statuses.Usage
 
--- memory was wanting for the words, so that nothing was done
-pub record WantsForWords (status : Status) (old new : PortsView) (kernel : Option Machine)
-    : Type 0 where
-  pub wanting : status ≡ statuses.Memory
-  pub same : new ≡ old
-  pub none : kernel ≡ None
-
--- it did what the words ask for; or memory was wanting for them
+-- it did what the words ask for; or memory was wanting for them, so that nothing was done
 abbrev pub DoesAsked :
     List (List ℕ) → Status → PortsView → PortsView → Option Machine → Type 0
 DoesAsked words status old new kernel =
-    WantsForWords status old new kernel ⊎ ((demand : Asked) × (names : List (List ℕ))
-    × IsForm words demand names × DoesOver demand names status old new kernel)
+    ((status ≡ statuses.Memory) × (new ≡ old) × (kernel ≡ None))
+    ⊎ ((demand : Asked) × (names : List (List ℕ)) × IsForm words demand names
+    × DoesOver demand names status old new kernel)
 
 -- the words ask for a load
 abbrev pub AskForLoad : List (List ℕ) → Type 0

@@ -1,8 +1,12 @@
 //! Laws of the headline.
 
-ghost use Rattle.std.specs.Prelude.{◌≡◌, ℕ, List, Option, Some};
+ghost use Rattle.std.specs.Prelude.{◌≡◌, ℕ, List, [], ◌∷◌, ◌++◌, Option, Some};
 ghost use Rattle.av_kernel.specs.Machine.{Machine};
+ghost use Rattle.av_trace.specs.declared.command.Command.{Command};
+ghost use Rattle.av_plain.specs.Ledger.{Setting};
 ghost use Rattle.av_ports.specs.Ports.{PortsView};
+ghost use Rattle.av_audit_input.specs.Trace.{IsTrace, all_lines, mark};
+ghost use Rattle.av_replay.specs.Audit.{EndsAudit, IsJudged};
 ghost use Rattle.av_replay.specs.Replay.{DoesTrace, Headline};
 ghost use Rattle.av_replay.specs.Trace.{EndsAtBadLine, EndsAtMostLines, EndsAtRead};
 ghost use Rattle.av_replay.specs.Trace.{EndsWithinReply, IsComplete, WritesTranscript, lines_of};
@@ -61,4 +65,15 @@ pub fn failed_writes_cut_the_last_reply()
         → Headline n Status.WriteFault old new kernel
         → old.source.left ≡ Some content → old.sink.held ≡ Some before
         → EndsWithinReply n old.device (lines_of content) before new.sink.held }
+{}
+
+/// What `run` says of an audit: the transcript behind a good trace and its mark, of a source that
+/// tells what is left, is judged, all of it, where neither source nor sink fails; or it is too
+/// long, or memory runs out.
+pub fn good_traces_are_judged()
+    ensures { (m : Setting) (status : Status) (lines : List (List ℕ)) (commands : List Command)
+        (transcript : List ℕ) (old new : PortsView) → EndsAudit status m old new
+        → IsTrace lines commands
+        → old.source.left ≡ Some (all_lines (lines ++ mark ∷ []) ++ transcript)
+        → IsJudged status m commands transcript old new }
 {}

@@ -17,7 +17,9 @@
 //! `replies_are_out_before_a_read`, `failed_writes_cut_the_last_reply`). Of a load: its lines are
 //! those of the seed, their transcript is legal, the summary counts it and the kernel handed back,
 //! and nothing is read. Of an audit: that the transcript is legal, or which reply is the first that
-//! isn't, is so by the definitions (`DoesAudit`), and no kernel is handed back.
+//! isn't, is so by the definitions (`DoesAudit`), and no kernel is handed back; behind a good trace
+//! it says one of these, unless memory is wanting, source or sink fails, or the transcript is too
+//! long (`good_traces_are_judged`).
 //! That memory suffices is only tested.
 #![tactic(auto)]
 
@@ -41,7 +43,8 @@ mod work_over;
 pub use attach::attach_all;
 pub use laws::{
     bad_lines_end_runs, done_runs_write_their_transcript, failed_writes_cut_the_last_reply,
-    good_traces_are_done, lines_are_done_up_to_the_most, replies_are_out_before_a_read,
+    good_traces_are_done, good_traces_are_judged, lines_are_done_up_to_the_most,
+    replies_are_out_before_a_read,
 };
 pub use outcome::Outcome;
 pub use progress::{NoProgress, Progress};

@@ -7,7 +7,7 @@ use Rattle.av_text.specs.Word.{after}
 use Rattle.av_trace.specs.declared.command.Command.{Command}
 use Rattle.av_trace.specs.Command.{IsInRange, command_of}
 use Rattle.av_trace.specs.Line.{Says}
-use Rattle.av_trace.proofs.LineLaws.{says_is, says_one}
+use Rattle.av_trace.proofs.LineLaws.{says_is}
 use Rattle.av_plain.specs.Transcript.{Exchange}
 use Rattle.av_ports.specs.Line.{IsLine}
 use Rattle.av_audit_input.specs.Trace.{AreSaid, IsTraceLine, mark}
@@ -36,17 +36,14 @@ unmarked (line ∷ lines) es all did = (
   unmarked lines did.1 all.1 did.4,
 )
 
--- a line says one thing, so the commands are these
-pub same-commands : (lines : List (List ℕ)) (es : List Exchange) (cs : List Command) → Transcribes lines es → AreSaid lines cs
-    → cs ≡ commands_of es
-same-commands [] es cs did says = says ∙ sym (ap commands_of did)
-same-commands (line ∷ lines) es cs did says =
-    let one = says_one line says.0 (command_by did.0) says.3 did.3 in
-    let rest = same-commands lines did.1 says.1 did.4 says.4 in
-    says.2 ∙ (λ i. option_to_list (one i) ++ rest i) ∙ by did.0 did.1 ∙ sym (ap commands_of did.2)
+-- the lines of a run say its commands
+pub says-all : (lines : List (List ℕ)) (es : List Exchange) → Transcribes lines es → AreSaid lines (commands_of es)
+says-all [] es did = ap commands_of did
+says-all (line ∷ lines) es did =
+    (command_by did.0, commands_of did.1, ap commands_of did.2 ∙ by did.0 did.1, did.3, says-all lines did.1 did.4)
   where
     by : (did : Option Exchange) (others : List Exchange)
-        → option_to_list (command_by did) ++ commands_of others ≡ commands_of (option_to_list did ++ others)
+        → commands_of (option_to_list did ++ others) ≡ option_to_list (command_by did) ++ commands_of others
     by None others = refl
     by (Some e) others = refl
 
@@ -70,9 +67,3 @@ no-more (line ∷ lines) es did =
         → length (option_to_list did ++ others) ≤ length (line ∷ lines)
     by None others few = omega (arith, few)
     by (Some e) others few = omega (arith, few)
-
--- each line says something
-pub says-some : (front : List (List ℕ)) (line : List ℕ) (others : List (List ℕ)) (es : List Exchange) → Transcribes (front ++ line ∷ others) es
-    → (command : Option Command) × Says line command
-says-some [] line others es did = (command_by did.0, did.3)
-says-some (x ∷ front) line others es did = says-some front line others did.1 did.4

@@ -1,5 +1,5 @@
--- A run's text is a legal transcript, so an audit finds no reply of it illegal.
-use Rattle.std.proofs.Common.{◌≡◌, ℕ, ◌≤◌, ◌^◌, refl, sym, subst, List, [], ◌∷◌, ◌++◌, length, map, Some}
+-- A run's text is a legal transcript.
+use Rattle.std.proofs.Common.{◌≡◌, ℕ, ◌≤◌, ◌^◌, refl, sym, subst, List, [], ◌∷◌, ◌++◌, length, map}
 use Rattle.std.specs.List.{AllByRecursion}
 use Rattle.av_trace.specs.declared.command.Command.{Command}
 use Rattle.av_trace.specs.Command.{IsInRange}
@@ -8,19 +8,13 @@ use Rattle.av_trace.specs.Reply.{IsReply}
 use Rattle.av_plain.specs.Ledger.{Setting, first_ledger}
 use Rattle.av_plain.specs.Transcript.{Exchange, IsRun, State, at_first, text_of_run}
 use Rattle.av_plain.proofs.Sound.{run-legal}
-use Rattle.av_ports.specs.Ports.{PortsView}
 use Rattle.av_laws.specs.ReadBack.{IsSmallSetting}
 use Rattle.av_laws.proofs.ReadBack.OfRuns.{run-reads_back}
 use Rattle.av_audit_laws.specs.Unit.{SayUnits}
 use Rattle.av_audit_laws.proofs.UnitLaws.{transcript-units}
-use Rattle.av_audit_input.specs.Trace.{IsTraceLine}
 use Rattle.av_audit_input.specs.Unit.{units_of}
-use Rattle.av_audit_run.specs.Transcript.{AreLegal, Audits, IsWrong, StopsAt}
-use Rattle.av_audit_run.specs.declared.transcript.Finding.TheVariants as findings
-use Rattle.av_audit_run.proofs.Findings.{audit-of, legal-or-stopped}
-use Rattle.av_replay.specs.Replay.{Transcribes}
-use Rattle.av_round_laws.proofs.Front.{front-one, marked}
-use Rattle.av_round_laws.proofs.Commands.{commands_of, same-commands}
+use Rattle.av_audit_run.specs.Transcript.{AreLegal}
+use Rattle.av_round_laws.proofs.Commands.{commands_of}
 use Rattle.av_round_laws.proofs.Units.{units-run}
 
 say-units : (es : List Exchange) → AllByRecursion (λ (e : Exchange). IsReply e.reply) es
@@ -40,16 +34,3 @@ units-legal m es new small few range run =
       transcript-units m [] first_ledger (commands_of es) units new.world new.ledger
           (es, say-units es replies, run-legal m (at_first m) es new run),
     )
-
--- an audit of the lines, the mark and a text that is legal finds none illegal
-pub none-illegal : (lines : List (List ℕ)) (es : List Exchange) (transcript : List ℕ) (m : Setting) (n : ℕ) (old new : PortsView)
-    → AllByRecursion IsTraceLine lines → Transcribes lines es → AreLegal m (commands_of es) (units_of transcript)
-    → old.source.left ≡ Some (marked lines ++ transcript) → Audits (findings.Illegal n) m old new → ⊥
-none-illegal lines es transcript m n old new all did legal left h =
-    let of = audit-of (findings.Illegal n) m old new (marked lines ++ transcript) h left in
-    let same = front-one lines of.lines all of.trace.good transcript of.bytes of.transcript of.content_is of.front in
-    let commands = same-commands of.lines es of.commands (subst (λ (ls : List (List ℕ)). Transcribes ls es) (sym same.0) did) of.trace.says in
-    let stops : StopsAt m of.commands (units_of of.transcript) n IsWrong = of.finds in
-    legal-or-stopped m (commands_of es) (units_of transcript) n legal
-    (subst (λ (cs : List Command). StopsAt m cs (units_of transcript) n IsWrong) commands
-    (subst (λ (bytes : List ℕ). StopsAt m of.commands (units_of bytes) n IsWrong) same.1 stops))

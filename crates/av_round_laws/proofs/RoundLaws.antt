@@ -9,7 +9,7 @@ use Rattle.std.proofs.lemmas.Option.{same_Some}
 use Rattle.av_text.specs.Number.{IsWide}
 use Rattle.av_plain.specs.Device.{Device, setting_of}
 use Rattle.av_plain.specs.Ledger.{Setting}
-use Rattle.av_plain.specs.Transcript.{Exchange}
+use Rattle.av_trace.specs.declared.command.Command.{Command}
 use Rattle.av_kernel.specs.Machine.{Machine}
 use Rattle.av_audit_machine.specs.Heads.{IsSettingOf}
 use Rattle.av_mem.proofs.ServesLaws.{same-setting}
@@ -17,35 +17,32 @@ use Rattle.av_io.specs.Sink.{Gained}
 use Rattle.av_ports.specs.Line.{IsLine}
 use Rattle.av_ports.specs.Ports.{IsAtEnd, PortsView}
 use Rattle.av_laws.proofs.ReadBack.Device.{small-device}
-use Rattle.av_audit_input.specs.Trace.{IsTraceLine}
+use Rattle.av_audit_input.specs.Trace.{IsTrace}
 use Rattle.av_audit_input.specs.Unit.{units_of}
-use Rattle.av_audit_input.specs.declared.input_err.InputErr.{InputErr}
-use Rattle.av_audit_input.specs.declared.input_err.InputErr.TheVariants as input
-use Rattle.av_audit_run.specs.Transcript.{AreLegal, AuditStops}
+use Rattle.av_audit_run.specs.Transcript.{AreLegal}
+use Rattle.av_audit_run.proofs.Findings.{legal-or-stopped}
 use Rattle.av_words.specs.declared.words.Asked.{Asked}
-use Rattle.av_replay.specs.Audit.{EndsAudit, legal_text}
+use Rattle.av_replay.specs.Audit.{EndsAudit, IsJudged, legal_text}
 use Rattle.av_replay.specs.Over.{AuditsOver, DoesOver, ReplaysOver}
 use Rattle.av_replay.specs.Replay.{Transcribes}
 use Rattle.av_replay.specs.TopCall.{DoesAsked}
 use Rattle.av_replay.specs.Trace.{lines_of}
 use Rattle.av_replay.specs.declared.status.Status.{Status}
 use Rattle.av_replay.specs.declared.status.Status.TheVariants as statuses
+use Rattle.av_replay.proofs.AuditTraces.{judged}
 use Rattle.av_replay.proofs.Traces.{all_done}
 use Rattle.av_round_laws.specs.Round.{AuditEnds, FindsLegal, RunWrites, SayAlike, input_of}
-use Rattle.av_round_laws.proofs.Legal.{none-illegal, units-legal}
-use Rattle.av_round_laws.proofs.Commands.{commands_of, in-range, no-more, unmarked}
-use Rattle.av_round_laws.proofs.Stops.{MayStop, audit-stops}
+use Rattle.av_round_laws.proofs.Legal.{units-legal}
+use Rattle.av_round_laws.proofs.Commands.{commands_of, in-range, no-more, says-all, unmarked}
 use Rattle.av_round_laws.proofs.Asks.{asks-audit, asks-run}
 
 -- ---- a run
 
 -- its lines say these commands, and what it wrote is legal for them over this device
 pub record IsRunOf (frames : ℕ) (trace transcript : List ℕ) (device : Device) : Type 0 where
-  pub lines : AllByRecursion IsTraceLine (lines_of trace)
-  pub few : length (lines_of trace) ≤ 2 ^ 24
-  pub es : List Exchange
-  pub did : Transcribes (lines_of trace) es
-  pub legal : AreLegal (setting_of frames device) (commands_of es) (units_of transcript)
+  pub commands : List Command
+  pub is_trace : IsTrace (lines_of trace) commands
+  pub legal : AreLegal (setting_of frames device) commands (units_of transcript)
 
 are-lines : (lines : List (List ℕ)) (last : Option (List ℕ)) (rest : List ℕ) (new : PortsView) → AllByRecursion IsLine lines
     → IfSome last (λ line. IsLine line × (0 < length line) × (rest ≡ []) × IsAtEnd new.source)
@@ -86,10 +83,12 @@ run-over frames names trace transcript before old new kernel wide over read held
     let legal = units-legal (setting_of frames over.attached) run.transcript run.state (small-device frames over.attached wide sizes)
     (omega (arith, few, no-more (lines_of trace) run.transcript did)) (in-range (lines_of trace) run.transcript did) r.legal in
     record {
-      lines = unmarked (lines_of trace) run.transcript is did;
-      few = few;
-      es = run.transcript;
-      did = did;
+      commands = commands_of run.transcript;
+      is_trace = record {
+        good = unmarked (lines_of trace) run.transcript is did;
+        few = few;
+        says = says-all (lines_of trace) run.transcript did;
+      };
       legal = subst (λ (m : Setting). AreLegal m (commands_of run.transcript) (units_of transcript))
           (sym (same-setting frames over.attached new.device r.device))
           (subst (λ (bytes : List ℕ). AreLegal (setting_of frames over.attached) (commands_of run.transcript) (units_of bytes)) (sym text) legal);
@@ -103,7 +102,7 @@ run-of frames trace transcript device h = subst (IsRunOf frames trace transcript
     wide = omega (arith, h.form.within.most)
 
     by : DoesAsked h.words statuses.Done h.old h.new h.kernel → IsRunOf frames trace transcript h.new.device
-    by (inl wants) = absurd (never wants.wanting)
+    by (inl wants) = absurd (never wants.0)
       where
         never : statuses.Done ≡ statuses.Memory → ⊥
         never e = cc
@@ -130,34 +129,27 @@ alike-setting : (frames : ℕ) (device other : Device) → SayAlike device other
 alike-setting frames device other alike = λ i. record { frames = frames; sizes = alike.sizes i; headers = alike.headers i }
 
 module _ (frames : ℕ) (trace transcript : List ℕ) (device : Device) (run : IsRunOf frames trace transcript device) where
-  none-found : (n : ℕ) (m : Setting) (old new : PortsView) → m ≡ setting_of frames device
-      → old.source.left ≡ Some (input_of trace transcript) → EndsAudit (statuses.Illegal n) m old new → ⊥
-  none-found n m old new same read ends =
-      none-illegal (lines_of trace) run.es transcript m n old new run.lines run.did
-      (subst (λ (m : Setting). AreLegal m (commands_of run.es) (units_of transcript)) (sym same) run.legal) read ends.0
-
-  stops-by : (error : InputErr) (m : Setting) (old new : PortsView) (attached : Device) → old.source.left ≡ Some (input_of trace transcript)
-      → AuditStops error m (record old { device = attached }) new → MayStop error transcript
-  stops-by error m old new attached read stops =
-      audit-stops (lines_of trace) run.es transcript run.lines run.few run.did error m (record old { device = attached }) new read stops
-
   -- an audit that began with these areas attached
   audit-ends : (status : Status) (m : Setting) (old new : PortsView) (attached : Device) → (new.device ≡ attached → m ≡ setting_of frames device)
       → old.source.left ≡ Some (input_of trace transcript) → EndsAudit status m (record old { device = attached }) new
       → FindsLegal status transcript old new
-  audit-ends (statuses.Illegal n) m old new attached same read ends =
-      none-found n m (record old { device = attached }) new (same ends.1.device) read ends
-  audit-ends (statuses.BadLine n) m old new attached same read ends = stops-by (input.BadLine n) m old new attached read ends.0
-  audit-ends statuses.TooMany m old new attached same read ends = stops-by input.TooMany m old new attached read ends.0
-  audit-ends statuses.TooLong m old new attached same read ends = stops-by input.TooLong m old new attached read ends.0
-  audit-ends statuses.Done m old new attached same read ends =
-      subst (λ (held : Option (List ℕ)). Gained held new.sink.held legal_text) ends.1.1.held ends.3.0
-  audit-ends statuses.ReadFault m old new attached same read ends = ends.2.read
-  audit-ends statuses.WriteFault m old new attached same read (inl stops) = stops.2.sink.told
-  audit-ends statuses.WriteFault m old new attached same read (inr writes) = writes.3.2.told
-  audit-ends statuses.Memory m old new attached same read ends = tt
-  audit-ends statuses.Usage m old new attached same read ends = ends
-  audit-ends statuses.AttachFault m old new attached same read ends = ends
+  audit-ends status m old new attached same read ends =
+      by status ends (judged (lines_of trace) run.commands transcript run.is_trace m (record old { device = attached }) new read status ends)
+    where
+      by : (status : Status) → EndsAudit status m (record old { device = attached }) new
+          → IsJudged status m run.commands transcript (record old { device = attached }) new → FindsLegal status transcript old new
+      by (statuses.Illegal n) ends is =
+          legal-or-stopped m run.commands (units_of transcript) n
+          (subst (λ (m : Setting). AreLegal m run.commands (units_of transcript)) (sym (same ends.1.device)) run.legal) is
+      by (statuses.BadLine n) ends is = is
+      by statuses.TooMany ends is = is
+      by statuses.TooLong ends is = is
+      by statuses.Done ends is = subst (λ (held : Option (List ℕ)). Gained held new.sink.held legal_text) ends.1.1.held ends.3.0
+      by statuses.ReadFault ends is = is
+      by statuses.WriteFault ends is = is
+      by statuses.Memory ends is = tt
+      by statuses.Usage ends is = is
+      by statuses.AttachFault ends is = is
 
   audit-over : (names : List (List ℕ)) (status : Status) (old new : PortsView) (other : Device) → new.device ≡ other → SayAlike device other
       → AuditsOver frames names status old new → old.source.left ≡ Some (input_of trace transcript) → FindsLegal status transcript old new
@@ -175,7 +167,7 @@ pub found-legal : (frames : ℕ) (trace transcript : List ℕ) (status : Status)
 found-legal frames trace transcript status device other run h alike = by h.does
   where
     by : DoesAsked h.words status h.old h.new h.kernel → FindsLegal status transcript h.old h.new
-    by (inl wants) = subst (λ (s : Status). FindsLegal s transcript h.old h.new) (sym wants.wanting) tt
+    by (inl wants) = subst (λ (s : Status). FindsLegal s transcript h.old h.new) (sym wants.0) tt
     by (inr (demand, names, form, does)) =
         let over = subst (λ (d : Asked). DoesOver d names status h.old h.new h.kernel) (asks-audit h.words h.names names frames demand h.form form)
         does in

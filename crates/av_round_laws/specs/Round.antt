@@ -2,7 +2,7 @@
 use Rattle.std.specs.Prelude.{◌≡◌, ℕ, ◌<◌, List, [], ◌∷◌, ◌++◌, length, Option, Some, is_some, true}
 use Rattle.av_plain.specs.Device.{Device, headers_of}
 use Rattle.av_kernel.specs.Machine.{Machine}
-use Rattle.av_io.specs.Sink.{Gained}
+use Rattle.av_io.specs.Sink.{Gained, HasFailed}
 use Rattle.av_ports.specs.Ports.{IsReadFault, PortsView}
 use Rattle.av_words.specs.Words.{IsForm}
 use Rattle.av_words.specs.declared.words.Asked.TheVariants as asked
@@ -55,11 +55,11 @@ pub record SayAlike (device other : Device) : Type 0 where
   pub headers : headers_of other ≡ headers_of device
 
 -- how an audit ends of a transcript that is legal: it writes so, unless memory is wanting, its
--- source or the last call of its sink failed, or the transcript is too long
+-- source or its sink failed, or the transcript is too long
 abbrev pub FindsLegal : Status → List ℕ → PortsView → PortsView → Type 0
 FindsLegal statuses.Done transcript old new = Gained old.sink.held new.sink.held legal_text
 FindsLegal statuses.Memory transcript old new = Unit {0}
 FindsLegal statuses.ReadFault transcript old new = IsReadFault old.source new.source
-FindsLegal statuses.WriteFault transcript old new = new.sink.last_failed ≡ true
+FindsLegal statuses.WriteFault transcript old new = HasFailed old.sink new.sink
 FindsLegal statuses.TooLong transcript old new = most_bytes < length transcript
 FindsLegal status transcript old new = ⊥

@@ -7,8 +7,8 @@ ghost use Rattle.av_round_laws.specs.Round.{AuditEnds, FindsLegal, RunWrites, Sa
 ghost use Rattle.av_round_laws.specs.Round.{input_of};
 
 /// What a run that is done wrote is a legal transcript of its trace to an audit with as many frames
-/// over such a device: the audit writes `legal`, unless memory is wanting, its source or the last
-/// call of its sink failed, or the transcript has more than 2^32 bytes. So it finds no reply that
+/// over such a device: the audit writes `legal`, unless memory is wanting, its source or its sink
+/// failed, once and counted, or the transcript has more than 2^32 bytes. So it finds no reply that
 /// isn't legal, and no bad line of the trace.
 ///
 /// This is so where the run's source told the trace, its sink what was written, and its device the

@@ -13,7 +13,7 @@ returns-in_err-next_line-clause-stops g c =
     rw (p.1, p.2) (stops-line c.in_err-next_line.field-0.0 past.0 past.1 c.loop-number.number c.args.pending.now
     c.loop-number.pending c.next_line.new.pending (g.P.Ports.view c.args.ports.now) (g.P.Ports.view c.loop-number.ports)
     (g.P.Ports.view c.next_line.new.ports) past.3 (omega (arith, c.loop-number-test.true)) c.in_err-next_line.ensures.same
-    c.in_err-next_line.ensures.stops)
+    c.next_line.ensures.near c.in_err-next_line.ensures.stops)
 
 pub returns-in_err-next_line-clause-only : goal.returns-in_err-next_line-clause-only
 returns-in_err-next_line-clause-only g c = only-then _ _ _ c.loop-number.invariant.only c.next_line.ensures.only
@@ -36,7 +36,8 @@ returns-in-Transcript-clause-taken g c =
       subst (λ cs. IsScript c.next_line.new.script cs) t.2.1 t.1,
       ends-marked _ past.0 past.1 c.loop-number.number c.args.pending.now
           c.loop-number.pending c.next_line.new.pending (g.P.Ports.view c.args.ports.now) (g.P.Ports.view c.loop-number.ports)
-          (g.P.Ports.view c.next_line.new.ports) past.3 (omega (arith, c.loop-number-test.true)) c.loop-number.invariant.untold t.2.0,
+          (g.P.Ports.view c.next_line.new.ports) past.3 (omega (arith, c.loop-number-test.true)) c.loop-number.invariant.untold
+          c.next_line.ensures.near t.2.0,
     )
 
 pub returns-in-End-clause-taken : goal.returns-in-End-clause-taken
@@ -48,7 +49,8 @@ returns-in-End-clause-taken g c =
       t.1,
       ends-next past.0 past.1 t.0 c.loop-number.number c.args.pending.now
           c.loop-number.pending c.next_line.new.pending (g.P.Ports.view c.args.ports.now) (g.P.Ports.view c.loop-number.ports)
-          (g.P.Ports.view c.next_line.new.ports) past.3 (omega (arith, c.loop-number-test.true)) c.loop-number.invariant.untold t.2,
+          (g.P.Ports.view c.next_line.new.ports) past.3 (omega (arith, c.loop-number-test.true)) c.loop-number.invariant.untold
+          c.next_line.ensures.near t.2,
     )
 
 pub returns-in-End-clause-only : goal.returns-in-End-clause-only
@@ -84,7 +86,8 @@ returns-clause-taken g c =
       past.2,
       ends-marked ended past.0 past.1 c.loop-number.number c.args.pending.now
           c.loop-number.pending c.take_mark.new.pending (g.P.Ports.view c.args.ports.now) (g.P.Ports.view c.loop-number.ports)
-          (g.P.Ports.view c.take_mark.new.ports) past.3 (omega (arith, c.loop-number.auto.number-end)) c.loop-number.invariant.untold h,
+          (g.P.Ports.view c.take_mark.new.ports) past.3 (omega (arith, c.loop-number.auto.number-end)) c.loop-number.invariant.untold
+          c.take_mark.ensures.near h,
     ))
     c.take_mark.ensures.taken
 
@@ -97,7 +100,7 @@ returns-clause-stops g c =
     mark-within c.take_mark.result past.0 past.1 c.loop-number.number c.args.pending.now
     c.loop-number.pending c.take_mark.new.pending (g.P.Ports.view c.args.ports.now) (g.P.Ports.view c.loop-number.ports)
     (g.P.Ports.view c.take_mark.new.ports) past.3 (omega (arith, c.loop-number.auto.number-end, c.loop-number-test.false))
-    c.take_mark.ensures.same c.take_mark.ensures.stops
+    c.take_mark.ensures.near c.take_mark.ensures.same c.take_mark.ensures.stops
 
 pub returns-clause-fails : goal.returns-clause-fails
 returns-clause-fails g c = mark-fails-since c.take_mark.result (g.P.Ports.view c.args.ports.now) (g.P.Ports.view c.loop-number.ports)

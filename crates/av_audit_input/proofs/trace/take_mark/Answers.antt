@@ -10,6 +10,7 @@ returns-in-Err g c =
     rw c.last_error.ensures (record {
       taken = tt;
       stops = mark-stops old now mid e c.in-Err.ensures.line;
+      near = c.in-Err.ensures.reads.near;
       same = c.in-Err.ensures.reads.same;
       only = only-read c.args.pending.now mid old now c.in-Err.ensures.reads c.in-Err.ensures.flushed;
       fails = mark-fails old now mid e c.in-Err.ensures.line c.in-Err.ensures.unfailed c.in-Err.ensures.none_kept;

@@ -77,9 +77,10 @@ returns-in_err-take_piece-clause-stops g c =
     let took = took-on (undone c.args.pending.now old) (undone c.loop-unit.pending mid) (undone ahead now) unit was.took c.has_more.ensures.same in
     let p = err_from_is_err_and c.from_residual-in_err-take_piece.result c.from_residual-in_err-take_piece.ensures.1 in
     let stops = untaken e c.args.extent.now.left c.has_more.new.extent.left unit c.args.pending.now ahead old now was.part took
-    (omega (arith, was.counts, c.has_more.ensures.left)) not c.in_err-take_piece.ensures.err in
-    let there = subst (λ u. StopsUnit e c.args.extent.now.left u c.args.pending.now ahead old now) (sym c.in_err-take_piece.ensures.same_unit) stops in
-    rw (p.1, p.2) (subst (λ a. StopsUnit e c.args.extent.now.left c.take_piece.new.unit.items c.args.pending.now a old now)
+    (omega (arith, was.counts, c.has_more.ensures.left)) c.has_more.ensures.near not c.in_err-take_piece.ensures.err in
+    let before = undone c.args.pending.now old in
+    let there = subst (λ u. StopsUnit e c.args.extent.now.left u before ahead now) (sym c.in_err-take_piece.ensures.same_unit) stops in
+    rw (p.1, p.2) (subst (λ a. StopsUnit e c.args.extent.now.left c.take_piece.new.unit.items before a now)
     (sym c.in_err-take_piece.ensures.same) there)
 
 pub returns-in_err-take_piece-clause-only : goal.returns-in_err-take_piece-clause-only

@@ -15,6 +15,7 @@ returns-in-Ok-Legal-clause-ends g c =
     legal-ends m old (g.P.Ports.view c.write_last.new.ports) c.write_last.result mid (
       subst (λ (f : Finding). Audits f m old mid) c.in-Ok-Legal.field-0-is c.in-Ok-Legal.ensures.audits,
       c.in-Ok-Legal.ensures.only,
+      c.in-Ok-Legal.ensures.fails,
     )
     c.write_last.ensures.only c.write_last.ensures.ends
 
@@ -25,6 +26,7 @@ returns-in-Ok-Illegal-clause-ends g c =
     let new = g.P.Ports.view c.audit.new.ports in (
       subst (λ (f : Finding). Audits f m old new) c.in-Ok-Illegal.field-0-is c.in-Ok-Illegal.ensures.audits,
       c.in-Ok-Illegal.ensures.only,
+      c.in-Ok-Illegal.ensures.fails,
     )
 
 pub returns-in-Err-clause-ends : goal.returns-in-Err-clause-ends

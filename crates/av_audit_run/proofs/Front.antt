@@ -1,12 +1,21 @@
--- The lines in front of the mark are one list, and so is what comes behind it.
-use Rattle.std.proofs.Common.{◌≡◌, ◌∙◌, ℕ, true, refl, sym, ap, subst, List, [], ◌∷◌, ◌++◌, append-nil, append_assoc, ◌⊎◌, inl, inr}
+-- The lines in front of the mark are one list, and so is what comes behind it; so what is found of
+-- an input is found of these.
+use Rattle.std.proofs.Common.{◌≡◌, ◌∙◌, ℕ, true, refl, sym, ap, subst, List, [], ◌∷◌, ◌++◌, append-nil, append_assoc, ◌⊎◌, inl, inr, Some}
+use Rattle.std.specs.Prelude.{option_to_list}
 use Rattle.std.specs.List.{AllByRecursion}
 use Rattle.std.proofs.lemmas.List.Elements.{All-head, All-tail}
 use Rattle.av_trace.proofs.Split.{first_line, lacks, lacks-cons}
+use Rattle.av_trace.proofs.LineLaws.{says_one}
+use Rattle.av_trace.specs.declared.command.Command.{Command}
+use Rattle.av_plain.specs.Ledger.{Setting}
 use Rattle.av_ports.specs.Line.{HasNoNewline, IsNoNewline}
-use Rattle.av_audit_input.specs.Trace.{AreLines, IsTraceLine, all_lines, mark}
+use Rattle.av_ports.specs.Ports.{PortsView}
+use Rattle.av_audit_input.specs.Trace.{AreLines, AreSaid, IsTrace, IsTraceLine, all_lines, mark}
+use Rattle.av_audit_input.specs.Unit.{units_of}
 use Rattle.av_audit_input.proofs.TraceLaws.{lines-more}
-use Rattle.av_audit_run.specs.Transcript.{IsFront}
+use Rattle.av_audit_run.specs.Transcript.{Audits, IsFinding, IsFront}
+use Rattle.av_audit_run.specs.declared.transcript.Finding.{Finding}
+use Rattle.av_audit_run.proofs.Findings.{audit-of}
 
 -- lines of a trace
 abbrev AreGood : List (List ℕ) → Type 0
@@ -109,3 +118,23 @@ module _ (lines front : List (List ℕ)) (all : AreGood lines) (good : AreGood f
       by (inl (inl is)) e = not-lines behind (e ∙ is)
       by (inl (inr is)) e = not-lines (behind ++ 10 ∷ []) (with-newline behind bytes e ∙ is)
       by (inr is) e = not-unended behind (e ∙ is)
+
+-- ---- what is found
+
+said-once : (lines : List (List ℕ)) (cs ds : List Command) → AreSaid lines cs → AreSaid lines ds → cs ≡ ds
+said-once [] cs ds h g = h ∙ sym g
+said-once (line ∷ lines) cs ds h g =
+    let one = says_one line h.0 g.0 h.3 g.3 in
+    let rest = said-once lines h.1 g.1 h.4 g.4 in
+    h.2 ∙ (λ i. option_to_list (one i) ++ rest i) ∙ sym g.2
+
+-- an audit of lines, the mark and a transcript finds that of these
+pub found : (lines : List (List ℕ)) (commands : List Command) (transcript : List ℕ) (finding : Finding) (m : Setting) (old new : PortsView)
+    → IsTrace lines commands → old.source.left ≡ Some (marked lines ++ transcript) → Audits finding m old new
+    → IsFinding finding m commands (units_of transcript)
+found lines commands transcript finding m old new trace left h =
+    let of = audit-of finding m old new (marked lines ++ transcript) h left in
+    let same = front-one lines of.lines trace.good of.trace.good transcript of.bytes of.transcript of.content_is of.front in
+    let said = said-once lines of.commands commands (subst (λ ls. AreSaid ls of.commands) same.0 of.trace.says) trace.says in
+    subst (λ cs. IsFinding finding m cs (units_of transcript)) said
+    (subst (λ bytes. IsFinding finding m of.commands (units_of bytes)) same.1 of.finds)

@@ -1,4 +1,5 @@
--- An audit of lines, the mark and a transcript stops neither at a line nor behind the most lines.
+-- An audit of a good trace, the mark and a transcript stops neither at a line nor behind the most
+-- lines.
 use Rattle.std.proofs.Common.{◌≡◌, ◌∙◌, ℕ, ◌<◌, ◌≤◌, ◌^◌, Bool, true, false, sym, ap, subst, arith}
 use Rattle.std.proofs.Common.{List, [], ◌∷◌, ◌++◌, length, take, drop, Option, Some, append_assoc, inl, inr, length-append, length-take-le}
 use Rattle.std.specs.List.{AllByRecursion}
@@ -8,23 +9,25 @@ use Rattle.av_io.specs.Source.{Took, in_front}
 use Rattle.av_trace.specs.declared.command.Command.{Command}
 use Rattle.av_trace.specs.Line.{Says}
 use Rattle.av_plain.specs.Ledger.{Setting}
-use Rattle.av_plain.specs.Transcript.{Exchange}
 use Rattle.av_ports.specs.Line.{IsLine, IsNoNewline, IsTooLong}
 use Rattle.av_ports.specs.Ports.{PortsView, undone}
 use Rattle.av_audit_input.specs.Input.{IsEnded}
-use Rattle.av_audit_input.specs.Trace.{EndsTrace, IsBad, IsNoMark, IsTraceLine, StopsWithin, TakesTrace, all_lines, mark}
+use Rattle.av_audit_input.specs.Trace.{AreSaid, EndsTrace, IsBad, IsNoMark, IsTrace, IsTraceLine, StopsWithin, TakesTrace, all_lines, mark}
 use Rattle.av_audit_input.specs.Unit.{bytes_of, most_bytes}
 use Rattle.av_audit_input.specs.declared.input_err.InputErr.{InputErr}
 use Rattle.av_audit_input.specs.declared.input_err.InputErr.TheVariants as input
 use Rattle.av_audit_run.specs.Transcript.{AuditStops, BreaksOff, IsFront}
-use Rattle.av_replay.specs.Replay.{Transcribes}
+use Rattle.av_audit_run.specs.declared.transcript.Finding.TheVariants as findings
+use Rattle.av_audit_run.proofs.Front.{begin, found, front-one, good-behind, marked}
+use Rattle.av_ports.proofs.Times.{failed_since}
+use Rattle.av_replay.specs.Audit.{EndsAudit, IsJudged}
 use Rattle.av_replay.specs.Trace.{lines_of}
+use Rattle.av_replay.specs.declared.status.Status.{Status}
+use Rattle.av_replay.specs.declared.status.Status.TheVariants as statuses
 use Rattle.av_replay.proofs.Traces.{Told, ended_is_nil, line_next, lines_of-joined, starts_long, told}
-use Rattle.av_round_laws.proofs.Front.{begin, front-one, good-behind, marked}
-use Rattle.av_round_laws.proofs.Commands.{says-some}
 
--- why an audit of a legal transcript may stop
-abbrev pub MayStop : InputErr → List ℕ → Type 0
+-- why an audit of a good trace may stop
+abbrev MayStop : InputErr → List ℕ → Type 0
 MayStop (input.BadLine n) transcript = ⊥
 MayStop input.TooMany transcript = ⊥
 MayStop input.TooLong transcript = most_bytes < length transcript
@@ -101,7 +104,13 @@ front-is : (end : Bool) (lines : List (List ℕ)) (bytes ahead transcript : List
 front-is false lines bytes ahead transcript old now ends is = inl ends.0
 front-is true lines bytes ahead transcript old now ends is = inr (ends.0, ended ahead transcript now is ends.1)
 
--- ---- the lines of a run
+-- ---- the lines of a trace
+
+-- each line says something
+says-some : (front : List (List ℕ)) (line : List ℕ) (others : List (List ℕ)) (commands : List Command) → AreSaid (front ++ line ∷ others) commands
+    → (command : Option Command) × Says line command
+says-some [] line others commands h = (h.0, h.3)
+says-some (x ∷ front) line others commands h = says-some front line others h.1 h.4
 
 -- the first lines were taken, and the others stand next, before the mark
 record Stand (lines front : List (List ℕ)) (transcript ahead : List ℕ) (now : PortsView) : Type 0 where
@@ -111,14 +120,13 @@ record Stand (lines front : List (List ℕ)) (transcript ahead : List ℕ) (now 
   left_is : now.source.left ≡ Some left
   next : lines_of (ahead ++ left) ≡ (others ++ mark ∷ []) ++ lines_of transcript
 
-module _ (lines : List (List ℕ)) (es : List Exchange) (transcript : List ℕ) (all : AllByRecursion IsTraceLine lines)
-    (few : length lines ≤ 2 ^ 24) (did : Transcribes lines es) where
+module _ (lines : List (List ℕ)) (commands : List Command) (transcript : List ℕ) (trace : IsTrace lines commands) where
   stand : (front : List (List ℕ)) (ahead : List ℕ) (old now : PortsView) → AllByRecursion IsTraceLine front
       → undone [] old ≡ Some (marked lines ++ transcript) → Took (undone [] old) (undone ahead now) (all_lines front)
       → Stand lines front transcript ahead now
   stand front ahead old now good is took =
       let t = taken [] ahead (all_lines front) (marked lines ++ transcript) old now is took in
-      let b = begin lines front transcript t.more all good t.parts in
+      let b = begin lines front transcript t.more trace.good good t.parts in
       let l = left-of ahead t.more now t.left_is in
       record {
         others = b.others;
@@ -127,7 +135,7 @@ module _ (lines : List (List ℕ)) (es : List Exchange) (transcript : List ℕ) 
         left_is = l.left_is;
         next = ap lines_of (sym l.parts ∙ b.rest_is)
             ∙ lines_of-joined (b.others ++ mark ∷ []) transcript
-            (with-mark b.others (good-behind front b.others (subst (AllByRecursion IsTraceLine) b.are all)));
+            (with-mark b.others (good-behind front b.others (subst (AllByRecursion IsTraceLine) b.are trace.good)));
       }
 
   none-bad : (front : List (List ℕ)) (ahead : List ℕ) (now : PortsView) → Stand lines front transcript ahead now → IsBad ahead now → ⊥
@@ -136,8 +144,8 @@ module _ (lines : List (List ℕ)) (es : List Exchange) (transcript : List ℕ) 
       by : (others : List (List ℕ)) → lines ≡ front ++ others → lines_of (ahead ++ s.left) ≡ (others ++ mark ∷ []) ++ lines_of transcript → ⊥
       by [] are next = is-mark ahead s.left (lines_of transcript) now s.left_is next (no-mark-where-bad ahead now bad)
       by (line ∷ others) are next =
-          let command = says-some front line others es (subst (λ (ls : List (List ℕ)). Transcribes ls es) are did) in
-          let good = good-behind front (line ∷ others) (subst (AllByRecursion IsTraceLine) are all) in
+          let command = says-some front line others commands (subst (λ (ls : List (List ℕ)). AreSaid ls commands) are trace.says) in
+          let good = good-behind front (line ∷ others) (subst (AllByRecursion IsTraceLine) are trace.good) in
           not-bad ahead s.left ((others ++ mark ∷ []) ++ lines_of transcript) now s.left_is line command.0 next good.0.is_line command.1 bad
 
   none-more : (front : List (List ℕ)) (ahead : List ℕ) (now : PortsView) → Stand lines front transcript ahead now → length front ≡ 2 ^ 24
@@ -146,7 +154,7 @@ module _ (lines : List (List ℕ)) (es : List Exchange) (transcript : List ℕ) 
     where
       by : (others : List (List ℕ)) → lines ≡ front ++ others → lines_of (ahead ++ s.left) ≡ (others ++ mark ∷ []) ++ lines_of transcript → ⊥
       by [] are next = is-mark ahead s.left (lines_of transcript) now s.left_is next no_mark
-      by (line ∷ others) are next = omega (arith, few, most, ap length are, length-append front (line ∷ others))
+      by (line ∷ others) are next = omega (arith, trace.few, most, ap length are, length-append front (line ∷ others))
 
   within : (error : InputErr) (ahead : List ℕ) (old now : PortsView) → undone [] old ≡ Some (marked lines ++ transcript)
       → StopsWithin error [] ahead old now → MayStop error transcript
@@ -160,31 +168,58 @@ module _ (lines : List (List ℕ)) (es : List Exchange) (transcript : List ℕ) 
   within input.Memory ahead old now is h = tt
 
   -- the trace was taken to its mark
-  behind-trace : (end : Bool) (commands : List Command) (ahead : List ℕ) (old now : PortsView)
-      → undone [] old ≡ Some (marked lines ++ transcript) → TakesTrace end commands [] ahead old now → undone ahead now ≡ Some transcript
-  behind-trace end commands ahead old now is h =
+  behind-trace : (end : Bool) (cs : List Command) (ahead : List ℕ) (old now : PortsView)
+      → undone [] old ≡ Some (marked lines ++ transcript) → TakesTrace end cs [] ahead old now → undone ahead now ≡ Some transcript
+  behind-trace end cs ahead old now is h =
       let t = taken [] ahead h.bytes (marked lines ++ transcript) old now is h.took in
-      let same = front-one lines h.lines all h.trace.good transcript h.bytes t.more t.parts
+      let same = front-one lines h.lines trace.good h.trace.good transcript h.bytes t.more t.parts
       (front-is end h.lines h.bytes ahead t.more old now h.ends t.left_is) in
       t.left_is ∙ ap Some same.1
 
-  breaks-off : (error : InputErr) (m : Setting) (commands : List Command) (before : Option (List ℕ)) → before ≡ Some transcript
-      → BreaksOff error m commands before → MayStop error transcript
-  breaks-off (input.BadLine n) m commands before is h = h.stops
-  breaks-off input.TooMany m commands before is h = h.stops
-  breaks-off input.TooLong m commands before is h =
+  breaks-off : (error : InputErr) (m : Setting) (cs : List Command) (before : Option (List ℕ)) (rest : List ℕ) (new : PortsView)
+      → before ≡ Some transcript → BreaksOff error m cs before rest new → MayStop error transcript
+  breaks-off (input.BadLine n) m cs before rest new is h = h.stops.stops
+  breaks-off input.TooMany m cs before rest new is h = h.stops.stops
+  breaks-off input.TooLong m cs before rest new is h =
       let units = bytes_of h.units in
-      let a = told transcript units h.now (subst (λ o. Took o h.now units) is h.cuts.took) in
-      let over = h.stops in
-      let b = told a.more over.0 over.1 (subst (λ o. Took o over.1 over.0) a.left_is over.2) in
-      omega (arith, over.4, ap length a.parts, length-append units a.more, ap length b.parts, length-append over.0 b.more)
-  breaks-off input.Read m commands before is h = tt
-  breaks-off input.Write m commands before is h = tt
-  breaks-off input.Memory m commands before is h = tt
+      let a = told transcript units h.between (subst (λ o. Took o h.between units) is h.cuts.took) in
+      let b = told a.more h.unit (undone rest new) (subst (λ o. Took o (undone rest new) h.unit) a.left_is h.stops.took) in
+      let c = left-of rest b.more new b.left_is in
+      let over = h.stops.stops in
+      omega (
+        arith,
+        h.counts,
+        over.4,
+        ap length a.parts,
+        length-append units a.more,
+        ap length b.parts,
+        length-append h.unit b.more,
+        ap length c.parts,
+        length-append rest c.more,
+        ap length over.2,
+        length-append over.0 over.1,
+        length-append h.unit over.0,
+      )
+  breaks-off input.Read m cs before rest new is h = tt
+  breaks-off input.Write m cs before rest new is h = tt
+  breaks-off input.Memory m cs before rest new is h = tt
 
-  pub audit-stops : (error : InputErr) (m : Setting) (old new : PortsView) → old.source.left ≡ Some (marked lines ++ transcript)
-      → AuditStops error m old new → MayStop error transcript
-  audit-stops error m old new is (inl memory) = subst (λ e. MayStop e transcript) (sym memory) tt
-  audit-stops error m old new is (inr (inl (rest, h))) = within error rest old new (ap (in_front []) is) h
-  audit-stops error m old new is (inr (inr (commands, ahead, between, end, takes, h))) =
-      breaks-off error m commands (undone ahead between) (behind-trace end commands ahead old between (ap (in_front []) is) takes) h
+  module _ (m : Setting) (old new : PortsView) (left : old.source.left ≡ Some (marked lines ++ transcript)) where
+    audit-stops : (error : InputErr) → AuditStops error m old new → MayStop error transcript
+    audit-stops error (inl memory) = subst (λ e. MayStop e transcript) (sym memory.0) tt
+    audit-stops error (inr (inl (rest, h))) = within error rest old new (ap (in_front []) left) h
+    audit-stops error (inr (inr (cs, ahead, rest, between, end, takes, h))) =
+        breaks-off error m cs (undone ahead between) rest new (behind-trace end cs ahead old between (ap (in_front []) left) takes) h
+
+    pub judged : (status : Status) → EndsAudit status m old new → IsJudged status m commands transcript old new
+    judged statuses.Done ends = found lines commands transcript findings.Legal m old ends.0 trace left ends.1.0
+    judged (statuses.Illegal n) ends = found lines commands transcript (findings.Illegal n) m old new trace left ends.0
+    judged (statuses.BadLine n) ends = audit-stops (input.BadLine n) ends.0
+    judged statuses.TooMany ends = audit-stops input.TooMany ends.0
+    judged statuses.TooLong ends = audit-stops input.TooLong ends.0
+    judged statuses.ReadFault ends = ends.2.read
+    judged statuses.WriteFault (inl stops) = stops.2.sink
+    judged statuses.WriteFault (inr writes) = failed_since old.sink writes.0.sink new.sink writes.1.2.sink writes.3.2
+    judged statuses.Memory ends = tt
+    judged statuses.Usage ends = ends
+    judged statuses.AttachFault ends = ends
