@@ -74,7 +74,7 @@ CARRIERS = {
     "av_audit_access": "accesses",
     "av_audit_swapoff": "Close closes",
     "av_audit_neighbour": "judges_merge judges_compact",
-    "av_audit_machine": "read_machine",
+    "av_audit_machine": "read_machine machine_of_heads",
     "av_audit": "Auditor",
     "av_audit_input": "Script read_command read_trace read_unit",
     "av_audit_run": "audit audits_of_inputs legal_or_stopped stopped_once "

@@ -10,8 +10,8 @@ use av_audit_book::{Head as ReadHead, Machine};
 use av_swapdev::PAGE_LEN;
 use std::alloc::{AllocError, Global};
 
-/// A swap area: how many pages it has, and the bytes of page 0. Of an area without pages they are
-/// not looked at.
+/// A swap area: how many pages it has, and the bytes of page 0. Of an area without pages they say
+/// nothing.
 #[derive(Clone, Copy, Drop)]
 pub struct Head<'a> {
     pub pages: u32,
