@@ -1,10 +1,17 @@
 """Comments of a trace that name something: `# process 6: redis-cli (thread 4711)` the process that
-the next command begins, and `# mapping: libc.so.6` what the next `mmap` maps.
+the next command begins, and `# mapping: libc.so.6` what the next `mmap` maps. A comment in its
+head says that its accesses are first ones.
 """
 import re
 
 PROCESS = re.compile(r"process (\d{1,5}): (.+?)(?: \([^()]*\))?")
 MAPPING = "mapping: "
+# what is said in the head of a trace whose accesses are page faults, and of what is made of it
+FIRST_ONES = "Its accesses are page faults: mostly the first one to each page."
+SAID_OF_FIRST_ONES = (
+    "the trace has mostly the first access to each page, so what went out seldom comes back: "
+    "loaded and written are too low, often by far"
+)
 
 
 def process_of(comment: str) -> tuple[int, str] | None:

@@ -6,22 +6,16 @@ out to swap and comes back changes nothing of this: so it is also how many pages
 import dataclasses
 from typing import Iterator
 
-from ranges import PAGE, Ranges, up
-
-# advice that says what a fork does with a page, until its other word
-AT_FORK = ("dontfork", "wipeonfork")
-UNSAID = ("dofork", "keeponfork")
+from marks import Marks
+from ranges import PAGE, up
 
 
 @dataclasses.dataclass(slots=True)
 class Pages:
-    """What a process has: the frame of each written page, by its number, what a fork does with
-    ranges of them, and each range's protection.
-    """
+    """What a process has: the frame of each written page, by its number, and what calls say."""
 
     frames: dict[int, int] = dataclasses.field(default_factory=dict)
-    at_fork: Ranges = dataclasses.field(default_factory=Ranges)
-    prots: Ranges = dataclasses.field(default_factory=Ranges)
+    marks: Marks = dataclasses.field(default_factory=Marks)
 
 
 class Peak:
@@ -59,13 +53,10 @@ class Peak:
         for page in [it for it in few if first <= it < last and it in pages.frames]:
             yield page, pages.frames.pop(page)
 
-    def clear(self, process: str, start: int, length: int) -> None:
-        """Nothing of a range stays."""
-        pages, end = self.pages(process), start + up(length)
+    def clear(self, pages: Pages, start: int, end: int) -> None:
+        """No frame of a range stays."""
         for _, frame in self.cut(pages, start, end):
             self.drop(frame)
-        pages.at_fork.cut(start, end)
-        pages.prots.cut(start, end)
 
     def write(self, pages: Pages, first: int, past: int) -> None:
         """Each page of a range, by its number, gets a frame of its own."""
@@ -90,22 +81,19 @@ class Peak:
     def do_mlock(self, process: str, at: str, length: str) -> None:
         """Pages that may be written come in as by a write, where the range has no hole."""
         pages, start = self.pages(process), int(at, 16)
-        end = start + int(length)
-        if not int(length) or pages.prots.holes(start, end):
+        end, prots = start + int(length), pages.marks.prots
+        if not int(length) or prots.holes(start, end):
             return
-        for it in pages.prots.within(start, end):
+        for it in prots.within(start, end):
             if "w" in it.of:
                 self.write(pages, it.start // PAGE, -(-it.end // PAGE))
 
     def do_fork(self, process: str, child: str) -> None:
         ours, pages = self.pages(process), self.pages(child)
-        pages.prots = Ranges(ours.prots)
-        for page, frame in ours.frames.items():
-            if not ours.at_fork.at(page * PAGE):
-                pages.frames[page] = self.hold(frame)
-        for it in ours.at_fork:
-            if it.of == "wipeonfork":
-                pages.at_fork.put(it.start, it.end, it.of)
+        pages.marks = ours.marks.for_child()
+        pages.frames = {page: self.hold(frame) for page, frame in ours.frames.items()}
+        for it in ours.marks.kept_back():
+            self.clear(pages, it.start, it.end)
 
     def do_exit(self, process: str) -> None:
         for frame in self.processes.pop(int(process), Pages()).frames.values():
@@ -113,48 +101,37 @@ class Peak:
 
     def do_mmap(self, process: str, length: str, prot: str, *place: str) -> None:
         if place[:1] == ("fixed",):
-            start = int(place[1], 16)
-            self.clear(process, start, int(length))
-            self.pages(process).prots.put(start, start + up(int(length)), prot)
+            pages, start = self.pages(process), int(place[1], 16)
+            self.clear(pages, start, start + up(int(length)))
+            pages.marks.map(start, start + up(int(length)), prot)
 
     def do_mprotect(self, process: str, at: str, length: str, prot: str) -> None:
-        start, prots = int(at, 16), self.pages(process).prots
-        end = start + up(int(length))
-        holes = prots.holes(start, end)
-        for it in prots.within(start, holes[0][0] if holes else end):
-            prots.put(it.start, it.end, prot)
+        start = int(at, 16)
+        self.pages(process).marks.protect(start, start + up(int(length)), prot)
 
     def do_munmap(self, process: str, at: str, length: str) -> None:
-        self.clear(process, int(at, 16), int(length))
+        pages, start = self.pages(process), int(at, 16)
+        self.clear(pages, start, start + up(int(length)))
+        pages.marks.unmap(start, start + up(int(length)))
 
     def do_mremap(self, process: str, at: str, old: str, new: str, *way: str) -> None:
-        start, pages, kept = int(at, 16), self.pages(process), min(up(int(old)), up(int(new)))
-        to = int(way[1], 16) if way else start
-        parts = pages.prots.within(start, start + kept)
+        pages, start = self.pages(process), int(at, 16)
+        before, after = up(int(old)), up(int(new))
         if not way:
-            self.clear(process, start + kept, up(int(old)) - kept)
-        else:
-            self.clear(process, to, int(new))
-        for it in parts:
-            pages.prots.put(it.start + to - start, it.end + to - start, it.of)
-        if parts and kept < up(int(new)):
-            pages.prots.put(to + kept, to + up(int(new)), parts[-1].of)
-        if not way:
+            self.clear(pages, start + after, start + before)
+            pages.marks.resize(start, before, after)
             return
-        for page, frame in list(self.cut(pages, start, start + kept)):
+        to = int(way[1], 16)
+        self.clear(pages, to, to + after)
+        for page, frame in list(self.cut(pages, start, start + min(before, after))):
             pages.frames[page + (to - start) // PAGE] = frame
-        for it in pages.at_fork.within(start, start + kept):
-            pages.at_fork.put(it.start + to - start, it.end + to - start, it.of)
-        if way[0] != "dontunmap":
-            self.clear(process, start, int(old))
+        self.clear(pages, start, start + before)
+        pages.marks.move(start, before, after, to, way[0] == "dontunmap")
 
     def do_madvise(self, process: str, at: str, length: str, word: str) -> None:
-        start, pages = int(at, 16), self.pages(process)
+        pages, start = self.pages(process), int(at, 16)
         end = start + up(int(length))
         if word == "dontneed":
-            for _, frame in self.cut(pages, start, end):
-                self.drop(frame)
-        elif word in AT_FORK:
-            pages.at_fork.put(start, end, word)
-        elif word in UNSAID:
-            pages.at_fork.cut(start, end)
+            self.clear(pages, start, end)
+        else:
+            pages.marks.advise(start, end, word)

@@ -2,8 +2,9 @@
 import dataclasses
 from typing import Iterable
 
-from told import Told, frame_of
-from transcript import Step
+from bits import Bits, Notes
+from held import ALL, Held
+from transcript import Step, parts_of
 
 # the column that a note counts in, and notes by which an entry changes at an access
 COLUMNS = {"zero": "zero", "new": "new", "copy": "copied"}
@@ -11,7 +12,9 @@ COLUMNS |= {"load": "loaded", "put": "put", "done": "written"}
 AT_FAULTS = {"zero", "new", "copy", "map"}
 # commands that name no process
 OF_NONE = {"reclaim", "age", "complete", "swapon", "swapoff", "slot", "stat", "merge", "compact"}
-ALL, NONE = "all", "-"
+NONE = "-"
+ACCESSES = {"read", "write"}
+OUT_OF_MEMORY = ("oom ", "err ENOMEM pinned=")
 
 
 @dataclasses.dataclass(slots=True)
@@ -23,6 +26,7 @@ class Sums:
     zero: int = 0
     new: int = 0
     copied: int = 0
+    reused: int = 0
     loaded: int = 0
     put: int = 0
     written: int = 0
@@ -30,86 +34,67 @@ class Sums:
     oom: int = 0
     frames: int = 0
 
-    def add(self, step: Step) -> None:
-        """A command with its reply."""
-        notes = [it.split(" ")[0] for it in step.reply[1:]]
-        if step.words[0] in ("read", "write"):
-            self.accesses += 1
-            self.faults += any(it in AT_FAULTS for it in notes)
-        for column in (COLUMNS[it] for it in notes if it in COLUMNS):
-            setattr(self, column, getattr(self, column) + 1)
-        self.oom += step.reply[0].startswith("oom ") or "ENOMEM pinned=" in step.reply[0]
+    def __add__(self, other: "Sums") -> "Sums":
+        both = zip(dataclasses.astuple(self), dataclasses.astuple(other))
+        return Sums(*(one + another for one, another in both))
 
 
-class Held(Told):
-    """What is told of memory, with the frames that are in use: of each process, each with how many
-    of its entries name it, and in all.
-    """
+class Counts:
+    """The rows, as commands with their replies are taken one after the other."""
 
-    def __init__(self):
-        super().__init__()
-        self.frames: set[int] = set()
-        self.of: dict[int, dict[int, int]] = {}
-        self.most: dict[int | str, int] = {ALL: 0}
+    def __init__(self, asks_marks: bool):
+        self.rows: dict[str, Sums] = {}
+        # how often each note was told, by row
+        self.told: dict[str, dict[str, int]] = {}
+        self.bits = Bits(asks_marks)
 
-    def link(self, process: int, page: int, code: str) -> None:
-        super().link(process, page, code)
-        if frame_of(code) >= 0:
-            held = self.of.setdefault(process, {})
-            held[frame_of(code)] = held.get(frame_of(code), 0) + 1
-            self.most[process] = max(self.most.get(process, 0), len(held))
-            self.use(frame_of(code))
+    def take(self, words: list[str], answer: str, notes: Notes) -> Sums:
+        """Counts a command, and gives the row in which it is."""
+        name = words[0]
+        whose = NONE if name in OF_NONE else words[1]
+        row = self.rows.get(whose)
+        if row is None:
+            row, self.told[whose] = self.rows.setdefault(whose, Sums()), {}
+        is_fault = False
+        if notes:
+            told = self.told[whose]
+            for it in notes:
+                told[it[0]] = told.get(it[0], 0) + 1
+                is_fault = is_fault or it[0] in AT_FAULTS
+        if (notes or name != "read") and name in self.bits.does:
+            reused = self.bits.does[name](words, answer, notes)
+            if reused:
+                row.reused, is_fault = row.reused + len(reused), True
+        if name in ACCESSES:
+            row.accesses += 1
+            row.faults += is_fault
+        if answer.startswith(OUT_OF_MEMORY):
+            row.oom += 1
+        return row
 
-    def unlink(self, process: int, page: int, code: str) -> None:
-        super().unlink(process, page, code)
-        if frame_of(code) >= 0:
-            held = self.of[process]
-            held[frame_of(code)] -= 1
-            if not held[frame_of(code)]:
-                del held[frame_of(code)]
-            self.free(frame_of(code))
-
-    def renumber(self, frame: int, to: int) -> None:
-        for process in {it for it, _ in self.owners.get(frame, ())}:
-            held = self.of[process]
-            held[to] = held.get(to, 0) + held.pop(frame)
-        super().renumber(frame, to)
-        self.free(frame)
-        self.use(to)
-
-    def cache(self, slot: str, frame: int) -> None:
-        super().cache(slot, frame)
-        self.use(frame)
-
-    def uncache(self, slot: str) -> None:
-        frame = self.frame_at.get(slot, -1)
-        super().uncache(slot)
-        self.free(frame)
-
-    def use(self, frame: int) -> None:
-        self.frames.add(frame)
-        self.most[ALL] = max(self.most[ALL], len(self.frames))
-
-    def free(self, frame: int) -> None:
-        if frame not in self.owners and frame not in self.slot_of:
-            self.frames.discard(frame)
+    def found(self) -> dict[str, Sums]:
+        """The rows, with that of all."""
+        for whose, told in self.told.items():
+            for note, column in COLUMNS.items():
+                setattr(self.rows[whose], column, told.get(note, 0))
+        return self.rows | {ALL: sum(self.rows.values(), Sums())}
 
 
-def sums_of(steps: Iterable[Step]) -> dict[str, Sums]:
+def sums_of(steps: Iterable[Step], asks_marks: bool = True) -> dict[str, Sums]:
     """The rows: of each process by its number, of what belongs to none, and of all."""
-    found: dict[str, Sums] = {ALL: Sums()}
-    held = Held()
-    for step in steps:
-        whose = NONE if step.words[0] in OF_NONE else step.words[1]
-        before = len(held.frames)
-        held.tell(step.words, step.reply)
-        held.ops.clear()
-        for row in (whose, ALL):
-            sums = found.setdefault(row, Sums())
-            sums.add(step)
-            sums.saved += before - len(held.frames) if step.words[0] == "merge" else 0
+    counts = Counts(asks_marks)
+    held = Held(counts.bits.marks)
+    for _, _, command, reply in steps:
+        words, answer, notes = parts_of(command, reply)
+        row = counts.take(words, answer, notes)
+        if notes or words[0] in held.does:
+            before = held.used
+            held.take(words, answer, notes)
+            if words[0] == "merge":
+                row.saved += before - held.used
+    found = counts.found()
     for process, most in held.most.items():
-        found.setdefault(str(process), Sums()).frames = most
+        found[process].frames = most
     order = sorted((it for it in found if it.isdigit()), key=int)
     rest = [NONE, ALL] if found.get(NONE, Sums()) != Sums() else [ALL]
     return {it: found[it] for it in [*order, *rest]}

@@ -4,12 +4,16 @@ The forms of notes are those of docs/REFERENCE.md, "Replies": a note that gets i
 known here, too.
 """
 import functools
+import io
 import os
 import re
 import sys
-from typing import Any, Iterator, NamedTuple
+from typing import Any, Iterator
 
-from shared.saying import Refused, name_of, read
+from shared.saying import Refused, count_of, name_of, read
+
+from bits import asks_marks
+from labels import FIRST_ONES
 
 REFERENCE = os.path.join(os.path.dirname(os.path.realpath(__file__)), "..", "docs", "REFERENCE.md")
 # what the letters of a form stand for; any other word behind a note's name is a cause
@@ -30,57 +34,87 @@ ANSWERS = {
 }
 
 
-class Step(NamedTuple):
-    """A command with its number (from 1), its line of the trace, and its reply."""
-
-    number: int
-    line: int
-    words: list[str]
-    reply: list[str]
-
-
-def commands_of(trace: str) -> list[tuple[int, str]]:
-    """The commands of a file, with the numbers of their lines."""
-    lines = enumerate(read(trace).split("\n"), 1)
-    return [(number, line) for number, line in lines if line and not line.startswith("#")]
+# a command: its number from 1, its line of the trace, its text, and its reply, whose lines MARK
+# parts, for which no ASCII text has room
+Step = tuple[int, int, str, str]
+MARK = "\xff"
+# what goes wrong where a reply is none to its command
+MISFITS = (IndexError, KeyError, TypeError, ValueError)
 
 
-def replies_of(lines: Iterator[bytes]) -> Iterator[list[str]]:
+def commands_of(text: str) -> tuple[list[int], list[str]]:
+    """The numbers of the lines of a trace that are commands, and these."""
+    lines = text.split("\n")
+    numbers = [at for at, it in enumerate(lines, 1) if it and it[0] != "#"]
+    return numbers, [lines[at - 1] for at in numbers]
+
+
+def replies_of(transcript: io.BufferedIOBase) -> Iterator[str]:
     """The replies of a transcript, as they come."""
-    reply: list[str] = []
-    for line in lines:
-        text = line.decode("ascii", "backslashreplace").removesuffix("\n")
-        if reply and not text.startswith(" "):
-            yield reply
-            reply = []
-        reply.append(text.removeprefix(" ") if reply else text)
-    if reply:
-        yield reply
+    rest = ""
+    while block := transcript.read1(1 << 18):
+        text = rest + block.decode("ascii", "backslashreplace")
+        *whole, rest = text.replace("\n ", MARK).split("\n")
+        if not rest:
+            # (a reply is whole where the next one begins)
+            rest = whole.pop() + "\n"
+        yield from whole
+    if rest:
+        yield rest.removesuffix("\n")
+
+
+def parts_of(command: str, reply: str) -> tuple[list[str], str, list[list[str]]]:
+    """The words of a command, the first line of its reply, and the words of the others."""
+    if MARK not in reply:
+        return command.split(" "), reply, []
+    answer, *notes = reply.split(MARK)
+    return command.split(" "), answer, [it.split(" ") for it in notes]
 
 
 class Beside:
-    """The steps of a trace and a transcript, one after the other. `is_whole` says afterwards
-    whether each command had its reply.
+    """The steps of a trace and a transcript, one after the other. `asks_marks` says whether one has
+    to know what its calls say of pages, `has_first_ones` whether its accesses are first ones.
     """
 
     def __init__(self, trace: str, transcript: str):
-        self.trace, self.transcript, self.is_whole = trace, transcript, False
+        self.trace, self.transcript, self.count = trace, transcript, 0
+        text = read(trace)
+        self.lines, self.commands = commands_of(text)
+        self.asks_marks = asks_marks(text)
+        self.has_first_ones = f"\n# {FIRST_ONES}\n" in text[:4096]
 
     def __iter__(self) -> Iterator[Step]:
-        commands, count = commands_of(self.trace), 0
         try:
             with sys.stdin.buffer if self.transcript == "-" else open(self.transcript, "rb") as it:
-                for count, reply in enumerate(replies_of(it), 1):
-                    if count > len(commands):
-                        raise Refused(
-                            f"{name_of(self.transcript)} has more replies than {self.trace} has "
-                            f"commands ({len(commands)}): are they of one run?"
-                        )
-                    line, text = commands[count - 1]
-                    yield Step(count, line, text.split(" "), reply)
+                replies = replies_of(it)
+                numbers = range(1, len(self.commands) + 1)
+                for step in zip(numbers, self.lines, self.commands, replies):
+                    self.count = step[0]
+                    yield step
+                if next(replies, None) is not None:
+                    raise Refused(
+                        f"{name_of(self.transcript)} has more replies than {self.trace} has "
+                        f"commands ({len(self.commands)}): are they of one run?"
+                    )
         except OSError as error:
             raise Refused(f"{self.transcript} can't be read: {error.strerror}") from None
-        self.is_whole = count == len(commands)
+
+    def refused(self) -> Refused:
+        """The reply can't be one to its command."""
+        return Refused(
+            f"reply {self.count} of {name_of(self.transcript)} is none to line "
+            f"{self.lines[self.count - 1]} of {self.trace}: are they of one run?"
+        )
+
+    def check_end(self) -> None:
+        """Says where the transcript ends before the trace does."""
+        if self.count < len(self.commands):
+            raise Refused(
+                f"{name_of(self.transcript)} ends before line {self.lines[self.count]} of "
+                f"{self.trace}: it has {count_of(self.count, 'reply', 'replies')}, and the trace "
+                f"{count_of(len(self.commands), 'command')}",
+                3,
+            )
 
 
 @functools.cache

@@ -9,7 +9,7 @@ import threading
 from shared.meter import Progress
 from shared.saying import Refused
 
-from labels import is_label
+from labels import FIRST_ONES, SAID_OF_FIRST_ONES, is_label
 from names import Names
 from told import BY_RANGE, MIDWAY, Told, page_of
 
@@ -36,6 +36,11 @@ def commands_of(text: str) -> list[Command]:
         else:
             comment.append("")
     return found
+
+
+def has_first_ones(commands: list[Command]) -> bool:
+    """Whether a trace says in its head that its accesses are first ones."""
+    return bool(commands) and FIRST_ONES in commands[0].comment.split("\n")
 
 
 def replies_of(transcript: str) -> list[list[str]]:
@@ -95,6 +100,9 @@ class Run:
 
     def __len__(self):
         return len(self.replies)
+
+    def has_note(self, name: str) -> bool:
+        return any(it.startswith(f"{name} ") for reply in self.replies for it in reply[1:])
 
 
 def pages_named(words: list[str]) -> range:
@@ -338,6 +346,8 @@ def data_of(
             f"from line {wrong} on notes tell otherwise than `entry` or `slot` does: "
             "that is a fault, please tell"
         )
+    if has_first_ones(run.commands) and run.has_note("put"):
+        said.append(SAID_OF_FIRST_ONES)
     if lost:
         said.append(f"from line {lost} on not all entries are known: they are drawn as ?")
     return {

@@ -4,21 +4,24 @@ Pages that find no frame go to a swap file, which is made for each run and is la
 the trace turns no area on, `swapon 0` is put in front.
 
 An access is a `read` or `write`. It is a fault where its reply has a note `zero`, `new`, `copy` or
-`map`, and else a hit. Loaded are pages that come from the swap file, written those that go there.
+`map`, or a page gets its write bit back, and else a hit. Loaded are pages that come from the swap
+file, written those that go there.
 """
 import argparse
 import html
 import os
 import re
 import tempfile
+import textwrap
 from typing import Callable, NamedTuple
 
 from shared.saying import Refused
 
 import making
-from sums import Sums
+from bits import asks_marks
+from labels import SAID_OF_FIRST_ONES
+from sums import ALL, Counts, Sums
 from swapfile import MOST_FILES, MOST_FRAMES, MOST_PAGES, Machine, words_of
-from transcript import Step
 
 # sizes of one picture at most
 MOST_SIZES = 64
@@ -73,10 +76,10 @@ def size_of(program: str, frames: int, lines: list[str], areas: int) -> Size:
     replies = making.replies_of(transcript)
     if status or len(replies) != len(lines):
         raise Refused(f"with {frames} frames avsim ended early, with status {status}: {said}")
-    sums = Sums()
-    for number, (line, reply) in enumerate(zip(lines, replies), 1):
-        sums.add(Step(number, number, line.split(" "), reply))
-    return Size(frames, sums)
+    counts = Counts(asks_marks("\n".join(lines)))
+    for line, (answer, *notes) in zip(lines, replies):
+        counts.take(line.split(" "), answer, [it.split(" ") for it in notes])
+    return Size(frames, counts.found()[ALL])
 
 
 def table_of(sizes: list[Size]) -> list[str]:
@@ -140,12 +143,14 @@ def line_of(column: str, colour: str, y: float, points: list[tuple[float, float]
     return [*found, text_at(WIDTH - RIGHT + 10, y + 4, column, f' fill="{colour}"')]
 
 
-def svg_of(title: str, sizes: list[Size]) -> str:
-    """The picture."""
+def svg_of(title: str, sizes: list[Size], below: str) -> str:
+    """The picture, with a sentence below its title."""
     most = max(it.frames for it in sizes), max(max(it.sums.faults for it in sizes), 1)
     across = lambda value: LEFT + value * (WIDTH - LEFT - RIGHT) / most[0]
     up = lambda value: HEIGHT - BOTTOM - value * (HEIGHT - BOTTOM - TOP) / most[1]
     parts = axes(title, across, up, most)
+    for at, text in enumerate(textwrap.wrap(below, 95)):
+        parts.append(text_at(LEFT, 38 + 11 * at, text, ' font-size="10.5" fill="#c2410c"'))
     points = [
         [(across(it.frames), up(min(getattr(it.sums, column), most[1]))) for it in sizes]
         for column, _ in LINES
@@ -171,8 +176,11 @@ def write(words: argparse.Namespace, commands: list[making.Command], to: str) ->
     lines, areas = lines_of(commands)
     sizes = [size_of(words.program, it, lines, areas) for it in words.sizes]
     print("\n".join(table_of(sizes)))
+    said = SAID_OF_FIRST_ONES if making.has_first_ones(commands) else ""
+    if said:
+        print(said)
     name = "trace" if words.trace == "-" else os.path.basename(words.trace)
-    picture = svg_of(f"{name}: page faults over frames", sizes)
+    picture = svg_of(f"{name}: page faults over frames", sizes, said)
     if to == "-":
         print(picture, end="", flush=True)
         return

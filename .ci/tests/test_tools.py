@@ -1,4 +1,5 @@
 """Unit tests of tools/."""
+import io
 import os
 import random
 import tempfile
@@ -11,13 +12,14 @@ from calls import Mapped, address_of, kind_of, protection_of
 from faults import most_common, read_faults
 from labels import is_label, mapping_of, process_of
 from lackey import names_of, number_of
+from marks import Marks
 from peak import Peak
 from ranges import Ranges, up
 from shift import SPLIT, TOP, NotAsked, Shift
 from spaces import Space, runs_of
 from strace import Reader, time_of
 from sums import sums_of
-from transcript import Step, answer_of, forms, note_of, replies_of, row_of
+from transcript import MARK, answer_of, forms, note_of, replies_of, row_of
 
 PAGE = 4096
 
@@ -80,9 +82,24 @@ class Transcript(unittest.TestCase):
         wanted = {"what": "oom", "at": 1, "bytes": "41", "pinned": 1, "noslot": 0, "fault": 0}
         self.assertEqual(answer, wanted)
 
-    def test_lines_are_cut_into_replies(self) -> None:
-        lines = iter([b"ok\n", b" new 1 2 3\n", b"data 00\n"])
-        self.assertEqual(list(replies_of(lines)), [["ok", "new 1 2 3"], ["data 00"]])
+    def test_a_transcript_is_cut_into_replies(self) -> None:
+        for text in (b"ok\n new 1 2 3\ndata 00\n", b"ok\n new 1 2 3\ndata 00"):
+            for size in (1, 2, 3, 100):
+                found = list(replies_of(Slowly(text, size)))
+                self.assertEqual(found, [f"ok{MARK}new 1 2 3", "data 00"])
+        found = list(replies_of(Slowly(b"\n\n x\n\xff\n", 2)))
+        self.assertEqual(found, ["", f"{MARK}x", r"\xff"])
+
+
+class Slowly(io.BytesIO):
+    """A file that gives a few bytes at a time."""
+
+    def __init__(self, text: bytes, size: int):
+        super().__init__(text)
+        self.size_given = size
+
+    def read1(self, _: int = -1) -> bytes:
+        return super().read1(self.size_given)
 
 
 class Saying(InFolder):
@@ -285,6 +302,11 @@ class SwapFiles(InFolder):
             swapfile.make(written("text"), 8)
 
 
+def steps_of(pairs: list[tuple[str, str]]) -> list[tuple[int, int, str, str]]:
+    """Commands, each with its reply in one line."""
+    return [(at, at, line, reply.replace(" / ", MARK)) for at, (line, reply) in enumerate(pairs, 1)]
+
+
 class Summed(unittest.TestCase):
     """What a run sums up to."""
 
@@ -295,12 +317,11 @@ class Summed(unittest.TestCase):
         lines += [("fork 1 2", "ok"), ("merge", "ok / share 0 / join 1 21000 0 / join 1 22000 0"),
                   ("exit 2", "ok"), ("merge", "ok"),
                   ("write 1 21000 02", "ok / copy 1 21000 1"), ("compact", "ok")]
-        steps = [Step(number, number, line.split(" "), reply.split(" / "))
-                 for number, (line, reply) in enumerate(lines, 1)]
+        steps = steps_of(lines)
         sums = sums_of(steps)
         self.assertEqual((sums["all"].saved, "-" in sums), (0, False))
         self.assertEqual((sums["1"].frames, sums["2"].frames, sums["all"].frames), (3, 3, 3))
-        sums = sums_of([it for it in steps if it.words[0] != "fork"])
+        sums = sums_of([it for it in steps if it[2] not in ("fork 1 2", "exit 2")])
         self.assertEqual((sums["all"].saved, sums["-"].saved), (2, 2))
 
     def test_a_frame_that_moves_is_one(self) -> None:
@@ -310,9 +331,39 @@ class Summed(unittest.TestCase):
                  ("munmap 1 20000 4096", "ok"), ("compact", "ok / move 1 0"),
                  ("write 1 21000 03", "ok"), ("munmap 1 21000 4096", "ok"),
                  ("mmap 1 4096 rw-", "map 21000"), ("write 1 21000 01", "ok / new 1 21000 0")]
-        steps = [Step(number, number, line.split(" "), reply.split(" / "))
-                 for number, (line, reply) in enumerate(lines, 1)]
-        self.assertEqual(sums_of(steps)["all"].frames, 2)
+        self.assertEqual(sums_of(steps_of(lines))["all"].frames, 2)
+
+    def test_a_write_that_finds_its_frame_alone_is_a_fault(self) -> None:
+        lines = [("spawn 1", "ok"), ("mmap 1 8192 rw-", "map 20000"),
+                 ("write 1 20fff 0102", "ok / new 1 20000 0 / new 1 21000 1"),
+                 ("madvise 1 21000 4096 dontfork", "ok"), ("fork 1 2", "ok"), ("exit 2", "ok"),
+                 ("write 1 21000 01", "ok"), ("write 1 20fff 0102", "ok"),
+                 ("write 1 20000 01", "ok")]
+        one = sums_of(steps_of(lines))["1"]
+        self.assertEqual((one.accesses, one.faults, one.reused), (4, 2, 1))
+        lines[-3:] = [("mlock 1 20000 8192", "ok"), ("write 1 20fff 0102", "ok")]
+        one = sums_of(steps_of(lines))["1"]
+        self.assertEqual((one.accesses, one.faults, one.reused), (2, 1, 1))
+
+
+class Marked(unittest.TestCase):
+    """What calls say of pages."""
+
+    def test_marks_go_with_their_pages(self) -> None:
+        marks = Marks()
+        marks.map(0, 4 * PAGE, "rw-")
+        marks.protect(PAGE, 6 * PAGE, "r--")
+        marks.advise(0, PAGE, "dontfork")
+        marks.lock(PAGE, 2 * PAGE)
+        marks.move(0, 2 * PAGE, 3 * PAGE, 8 * PAGE, stays=True)
+        found = [marks.prots.at(it * PAGE) for it in (0, 1, 8, 9, 10, 11)]
+        self.assertEqual(found, ["rw-", "r--", "rw-", "r--", "r--", None])
+        self.assertEqual([marks.locked.at(it * PAGE) for it in (1, 8, 9, 10)],
+                         [None, None, True, True])
+        self.assertEqual([it.start for it in marks.kept_back()], [0, 8 * PAGE])
+        self.assertIsNone(marks.for_child().prots.at(0))
+        marks.advise(0, PAGE, "dofork")
+        self.assertEqual([it.start for it in marks.kept_back()], [8 * PAGE])
 
 
 class Peaks(unittest.TestCase):
