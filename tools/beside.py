@@ -240,7 +240,7 @@ class Beside:
         if not row and line.name in ("entry", "rmap"):
             others = self.brought.values() if line.name == "rmap" else ()
             row = self.brought.get(line.process) or next(iter(others), None)
-        if row is KEYS and self.kernel.read(*line.words[1:], with_keys=True) != model[:1]:
+        if row is KEYS and line.name == "read" and self.kernel.read(*line.words[1:], with_keys=True) != model[:1]:
             return None
         return row
 

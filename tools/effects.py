@@ -7,7 +7,7 @@ did something that the notes show, or a question behind the line.
 from typing import NamedTuple
 
 from proc import Area
-from ranges import Range, Ranges
+from ranges import PAGE, Range, Ranges
 from rows import ADDED, ENTRIES, FORCED, JOINS_MORE, KEPT_SLOT, MOVED_MERGED, UNLOCKED, UNMERGED
 from rows import WRITABLE, Line, Row, careful, row_of
 
@@ -41,6 +41,29 @@ def notes_of(reply: list[str], kind: str) -> list[str]:
     return [it for it in reply[1:] if it.startswith(f"{kind} ")]
 
 
+def places_of(reply: list[str], kinds: tuple[str, ...]) -> list[list[str]]:
+    """The notes of some kinds, each as far as it says where."""
+    return [it.split(" ")[:3] for it in reply[1:] if it.startswith(kinds)]
+
+
+def keeps_slot(telling, line: LineBefore, linux: list[str], model: list[str]) -> bool:
+    """Whether the kernel did all but drop the slot of a page that a read brought in."""
+    others = ("new ", "copy ", "zero ", "map ", "load ")
+    if not notes_of(model, "drop") or notes_of(linux, "drop"):
+        return False
+    if places_of(linux, others[:4]) != places_of(model, others[:4]):
+        return False
+    came = {
+        place[2]
+        for it in telling.told
+        if it.words[0] == "read" and it.line < line.number
+        for place in places_of(it.reply, ("map ",))
+        if place[1] == line.process
+    }
+    end = line.at + (len(line.words[3]) // 2 if line.name == "write" else int(line.words[3]))
+    return any(line.at // PAGE * PAGE <= int(it, 16) < end for it in came)
+
+
 def row_for(telling, shown: Shown) -> Row | None:
     """The row that explains a reply; None where none does."""
     main, said = shown.main, shown.main_model[0]
@@ -49,9 +72,9 @@ def row_for(telling, shown: Shown) -> Row | None:
     if shown.told is main and linux != said:
         found = [it for it in careful(line) if it.says(line, linux)]
         return found[0] if found else row_of(line, linux, False)
-    if linux == said and said.startswith("err "):
-        return next((it for it in careful(line) if it.changes), None)
-    return row_of_notes(telling, line, shown)
+    changes = said.startswith("err ") or line.name in ("mlock", "munlock")
+    found = [it for it in careful(line) if changes and it.changes and linux == said]
+    return found[0] if found else row_of_notes(telling, line, shown)
 
 
 def row_of_notes(telling, line: LineBefore, shown: Shown) -> Row | None:
@@ -67,7 +90,7 @@ def row_of_notes(telling, line: LineBefore, shown: Shown) -> Row | None:
             return ADDED
         case "mremap" | "madvise" if notes_of(linux, "copy") and line.has("mg"):
             return MOVED_MERGED if line.name == "mremap" else UNMERGED
-        case "write" if len(notes_of(model, "drop")) > len(notes_of(linux, "drop")):
+        case "write" | "mlock" if keeps_slot(telling, line, linux, model):
             return KEPT_SLOT
         case "write" | "mlock" if len(notes_of(linux, "copy")) > len(notes_of(model, "copy")):
             return FORCED if not telling.drains or telling.counts["not drained"] else None

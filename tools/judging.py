@@ -15,7 +15,7 @@ import making
 from effects import Shown, row_for
 from kernel import Kernel
 from looking import Looker
-from merging import Merging, can_merge, settings
+from merging import Merging, alone, can_merge
 from rows import Row
 from stubs import Mother
 from swapping import Swapping, area
@@ -126,7 +126,13 @@ class Judge:
     # ---- a trace
 
     def judge(self, trace: str) -> Verdict:
-        lines, left_out, again = lines_of(trace), [], 0
+        lines = lines_of(trace)
+        merges = can_merge() and any(words[0] == "merge" for _, words in lines)
+        with alone() if merges else contextlib.nullcontext():
+            return self.judge_lines(lines)
+
+    def judge_lines(self, lines: list[tuple[int, list[str]]]) -> Verdict:
+        left_out, again = [], 0
         for _ in range(MOST):
             telling = self.tell(lines)
             at = self.first_illegal(telling.told)
@@ -171,10 +177,8 @@ def copy_of_header(file: str) -> Iterator[str]:
 
 @contextlib.contextmanager
 def judge_with(mother: Mother, program: str, frames: str, has_swap: bool) -> Iterator[Judge]:
-    """A judge, with ksmd and the swap area as it needs them; both are as before in the end."""
+    """A judge, with a swap area if it is to have one, which goes in the end."""
     with contextlib.ExitStack() as stack:
-        if can_merge() and mother.zero:
-            stack.enter_context(settings())
         swap = stack.enter_context(area()) if has_swap else ""
         yield stack.enter_context(contextlib.closing(Judge(mother, program, frames, swap)))
 

@@ -1,5 +1,6 @@
 """`merge` by the kernel's thread ksmd: what it did, as notes. Its settings are put back."""
 import contextlib
+import fcntl
 import os
 import time
 from typing import Iterator
@@ -31,11 +32,18 @@ def settings() -> Iterator[None]:
     try:
         for name in filter(old.__contains__, SETTINGS):
             put(name, SETTINGS[name])
-        put("run", "0")
         yield
     finally:
         for name, value in reversed(old.items()):
             put(name, value)
+
+
+@contextlib.contextmanager
+def alone() -> Iterator[None]:
+    """No other run of this tool merges meanwhile: equal pages of both would share a frame."""
+    with open(f"{KSM}/run", "rb") as lock:
+        fcntl.flock(lock, fcntl.LOCK_EX)
+        yield
 
 
 class Merging:
@@ -43,21 +51,20 @@ class Merging:
 
     def scan(self) -> None:
         """Has ksmd scan all pages some times."""
-        begin, until = int(get("full_scans")), time.monotonic() + PATIENCE
-        put("run", "1")
-        while int(get("full_scans")) < begin + SCANS:
-            if time.monotonic() > until:
-                raise NotAsked(f"ksmd didn't end {SCANS} scans in {PATIENCE} seconds")
-            time.sleep(0.01)
-        put("run", "0")
+        until = time.monotonic() + PATIENCE
+        with settings():
+            last = int(get("full_scans")) + SCANS
+            put("run", "1")
+            while int(get("full_scans")) < last:
+                if time.monotonic() > until:
+                    raise NotAsked(f"ksmd didn't end {SCANS} scans in {PATIENCE} seconds")
+                time.sleep(0.01)
+            put("run", "0")
 
     def take(self, telling, words: list[str]) -> None:
         frames = telling.frames
         merged = set(filter(frames.is_merged, frames.mapped()))
-        try:
-            self.scan()
-        finally:
-            put("run", "0")
+        self.scan()
         after = telling.look()
         others = locked_frames(telling) | set(frames.cached.values())
         looked_at = {frames.numbers[it] for it in frames.mapped() if it not in others}

@@ -251,9 +251,10 @@ class Telling:
         for _ in range(TRIES):
             rows = self.frames.walk(frame)
             count = self.frames.looker.count(frame)
-            if count == len(rows):
-                return [f"frame {self.frames.numbers[frame]} maps {count}",
-                        *(f"{number} {page:x}" for number, page in rows)]
+            # (a merged frame may be that of a process beside the trace, too)
+            if count == len(rows) or count > len(rows) and self.frames.is_merged(frame):
+                head = f"frame {self.frames.numbers[frame]} maps {len(rows)}"
+                return [head, *(f"{number} {page:x}" for number, page in rows)]
         raise Cut(
             f"/proc/kpagecount names {count} entries of frame {self.frames.numbers[frame]}, and the "
             f"processes of the trace have {len(rows)}"
@@ -271,6 +272,8 @@ class Telling:
     def ask(self, words: list[str], reply: str, was: All) -> None:
         """Asks for what a line may have changed."""
         pages = self.pages_of(words, reply)
+        if words[0] == "fork" and reply == "ok":
+            pages[words[2]].update(was.get(words[1], {}))
         if self.frames:
             for number, entries in self.frames.now.items():
                 old = was.get(number, {})
