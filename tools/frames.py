@@ -56,7 +56,8 @@ class Frames:
         self.now: All = {}
         self.numbers: dict[int, int] = {}
         self.free = iter(range(most))
-        self.unseen = 0
+        # how many frames weren't seen, and the slots of which nobody knows when they were dropped
+        self.unseen, self.doubtful = 0, set[int]()
         # which frame the swap cache has for a slot, as far as the notes say
         self.cached: dict[int, int] = {}
         self.active: list[int] = []
@@ -124,8 +125,8 @@ class Frames:
         self.shared = (self.shared & used) | several
 
     def follow_moves(self, words: list[str], after: All) -> None:
-        """Frames that the kernel moved meanwhile, as compaction does, keep their numbers: each entry
-        of the one names the other, of pages that the command doesn't touch.
+        """Frames that the kernel moved meanwhile, as compaction does, keep their numbers: each
+        entry of the one names the other, of pages that the command doesn't touch.
         """
         moved, stay = {}, set()
         for number, entries in after.items():
@@ -224,6 +225,8 @@ class Story:
             self.note("copy", number, page, self.number(it))
         self.state[number][page] = it
         slot = self.frames.slot_of(frame)
+        if self.words[0] == "read" and slot in self.frames.doubtful:
+            return
         if slot in self.lost and not self.names(slot, 0 if frame == it else frame):
             self.drop(slot)
 
@@ -245,6 +248,7 @@ class Story:
                     # (what came in was copied at once, and isn't seen)
                     frames.unseen += 1
                     frame = UNSEEN + frames.unseen
+                    frames.doubtful.add(slot)
             frames.cached[slot] = frame
             self.notes.append(f"load {slot_text(slot)} {frames.fresh(frame)}")
             frames.counts["load"] += 1
@@ -287,6 +291,7 @@ class Story:
         self.notes.append(f"drop {slot_text(slot)}")
         del self.frames.cached[slot]
         self.lost.discard(slot)
+        self.frames.doubtful.discard(slot)
         self.frames.counts["drop"] += 1
 
     def note(self, kind: str, number: str, page: int, *frame: int) -> None:

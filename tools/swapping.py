@@ -5,28 +5,32 @@ first and kept as one that was seen, all are aged, those that the kernel leaves 
 read again, and the others go out: `reclaim N` is told as a reclaim of all, an age of all, those
 reads, the reclaim of N, and the end of its writes.
 """
+from __future__ import annotations
+
 import contextlib
 import ctypes
 import errno
-import fcntl
 import os
 import tempfile
 import time
-from typing import Iterator
+from typing import TYPE_CHECKING, Iterator
 
 from shared.saying import Refused
 
 import swapfile
 from frames import Cut, Frames, slot_text
-from looking import WRITEBACK, slot_of
+from looking import WRITEBACK, alone, slot_of
 from proc import Area
 from ranges import PAGE
 from shift import NotAsked
 from stubs import MADVISE
 
+if TYPE_CHECKING:
+    from telling import Telling
+
 PAGEOUT, PREFER, FIRST = 21, 0x8000, 32767
 # pages of the swap file, and how long the writes of a pass may take
-PAGES, PATIENCE = 4096, 20
+PAGES, PATIENCE = 1024, 20
 UNREADABLE = "no process can read one of its frames, which so can't be kept as seen"
 NOTHING = "there is no frame to send out"
 
@@ -44,8 +48,7 @@ def area(folder: str | None = None) -> Iterator[str]:
     of two the pages might go to either.)
     """
     with contextlib.ExitStack() as stack:
-        lock = stack.enter_context(open("/proc/swaps", "rb"))
-        fcntl.flock(lock, fcntl.LOCK_EX)
+        stack.enter_context(alone("/proc/swaps", "swaps"))
         room = stack.enter_context(
             tempfile.TemporaryDirectory(prefix="avsim-swap-", dir=folder)
         )
@@ -81,7 +84,7 @@ class Swapping:
         cached = frames.cached.get(slot)
         return f"slot {slot_text(slot)}" + (f" cached {frames.numbers[cached]}" if cached else "")
 
-    def take(self, telling, words: list[str]) -> None:
+    def take(self, telling: Telling, words: list[str]) -> None:
         frames: Frames = telling.frames
         mapped = set(frames.mapped())
         if not mapped:
@@ -103,7 +106,7 @@ class Swapping:
 
     # ---- what the kernel does
 
-    def send_out(self, telling, victims: set[int], mapped: set[int]) -> dict[int, int]:
+    def send_out(self, telling: Telling, victims: set[int], mapped: set[int]) -> dict[int, int]:
         """Which frames went out, each with its slot."""
         frames, shift = telling.frames, telling.kernel.shift
         for number, stub in telling.kernel.live.items():
@@ -134,7 +137,7 @@ class Swapping:
 
     # ---- what is told of it
 
-    def tell_ages(self, telling, order: list[int], kept: dict[int, str]) -> None:
+    def tell_ages(self, telling: Telling, order: list[int], kept: dict[int, str]) -> None:
         """All frames are kept, and age. (They were read, so that each counts as seen.) Those that
         the swap cache alone has are free then.
         """
@@ -153,7 +156,7 @@ class Swapping:
         telling.add(["age", f"{len(order)}"], ["ok", *ages], True)
         frames.active, frames.inactive = [], order
 
-    def tell(self, telling, last: list[int], by_number: dict[int, int], kept, out) -> None:
+    def tell(self, telling: Telling, last: list[int], by_number: dict[int, int], kept, out) -> None:
         """The frames that went out, and those that the kernel left where they were."""
         frames, notes, begun = telling.frames, ["ok"], []
         frames.counts["out"] += len(out)
@@ -189,7 +192,7 @@ class Swapping:
         return [f"unmap {number}", f"drop {slot_text(slot)}"]
 
 
-def touch(telling, frame: int) -> None:
+def touch(telling: Telling, frame: int) -> None:
     """Reads a byte of a frame, so that it was seen."""
     for number, page in telling.frames.walk(frame):
         words = ["read", number, f"{page:x}", "1"]
@@ -200,12 +203,13 @@ def touch(telling, frame: int) -> None:
     raise NotAsked(UNREADABLE)
 
 
-def locked_frames(telling) -> set[int]:
+def locked_frames(telling: Telling) -> set[int]:
     """The frames of locked pages."""
     found = set()
     for number, stub in telling.kernel.live.items():
         areas: list[Area] = telling.kernel.areas(stub, "smaps")
         locked = [it for it in areas if "lo" in it.flags]
-        entries = telling.frames.now[number].items()
-        found |= {it for page, it in entries for of in locked if of.start <= page < of.end and it > 0}
+        for page, it in telling.frames.now[number].items():
+            if it > 0 and any(of.start <= page < of.end for of in locked):
+                found.add(it)
     return found

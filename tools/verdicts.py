@@ -71,7 +71,10 @@ def write(verdict: Verdict, out: str) -> None:
     if telling.swapping:
         machine += f" and a swap file of {PAGES} pages"
     trace, transcript = files_of(telling.told)
-    head = f"# What Linux {os.uname().release} did, with what was asked between. Run it with {machine}.\n"
+    head = (
+        f"# What Linux {os.uname().release} did, with what was asked between.\n"
+        f"# Run it with {machine}.\n"
+    )
     try:
         for end, text in (("trace", head + trace), ("transcript", transcript)):
             with open(f"{out}.{end}", "w", encoding="ascii") as it:
