@@ -8,6 +8,7 @@ import ctypes
 import errno
 import fcntl
 import os
+import signal
 import struct
 import sys
 from typing import Iterator
@@ -53,6 +54,17 @@ def alone(file: str, what: str) -> Iterator[None]:
             print(f"on-linux: waits for another run that {what}", file=sys.stderr)
             fcntl.flock(lock, fcntl.LOCK_EX)
         yield
+
+
+@contextlib.contextmanager
+def unbroken() -> Iterator[None]:
+    """No signal ends this part: what was set is put back whole."""
+    ends = {signal.SIGINT, signal.SIGTERM, signal.SIGHUP}
+    before = signal.pthread_sigmask(signal.SIG_BLOCK, ends)
+    try:
+        yield
+    finally:
+        signal.pthread_sigmask(signal.SIG_SETMASK, before)
 
 
 class Looker:

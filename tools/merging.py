@@ -8,7 +8,7 @@ from typing import TYPE_CHECKING, Iterator
 
 from frames import All, Cut, Frames
 from kernel import KSM
-from looking import alone
+from looking import alone, unbroken
 from swapping import locked_frames
 
 if TYPE_CHECKING:
@@ -39,8 +39,9 @@ def settings() -> Iterator[None]:
             put(name, SETTINGS[name])
         yield
     finally:
-        for name, value in reversed(old.items()):
-            put(name, value)
+        with unbroken():
+            for name, value in reversed(old.items()):
+                put(name, value)
 
 
 @contextlib.contextmanager
@@ -54,7 +55,8 @@ def quiet() -> Iterator[None]:
             put("run", "0")
             yield
         finally:
-            put("run", run)
+            with unbroken():
+                put("run", run)
 
 
 class Merging:

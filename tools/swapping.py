@@ -19,7 +19,7 @@ from shared.saying import Refused
 
 import swapfile
 from frames import Cut, Frames, slot_text
-from looking import WRITEBACK, alone, slot_of
+from looking import WRITEBACK, alone, slot_of, unbroken
 from proc import Area
 from ranges import PAGE
 from shift import NotAsked
@@ -60,11 +60,15 @@ def area(folder: str | None = None) -> Iterator[str]:
             it.seek(PAGE)
             it.write(bytes((PAGES - 1) * PAGE))
         name = file.encode()
-        libc_call("swapon", name, PREFER | FIRST)
-        try:
-            yield file
-        finally:
-            libc_call("swapoff", name)
+        with unbroken():
+            libc_call("swapon", name, PREFER | FIRST)
+            stack.callback(turn_off, name)
+        yield file
+
+
+def turn_off(name: bytes) -> None:
+    with unbroken():
+        libc_call("swapoff", name)
 
 
 class Swapping:
