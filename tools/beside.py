@@ -240,8 +240,9 @@ class Beside:
         if not row and line.name in ("entry", "rmap"):
             others = self.brought.values() if line.name == "rmap" else ()
             row = self.brought.get(line.process) or next(iter(others), None)
-        if row is KEYS and self.kernel.read(*line.words[1:], with_keys=True) != model[:1]:
-            return None
+        if row is KEYS and line.name == "read":
+            with_keys = self.kernel.read(*line.words[1:], with_keys=True)
+            return row if with_keys == model[:1] else None
         return row
 
     def ask_carefully(self, line: Line, rows: list[Row]) -> Difference | None:

@@ -1,15 +1,21 @@
 """The row of docs/LINUX.md by which a reply of the kernel isn't legal: from its line, from what the
 line's process had before it, and from what the kernel shows.
 
-It is the row of `rows` where the first line of the reply is another one. Where it is the same, Linux
+It is one of `rows` where the first line of the reply is another one. Where that is the same, Linux
 did something that the notes show, or a question behind the line.
 """
-from typing import NamedTuple
+from __future__ import annotations
 
-from proc import Area
-from ranges import Range, Ranges
+from typing import TYPE_CHECKING, NamedTuple
+
+from kernel import Kernel
+from ranges import PAGE, Range, Ranges
 from rows import ADDED, ENTRIES, FORCED, JOINS_MORE, KEPT_SLOT, MOVED_MERGED, UNLOCKED, UNMERGED
 from rows import WRITABLE, Line, Row, careful, row_of
+
+
+if TYPE_CHECKING:
+    from telling import Telling, Told
 
 
 class Shown(NamedTuple):
@@ -17,8 +23,8 @@ class Shown(NamedTuple):
     replies to both.
     """
 
-    told: "Told"
-    main: "Told"
+    told: Told
+    main: Told
     model: list[str]
     main_model: list[str]
 
@@ -26,10 +32,10 @@ class Shown(NamedTuple):
 class LineBefore(Line):
     """A line with the areas that its process had."""
 
-    def __init__(self, kernel, number: int, words: list[str], said: str, before: list[Area]):
-        super().__init__(kernel, number, words, said)
-        self.before = before
-        self.ranges = Ranges(Range(it.start, it.end, it.prot) for it in before)
+    def __init__(self, kernel: Kernel, main: Told, said: str):
+        super().__init__(kernel, main.line, main.words, said)
+        self.before = main.before
+        self.ranges = Ranges(Range(it.start, it.end, it.prot) for it in main.before)
 
     def has(self, flag: str) -> bool:
         """Whether a page that the line names is in an area with this flag."""
@@ -41,20 +47,43 @@ def notes_of(reply: list[str], kind: str) -> list[str]:
     return [it for it in reply[1:] if it.startswith(f"{kind} ")]
 
 
-def row_for(telling, shown: Shown) -> Row | None:
+def places_of(reply: list[str], kinds: tuple[str, ...]) -> list[list[str]]:
+    """The notes of some kinds, each as far as it says where."""
+    return [it.split(" ")[:3] for it in reply[1:] if it.startswith(kinds)]
+
+
+def keeps_slot(telling: Telling, line: LineBefore, linux: list[str], model: list[str]) -> bool:
+    """Whether the kernel did all but drop the slot of a page that a read brought in."""
+    others = ("new ", "copy ", "zero ", "map ", "load ")
+    if not notes_of(model, "drop") or notes_of(linux, "drop"):
+        return False
+    if places_of(linux, others[:4]) != places_of(model, others[:4]):
+        return False
+    came = {
+        place[2]
+        for it in telling.told
+        if it.words[0] == "read" and it.line < line.number
+        for place in places_of(it.reply, ("map ",))
+        if place[1] == line.process
+    }
+    end = line.at + (len(line.words[3]) // 2 if line.name == "write" else int(line.words[3]))
+    return any(line.at // PAGE * PAGE <= int(it, 16) < end for it in came)
+
+
+def row_for(telling: Telling, shown: Shown) -> Row | None:
     """The row that explains a reply; None where none does."""
     main, said = shown.main, shown.main_model[0]
-    line = LineBefore(telling.kernel, main.line, main.words, said, main.before)
+    line = LineBefore(telling.kernel, main, said)
     linux = main.reply[0]
     if shown.told is main and linux != said:
         found = [it for it in careful(line) if it.says(line, linux)]
         return found[0] if found else row_of(line, linux, False)
-    if linux == said and said.startswith("err "):
-        return next((it for it in careful(line) if it.changes), None)
-    return row_of_notes(telling, line, shown)
+    changes = said.startswith("err ") or line.name in ("mlock", "munlock")
+    found = [it for it in careful(line) if changes and it.changes and linux == said]
+    return found[0] if found else row_of_notes(telling, line, shown)
 
 
-def row_of_notes(telling, line: LineBefore, shown: Shown) -> Row | None:
+def row_of_notes(telling: Telling, line: LineBefore, shown: Shown) -> Row | None:
     """The row by which Linux did more than it says, or less."""
     linux, model = shown.main.reply, shown.main_model
     more = len(linux) > len(model)
@@ -67,7 +96,7 @@ def row_of_notes(telling, line: LineBefore, shown: Shown) -> Row | None:
             return ADDED
         case "mremap" | "madvise" if notes_of(linux, "copy") and line.has("mg"):
             return MOVED_MERGED if line.name == "mremap" else UNMERGED
-        case "write" if len(notes_of(model, "drop")) > len(notes_of(linux, "drop")):
+        case "write" | "mlock" if keeps_slot(telling, line, linux, model):
             return KEPT_SLOT
         case "write" | "mlock" if len(notes_of(linux, "copy")) > len(notes_of(model, "copy")):
             return FORCED if not telling.drains or telling.counts["not drained"] else None

@@ -8,6 +8,8 @@ import collections
 from looking import IN_SWAP_CACHE, MERGED, Entries, Looker, slot_of
 from ranges import PAGE, up
 
+# stands, with what is above, for frames that only the swap cache can have
+UNSEEN = 1 << 60
 # all entries: of each process, by the address
 All = dict[str, Entries]
 
@@ -54,6 +56,8 @@ class Frames:
         self.now: All = {}
         self.numbers: dict[int, int] = {}
         self.free = iter(range(most))
+        # how many frames weren't seen, and the slots of which nobody knows when they were dropped
+        self.unseen, self.doubtful = 0, set[int]()
         # which frame the swap cache has for a slot, as far as the notes say
         self.cached: dict[int, int] = {}
         self.active: list[int] = []
@@ -84,13 +88,19 @@ class Frames:
         """The frames that entries name."""
         return sorted({it for entries in self.now.values() for it in entries.values() if it > 0})
 
+    def slot_of(self, frame: int) -> int:
+        """The slot that a frame is cached for; 0 for none."""
+        return next((it for it, of in self.cached.items() if of == frame), 0)
+
     def is_merged(self, frame: int) -> bool:
         return bool(self.looker.flags(frame) & MERGED)
 
     def lost_slots(self) -> set[int]:
-        """The slots that the swap cache doesn't have any more."""
-        flags = self.looker.flags
-        return {it for it, frame in self.cached.items() if not flags(frame) & IN_SWAP_CACHE}
+        """The slots that the swap cache may not have any more."""
+        return {it for it, frame in self.cached.items() if not self.is_in_swap_cache(frame)}
+
+    def is_in_swap_cache(self, frame: int) -> bool:
+        return frame < UNSEEN and bool(self.looker.flags(frame) & IN_SWAP_CACHE)
 
     def take(self, words: list[str], reply: str, after: All) -> list[str]:
         """The notes of a command, from what is there after it."""
@@ -115,8 +125,8 @@ class Frames:
         self.shared = (self.shared & used) | several
 
     def follow_moves(self, words: list[str], after: All) -> None:
-        """Frames that the kernel moved meanwhile, as compaction does, keep their numbers: each entry
-        of the one names the other, of pages that the command doesn't touch.
+        """Frames that the kernel moved meanwhile, as compaction does, keep their numbers: each
+        entry of the one names the other, of pages that the command doesn't touch.
         """
         moved, stay = {}, set()
         for number, entries in after.items():
@@ -214,7 +224,9 @@ class Story:
         if frame != it:
             self.note("copy", number, page, self.number(it))
         self.state[number][page] = it
-        slot = self.slot_of(frame)
+        slot = self.frames.slot_of(frame)
+        if self.words[0] == "read" and slot in self.frames.doubtful:
+            return
         if slot in self.lost and not self.names(slot, 0 if frame == it else frame):
             self.drop(slot)
 
@@ -229,10 +241,16 @@ class Story:
         if slot not in frames.cached:
             if it in frames.numbers and it in self.stay:
                 raise Cut("a page came from swap over a frame in use")
-            frames.cached[slot] = it
-            if self.words[0] == "write" and not frames.looker.flags(it) & IN_SWAP_CACHE:
+            frame = it
+            if not frames.is_in_swap_cache(it):
                 self.lost.add(slot)
-            self.notes.append(f"load {slot_text(slot)} {frames.fresh(it)}")
+                if self.is_shared(slot):
+                    # (what came in was copied at once, and isn't seen)
+                    frames.unseen += 1
+                    frame = UNSEEN + frames.unseen
+                    frames.doubtful.add(slot)
+            frames.cached[slot] = frame
+            self.notes.append(f"load {slot_text(slot)} {frames.fresh(frame)}")
             frames.counts["load"] += 1
         frame = frames.cached[slot]
         self.note("map", number, page, frames.numbers[frame])
@@ -240,7 +258,7 @@ class Story:
 
     def gone(self, number: str, page: int) -> None:
         was = self.state[number].pop(page)
-        slot = was if was < 0 else self.slot_of(was)
+        slot = was if was < 0 else self.frames.slot_of(was)
         if slot in self.frames.cached and slot in self.lost:
             if not self.names(slot, self.frames.cached[slot]):
                 self.drop(slot)
@@ -248,7 +266,7 @@ class Story:
     def is_dropped_by_write(self, number: str, page: int, it: int | None) -> bool:
         if self.words[0] != "write" or not it or it < 0:
             return False
-        return self.slot_of(it) in self.lost and may_touch(self.words, number, page)
+        return self.frames.slot_of(it) in self.lost and may_touch(self.words, number, page)
 
     # ---- frames and slots
 
@@ -264,14 +282,16 @@ class Story:
         wanted = {slot, frame} - {0}
         return any(it in wanted for entries in self.state.values() for it in entries.values())
 
-    def slot_of(self, frame: int) -> int:
-        """The slot that a frame is cached for; 0 for none."""
-        return next((it for it, of in self.frames.cached.items() if of == frame and frame > 0), 0)
+    def is_shared(self, slot: int) -> bool:
+        """Whether several entries name a slot."""
+        named = [it for entries in self.state.values() for it in entries.values()]
+        return named.count(slot) > 1
 
     def drop(self, slot: int) -> None:
         self.notes.append(f"drop {slot_text(slot)}")
         del self.frames.cached[slot]
         self.lost.discard(slot)
+        self.frames.doubtful.discard(slot)
         self.frames.counts["drop"] += 1
 
     def note(self, kind: str, number: str, page: int, *frame: int) -> None:

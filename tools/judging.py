@@ -3,10 +3,11 @@ which row of docs/LINUX.md a reply isn't.
 
 Such a line is left out, and the trace begun anew, until all is legal or no row explains a reply.
 """
-import collections
 import contextlib
+import os
 import re
 import subprocess
+import tempfile
 from typing import Callable, Iterator, NamedTuple
 
 from shared.saying import Refused
@@ -15,7 +16,8 @@ import making
 from effects import Shown, row_for
 from kernel import Kernel
 from looking import Looker
-from merging import Merging, can_merge, settings
+from merging import Merging, can_merge, quiet
+from ranges import PAGE
 from rows import Row
 from stubs import Mother
 from swapping import Swapping, area
@@ -57,12 +59,15 @@ def files_of(told: list[Told]) -> tuple[str, str]:
 
 
 class Judge:
-    """Judges traces by a program, on a machine with so many frames; with a swap file, if one is on.
-    `shapes` has a hand in each telling before it begins.
+    """Judges traces by a program, on a machine with so many frames. Where it `has_swap`, a swap
+    file is on while a trace with `reclaim` is done. `shapes` has a hand in each telling before it
+    begins.
     """
 
-    def __init__(self, mother: Mother, program: str, frames: str = "16384", swap: str = ""):
-        self.mother, self.program, self.words = mother, program, [frames, *[swap] * bool(swap)]
+    def __init__(self, mother: Mother, program: str, frames: str, has_swap: bool):
+        self.mother, self.program, self.has_swap = mother, program, has_swap
+        # the words of the machine behind `avsim audit`
+        self.words = [frames]
         self.looker = Looker(mother.zero) if mother.zero else None
         self.shapes: Callable[[Telling], None] = lambda _: None
         # (with all keys taken, no page can be executed alone)
@@ -126,7 +131,18 @@ class Judge:
     # ---- a trace
 
     def judge(self, trace: str) -> Verdict:
-        lines, left_out, again = lines_of(trace), [], 0
+        lines = lines_of(trace)
+        names = {words[0] for _, words in lines}
+        with contextlib.ExitStack() as stack:
+            if "merge" in names and self.looker and can_merge():
+                stack.enter_context(quiet())
+            if "reclaim" in names and self.looker and self.has_swap:
+                self.words.append(stack.enter_context(area()))
+                stack.callback(self.words.pop)
+            return self.judge_lines(lines)
+
+    def judge_lines(self, lines: list[tuple[int, list[str]]]) -> Verdict:
+        left_out, again = [], 0
         for _ in range(MOST):
             telling = self.tell(lines)
             at = self.first_illegal(telling.told)
@@ -157,28 +173,8 @@ class Judge:
 @contextlib.contextmanager
 def copy_of_header(file: str) -> Iterator[str]:
     """A swap file with the header of one that is on, for a run to write to."""
-    import os
-    import tempfile
-
-    from ranges import PAGE
-
     with tempfile.NamedTemporaryFile() as to, open(file, "rb") as it:
         to.write(it.read(PAGE))
         to.truncate(os.fstat(it.fileno()).st_size)
         to.flush()
         yield to.name
-
-
-@contextlib.contextmanager
-def judge_with(mother: Mother, program: str, frames: str, has_swap: bool) -> Iterator[Judge]:
-    """A judge, with ksmd and the swap area as it needs them; both are as before in the end."""
-    with contextlib.ExitStack() as stack:
-        if can_merge() and mother.zero:
-            stack.enter_context(settings())
-        swap = stack.enter_context(area()) if has_swap else ""
-        yield stack.enter_context(contextlib.closing(Judge(mother, program, frames, swap)))
-
-
-def by_row(left_out: list[Finding]) -> collections.Counter[Row]:
-    """How many lines were left out, by the row."""
-    return collections.Counter(it.row for it in left_out if it.row)

@@ -3,11 +3,15 @@ frame, and what the kernel marks it as.
 
 An entry is a number here: above 0 the frame, 0 the page of zeros, below 0 a slot.
 """
+import contextlib
 import ctypes
 import errno
 import fcntl
 import os
+import signal
 import struct
+import sys
+from typing import Iterator
 
 from shared.saying import Refused
 
@@ -38,6 +42,29 @@ def drain(pid: int) -> bool:
     """
     node, libc = ctypes.c_ulong(1), ctypes.CDLL(None, use_errno=True)
     return libc.syscall(MIGRATE_PAGES, pid, 64, ctypes.byref(node), ctypes.byref(node)) >= 0
+
+
+@contextlib.contextmanager
+def alone(file: str, what: str) -> Iterator[None]:
+    """No other run of this tool does what there may be one of at a time, by a lock on a file."""
+    with open(file, "rb") as lock:
+        try:
+            fcntl.flock(lock, fcntl.LOCK_EX | fcntl.LOCK_NB)
+        except OSError:
+            print(f"on-linux: waits for another run that {what}", file=sys.stderr)
+            fcntl.flock(lock, fcntl.LOCK_EX)
+        yield
+
+
+@contextlib.contextmanager
+def unbroken() -> Iterator[None]:
+    """No signal ends this part: what was set is put back whole."""
+    ends = {signal.SIGINT, signal.SIGTERM, signal.SIGHUP}
+    before = signal.pthread_sigmask(signal.SIG_BLOCK, ends)
+    try:
+        yield
+    finally:
+        signal.pthread_sigmask(signal.SIG_SETMASK, before)
 
 
 class Looker:

@@ -1,12 +1,18 @@
 """`merge` by the kernel's thread ksmd: what it did, as notes. Its settings are put back."""
+from __future__ import annotations
+
 import contextlib
 import os
 import time
-from typing import Iterator
+from typing import TYPE_CHECKING, Iterator
 
+from frames import All, Cut, Frames
 from kernel import KSM
-from shift import NotAsked
+from looking import alone, unbroken
 from swapping import locked_frames
+
+if TYPE_CHECKING:
+    from telling import Telling
 
 # a page is merged at the second scan that finds its bytes the same, so some are needed
 SCANS, PATIENCE = 5, 60
@@ -31,33 +37,50 @@ def settings() -> Iterator[None]:
     try:
         for name in filter(old.__contains__, SETTINGS):
             put(name, SETTINGS[name])
-        put("run", "0")
         yield
     finally:
-        for name, value in reversed(old.items()):
-            put(name, value)
+        with unbroken():
+            for name, value in reversed(old.items()):
+                put(name, value)
+
+
+@contextlib.contextmanager
+def quiet() -> Iterator[None]:
+    """ksmd does nothing by itself meanwhile, and nothing for another run of this tool: equal pages
+    of both would share a frame.
+    """
+    with alone(f"{KSM}/run", "merges"):
+        run = get("run")
+        try:
+            put("run", "0")
+            yield
+        finally:
+            with unbroken():
+                put("run", run)
 
 
 class Merging:
-    """Does `merge`."""
+    """Does `merge`. `joined` are the frames that took part the last time, by their numbers."""
+
+    def __init__(self) -> None:
+        self.joined: set[int] = set()
 
     def scan(self) -> None:
         """Has ksmd scan all pages some times."""
-        begin, until = int(get("full_scans")), time.monotonic() + PATIENCE
-        put("run", "1")
-        while int(get("full_scans")) < begin + SCANS:
-            if time.monotonic() > until:
-                raise NotAsked(f"ksmd didn't end {SCANS} scans in {PATIENCE} seconds")
-            time.sleep(0.01)
-        put("run", "0")
+        until = time.monotonic() + PATIENCE
+        with settings():
+            last = int(get("full_scans")) + SCANS
+            put("run", "1")
+            while int(get("full_scans")) < last:
+                if time.monotonic() > until:
+                    raise Cut(f"ksmd didn't end {SCANS} scans in {PATIENCE} seconds")
+                time.sleep(0.01)
+            put("run", "0")
 
-    def take(self, telling, words: list[str]) -> None:
+    def take(self, telling: Telling, words: list[str]) -> None:
         frames = telling.frames
         merged = set(filter(frames.is_merged, frames.mapped()))
-        try:
-            self.scan()
-        finally:
-            put("run", "0")
+        self.scan()
         after = telling.look()
         others = locked_frames(telling) | set(frames.cached.values())
         looked_at = {frames.numbers[it] for it in frames.mapped() if it not in others}
@@ -70,35 +93,37 @@ class Merging:
         for number in sorted(after, key=int):
             telling.ask_pages(number, sorted(after[number]))
 
-    def notes(self, frames, merged: set[int], after) -> list[str]:
+    def notes(self, frames: Frames, merged: set[int], after: All) -> list[str]:
         """The notes of what joined. A merged frame has the number of the first page that came to
         it; one that moved meanwhile keeps its own.
         """
         notes, first, numbers = [], {}, dict(frames.numbers)
-        self.joined: set[int] = set()
+        self.joined = set()
         shared = {it: frames.numbers[it] for it in merged}
-        for number in sorted(after, key=int):
-            for page, it in sorted(after[number].items()):
-                was = frames.now[number].get(page, 0)
-                if it <= 0 or was <= 0:
-                    continue
-                own = frames.numbers[was]
-                if not frames.is_merged(it):
-                    numbers[it] = own
-                elif it not in shared and first.setdefault(it, own) == own:
-                    numbers[it] = own
-                else:
-                    if it not in shared:
-                        shared[it] = first[it]
-                        notes.append(f"share {first[it]}")
-                    if own != shared[it]:
-                        notes.append(f"join {number} {page:x} {shared[it]}")
-                        self.joined |= {own, shared[it]}
-                    numbers[it] = shared[it]
-        for it in notes:
-            frames.counts[it.split(" ")[0]] += 1
+        for number, page, it in entries_of(after):
+            was = frames.now[number].get(page, 0)
+            if it <= 0 or was <= 0:
+                continue
+            own = numbers[it] = frames.numbers[was]
+            if not frames.is_merged(it) or it not in shared and first.setdefault(it, own) == own:
+                continue
+            if it not in shared:
+                shared[it] = first[it]
+                notes.append(f"share {first[it]}")
+            numbers[it] = shared[it]
+            if own != shared[it]:
+                notes.append(f"join {number} {page:x} {shared[it]}")
+                self.joined |= {own, shared[it]}
+        frames.counts.update(it.split(" ")[0] for it in notes)
         frames.numbers = numbers
         return notes
+
+
+def entries_of(all_: All) -> Iterator[tuple[str, int, int]]:
+    """All entries, by process and address."""
+    for number in sorted(all_, key=int):
+        for page, it in sorted(all_[number].items()):
+            yield number, page, it
 
 
 def can_merge() -> bool:

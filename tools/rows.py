@@ -256,12 +256,13 @@ UNMOVED = Row("mremap", "old range after `dontunmap`")
 WRITABLE = Row("mlock, munlock", "a locked page becomes writable")
 ADDED = Row("mlock, munlock", "pages that `mremap` adds")
 UNLOCKED = Row("mlock, munlock", "`dontunmap` of locked pages")
-# ---- rows that notes show, when a kernel's own transcript is judged
+# ---- rows that notes alone show, where a kernel's own transcript is judged
 FORCED = Row("read, write", "write to a frame that a fork left to several")
 KEPT_SLOT = Row("A page comes back", "the slot is dropped")
 JOINS_MORE = Row("merge", "what is looked at")
 UNMERGED = Row("merge", "`unmergeable`")
 MOVED_MERGED = Row("merge", "a page that `mremap` moves")
+NOTED = {FORCED, KEPT_SLOT, JOINS_MORE, UNMERGED, MOVED_MERGED}
 # all of them
 ROWS = {*CAREFULLY["mmap"], *CAREFULLY["mremap"], *CAREFULLY["mlock"]} | {
     KEYS, ACCOUNTING, LIMITED, ENTRIES, GROWTH, UNMOVED, WRITABLE, ADDED, UNLOCKED
@@ -298,10 +299,18 @@ def is_execute_only(line: Line, reply: str) -> bool:
     return False
 
 
+def locks_execute_only(line: Line) -> bool:
+    """Whether a `mlock` is of pages that may only be executed."""
+    parts = line.ranges.within(line.at // PAGE * PAGE, line.at + int(line.words[3]))
+    return any(it.of == "--x" for it in parts)
+
+
 def row_of(line: Line, reply: str, is_child: bool) -> Row | None:
     """The row by which a line is answered so that may be asked without care."""
     match line.name, line.said, reply:
         case "read", _, _ if is_execute_only(line, reply):
+            return KEYS
+        case "mlock", "ok", "err ENOMEM" if locks_execute_only(line):
             return KEYS
         case "entry", "zero", "empty" if is_child:
             return ENTRIES

@@ -5,29 +5,34 @@ first and kept as one that was seen, all are aged, those that the kernel leaves 
 read again, and the others go out: `reclaim N` is told as a reclaim of all, an age of all, those
 reads, the reclaim of N, and the end of its writes.
 """
+from __future__ import annotations
+
 import contextlib
 import ctypes
 import errno
 import os
 import tempfile
 import time
-from typing import Iterator
+from typing import TYPE_CHECKING, Iterator
 
 from shared.saying import Refused
 
 import swapfile
 from frames import Cut, Frames, slot_text
-from looking import IN_SWAP_CACHE, WRITEBACK, slot_of
+from looking import WRITEBACK, alone, slot_of, unbroken
 from proc import Area
 from ranges import PAGE
 from shift import NotAsked
 from stubs import MADVISE
 
+if TYPE_CHECKING:
+    from telling import Telling
+
 PAGEOUT, PREFER, FIRST = 21, 0x8000, 32767
 # pages of the swap file, and how long the writes of a pass may take
-PAGES, PATIENCE = 4096, 20
+PAGES, PATIENCE = 1024, 20
 UNREADABLE = "no process can read one of its frames, which so can't be kept as seen"
-WAITS = "a frame that the swap cache alone has would be in the way"
+NOTHING = "there is no frame to send out"
 
 
 def libc_call(name: str, *of: object) -> None:
@@ -39,8 +44,14 @@ def libc_call(name: str, *of: object) -> None:
 
 @contextlib.contextmanager
 def area(folder: str | None = None) -> Iterator[str]:
-    """A swap file that is on, before all others; off and gone in the end."""
-    with tempfile.TemporaryDirectory(prefix="avsim-swap-", dir=folder) as room:
+    """A swap file that is on, before all others; off and gone in the end. (There is one at a time:
+    of two the pages might go to either.)
+    """
+    with contextlib.ExitStack() as stack:
+        stack.enter_context(alone("/proc/swaps", "swaps"))
+        room = stack.enter_context(
+            tempfile.TemporaryDirectory(prefix="avsim-swap-", dir=folder)
+        )
         file = f"{room}/swap.img"
         swapfile.make(file, PAGES)
         os.chmod(file, 0o600)
@@ -49,11 +60,15 @@ def area(folder: str | None = None) -> Iterator[str]:
             it.seek(PAGE)
             it.write(bytes((PAGES - 1) * PAGE))
         name = file.encode()
-        libc_call("swapon", name, PREFER | FIRST)
-        try:
-            yield file
-        finally:
-            libc_call("swapoff", name)
+        with unbroken():
+            libc_call("swapon", name, PREFER | FIRST)
+            stack.callback(turn_off, name)
+        yield file
+
+
+def turn_off(name: bytes) -> None:
+    with unbroken():
+        libc_call("swapoff", name)
 
 
 class Swapping:
@@ -73,22 +88,19 @@ class Swapping:
         cached = frames.cached.get(slot)
         return f"slot {slot_text(slot)}" + (f" cached {frames.numbers[cached]}" if cached else "")
 
-    def take(self, telling, words: list[str]) -> None:
+    def take(self, telling: Telling, words: list[str]) -> None:
         frames: Frames = telling.frames
         mapped = set(frames.mapped())
-        if set(frames.cached.values()) - mapped:
-            raise NotAsked(WAITS)
         if not mapped:
-            telling.add(words, ["ok"])
-            return
+            raise NotAsked(NOTHING)
         locked = locked_frames(telling)
         kept = {frames.numbers[it]: "locked" for it in locked}
         kept = {frames.numbers[it]: "ksm" for it in mapped if frames.is_merged(it)} | kept
         for frame in sorted(mapped):
             touch(telling, frame)
-        order = [*frames.inactive, *frames.active]
-        last = order[-int(words[1]) :]
         by_number = {number: frame for frame, number in frames.numbers.items()}
+        order = [it for it in [*frames.inactive, *frames.active] if by_number[it] in mapped]
+        last = order[-int(words[1]) :]
         victims = {by_number[it] for it in last if it not in kept}
         out = self.send_out(telling, victims, mapped)
         self.tell_ages(telling, order, kept)
@@ -98,7 +110,7 @@ class Swapping:
 
     # ---- what the kernel does
 
-    def send_out(self, telling, victims: set[int], mapped: set[int]) -> dict[int, int]:
+    def send_out(self, telling: Telling, victims: set[int], mapped: set[int]) -> dict[int, int]:
         """Which frames went out, each with its slot."""
         frames, shift = telling.frames, telling.kernel.shift
         for number, stub in telling.kernel.live.items():
@@ -129,54 +141,62 @@ class Swapping:
 
     # ---- what is told of it
 
-    def tell_ages(self, telling, order: list[int], kept: dict[int, str]) -> None:
-        """All frames are kept, and age. (They were read, so that each counts as seen.)"""
+    def tell_ages(self, telling: Telling, order: list[int], kept: dict[int, str]) -> None:
+        """All frames are kept, and age. (They were read, so that each counts as seen.) Those that
+        the swap cache alone has are free then.
+        """
         frames = telling.frames
+        alone = {frames.numbers[frame]: slot for slot, frame in frames.cached.items()}
+        notes = ["ok"]
+        for it in frames.inactive[::-1]:
+            if it in order:
+                notes.append(f"keep {it} {kept.get(it, 'referenced')}")
+            else:
+                notes.append(f"drop {slot_text(alone[it])}")
+                del frames.cached[alone[it]]
         if frames.inactive:
-            notes = [f"keep {it} {kept.get(it, 'referenced')}" for it in frames.inactive[::-1]]
-            telling.add(["reclaim", f"{len(frames.inactive)}"], ["ok", *notes], True)
-        notes = [f"age {it}" for it in order[::-1]]
-        telling.add(["age", f"{len(order)}"], ["ok", *notes], True)
+            telling.add(["reclaim", f"{len(frames.inactive)}"], notes, True)
+        ages = [f"age {it}" for it in order[::-1]]
+        telling.add(["age", f"{len(order)}"], ["ok", *ages], True)
         frames.active, frames.inactive = [], order
 
-    def tell(self, telling, last: list[int], by_number: dict[int, int], kept, out) -> None:
+    def tell(self, telling: Telling, last: list[int], by_number: dict[int, int], kept, out) -> None:
+        """The frames that went out, and those that the kernel left where they were."""
         frames, notes, begun = telling.frames, ["ok"], []
-        still = {it for it in out if frames.looker.flags(it) & IN_SWAP_CACHE}
         frames.counts["out"] += len(out)
-        frames.counts["freed at once"] += len(set(out) - still)
         for it in last:
             frame = by_number[it]
             frames.inactive.remove(it)
             if frame not in out:
                 notes.append(f"keep {it} {kept.get(it, 'referenced')}")
                 frames.active.insert(0, it)
-                continue
-            slot = out[frame]
-            notes += self.notes_out(frames, it, frame, slot)
-            frames.inactive.insert(0, it)
-            frames.cached[slot] = frame
-            begun.append((it, slot_text(slot)))
+            elif frames.slot_of(frame):
+                notes += self.dropped(frames, it, frame, out[frame])
+            else:
+                name = slot_text(out[frame])
+                notes += [f"put {it} {name}", f"unmap {it}", f"start {name}", f"keep {it} started"]
+                frames.cached[out[frame]] = frame
+                begun.append((it, name))
         telling.add(["reclaim", f"{len(last)}"], notes)
         frames.now = self.after
-        for it, _ in begun:
-            frames.inactive.remove(it)
-            frames.inactive.append(it)
+        # (its write has ended, so a frame is at the tail)
+        frames.inactive += [it for it, _ in begun]
         if begun:
-            done = [f"done {slot}" for _, slot in begun]
+            done = [f"done {name}" for _, name in begun]
             telling.add(["complete", f"{len(begun)}"], ["ok", *done], True)
+        frames.prune()
         for number in sorted(self.after, key=int):
             telling.ask_pages(number, sorted(self.after[number]))
 
-    def notes_out(self, frames: Frames, number: int, frame: int, slot: int) -> list[str]:
-        """How a frame goes out."""
-        was = next((it for it, of in frames.cached.items() if of == frame), 0)
-        if was:
-            raise Cut("a frame that the swap cache had went out again")
-        name = slot_text(slot)
-        return [f"put {number} {name}", f"unmap {number}", f"start {name}", f"keep {number} started"]
+    def dropped(self, frames: Frames, number: int, frame: int, slot: int) -> list[str]:
+        """How a frame goes out that is as its slot is: nothing is written."""
+        if frames.slot_of(frame) != slot:
+            raise Cut("a frame that the swap cache had went to another slot")
+        del frames.cached[slot]
+        return [f"unmap {number}", f"drop {slot_text(slot)}"]
 
 
-def touch(telling, frame: int) -> None:
+def touch(telling: Telling, frame: int) -> None:
     """Reads a byte of a frame, so that it was seen."""
     for number, page in telling.frames.walk(frame):
         words = ["read", number, f"{page:x}", "1"]
@@ -187,12 +207,13 @@ def touch(telling, frame: int) -> None:
     raise NotAsked(UNREADABLE)
 
 
-def locked_frames(telling) -> set[int]:
+def locked_frames(telling: Telling) -> set[int]:
     """The frames of locked pages."""
     found = set()
     for number, stub in telling.kernel.live.items():
         areas: list[Area] = telling.kernel.areas(stub, "smaps")
         locked = [it for it in areas if "lo" in it.flags]
-        entries = telling.frames.now[number].items()
-        found |= {it for page, it in entries for of in locked if of.start <= page < of.end and it > 0}
+        for page, it in telling.frames.now[number].items():
+            if it > 0 and any(of.start <= page < of.end for of in locked):
+                found.add(it)
     return found

@@ -19,6 +19,8 @@ from swapping import Swapping
 
 # commands that change areas
 CHANGES = ("fork", *CALLS)
+# those before which the CPUs' lists are drained
+MAY_COPY = ("read", "write", "mlock", "mprotect")
 # pages of a process that are asked for behind one line, and in the end
 MOST_ASKED, MOST_IN_THE_END = 24, 200
 # how often frames are looked at, of which one may be about to move
@@ -35,6 +37,8 @@ UNTOLD = {
     "compact": "no call says which frames are to move",
 }
 SEEN = "told as rmap: no file shows whether an entry was seen"
+NO_KSMD = "nobody but root tells ksmd when to scan, or this kernel has none"
+NO_SWAP = "no swap area is turned on (--swap does)"
 GONE = "the kernel ended process {}"
 
 
@@ -159,7 +163,7 @@ class Telling:
         """Drains the CPUs' lists before a line that may write to a frame which was shared, or is in
         the swap cache: who holds one aside has a reference, for which the kernel copies.
         """
-        if not self.frames or not self.drains or words[0] not in ("read", "write", "mlock", "mprotect"):
+        if not self.frames or not self.drains or words[0] not in MAY_COPY:
             return
         entries = self.frames.now.get(words[1], {}).items()
         touched = {it for page, it in entries if it and may_touch(words, words[1], page)}
@@ -187,7 +191,7 @@ class Telling:
         return f"map {place:x}" if place >= 0 and size else ""
 
     def mend(self, parent: dict[int, int], child: str) -> None:
-        """Has a child read where the parent has the page of zeros and the kernel copied no entry."""
+        """Has a child read where the parent has the page of zeros, and no entry was copied."""
         stub = self.kernel.live[child]
         mine = self.frames.now[child]
         missing = [page for page, it in parent.items() if it == 0 and page not in mine]
@@ -206,8 +210,7 @@ class Telling:
         if not self.frames:
             raise NotAsked(NO_FRAMES)
         if not by:
-            raise NotAsked("ksmd can't be asked here" if words[0] == "merge" else
-                           "no swap area is turned on (--swap does)")
+            raise NotAsked(NO_KSMD if words[0] == "merge" else NO_SWAP)
         by.take(self, words)
 
     # ---- what is asked
@@ -251,12 +254,13 @@ class Telling:
         for _ in range(TRIES):
             rows = self.frames.walk(frame)
             count = self.frames.looker.count(frame)
-            if count == len(rows):
-                return [f"frame {self.frames.numbers[frame]} maps {count}",
-                        *(f"{number} {page:x}" for number, page in rows)]
+            # (a merged frame may be that of a process beside the trace, too)
+            if count == len(rows) or count > len(rows) and self.frames.is_merged(frame):
+                head = f"frame {self.frames.numbers[frame]} maps {len(rows)}"
+                return [head, *(f"{number} {page:x}" for number, page in rows)]
         raise Cut(
-            f"/proc/kpagecount names {count} entries of frame {self.frames.numbers[frame]}, and the "
-            f"processes of the trace have {len(rows)}"
+            f"/proc/kpagecount names {count} entries of frame {self.frames.numbers[frame]}, and "
+            f"the processes of the trace have {len(rows)}"
         )
 
     def question(self, number: str, page: int, is_mapped: bool) -> None:
@@ -271,6 +275,8 @@ class Telling:
     def ask(self, words: list[str], reply: str, was: All) -> None:
         """Asks for what a line may have changed."""
         pages = self.pages_of(words, reply)
+        if words[0] == "fork" and reply == "ok":
+            pages[words[2]].update(was.get(words[1], {}))
         if self.frames:
             for number, entries in self.frames.now.items():
                 old = was.get(number, {})

@@ -11,11 +11,11 @@ from swapping import PAGES
 # lines of a reply that are shown at most
 MOST_ROWS = 8
 COUNTS = {
-    "moved": "frames that the kernel moved meanwhile, as compaction does, kept their numbers",
-    "mended": 'pages of zeros that a fork didn\'t give the child were read (docs/LINUX.md, "spawn, '
-    'fork, exit": entries)',
-    "not drained": "times the CPUs' lists couldn't be drained, so that any write may copy",
-    "seen": "entry was asked as rmap: no file shows whether an entry was seen",
+    "moved": "kept their numbers: {} frames that the kernel moved meanwhile, as compaction does",
+    "mended": "read: {} pages of zeros that a fork didn't give the child (docs/LINUX.md, "
+    '"spawn, fork, exit": entries)',
+    "not drained": "not drained: the CPUs' lists, {} times, so that any write may copy",
+    "seen": "told as rmap: {} entry: no file shows whether an entry was seen",
 }
 NO_FRAMES = (
     "frames are shown to CAP_SYS_ADMIN alone: judged are replies, bytes, maps and areas, with "
@@ -52,9 +52,9 @@ def tell(verdict: Verdict, has_frames: bool, out: str) -> int:
     for why, names in telling.passed.items():
         print(f"not told: {', '.join(f'{names[it]} {it}' for it in names)}: {why}")
     for name, text in COUNTS.items():
-        if telling.counts[name] or telling.frames and telling.frames.counts[name]:
-            number = telling.counts[name] + (telling.frames.counts[name] if telling.frames else 0)
-            print(f"{number} {text}")
+        frames = telling.frames.counts[name] if telling.frames else 0
+        if number := telling.counts[name] + frames:
+            print(text.format(number))
     if telling.cut:
         print(f"not told from line {telling.line} on: {telling.cut}")
     if not has_frames:
@@ -71,7 +71,10 @@ def write(verdict: Verdict, out: str) -> None:
     if telling.swapping:
         machine += f" and a swap file of {PAGES} pages"
     trace, transcript = files_of(telling.told)
-    head = f"# What Linux {os.uname().release} did, with what was asked between. Run it with {machine}.\n"
+    head = (
+        f"# What Linux {os.uname().release} did, with what was asked between.\n"
+        f"# Run it with {machine}.\n"
+    )
     try:
         for end, text in (("trace", head + trace), ("transcript", transcript)):
             with open(f"{out}.{end}", "w", encoding="ascii") as it:

@@ -10,15 +10,19 @@ from shared.saying import Refused, count_of, lines_of, printable
 import swapfile
 from calls import Mapped, address_of, kind_of, protection_of
 from faults import most_common, read_faults
+from frames import Frames, TooMany
 from labels import is_label, mapping_of, process_of
 from lackey import names_of, number_of
+from looking import IN_SWAP_CACHE
 from marks import Marks
 from peak import Peak
+from proc import Area
 from ranges import Ranges, up
 from shift import SPLIT, TOP, NotAsked, Shift
 from spaces import Space, runs_of
 from strace import Reader, time_of
 from sums import sums_of
+from telling import holes_of
 from transcript import MARK, answer_of, forms, note_of, replies_of, row_of
 
 PAGE = 4096
@@ -279,6 +283,81 @@ class Shifts(unittest.TestCase):
     def test_a_kernel_that_lays_too_low(self) -> None:
         with self.assertRaises(Refused):
             Shift(SPLIT)
+
+
+class SeenFrames:
+    """What a kernel would show of frames: those that the swap cache has."""
+
+    def __init__(self) -> None:
+        self.cached: set[int] = set()
+
+    def flags(self, frame: int) -> int:
+        return IN_SWAP_CACHE if frame in self.cached else 0
+
+
+class Notes(unittest.TestCase):
+    """The notes that entries before and after a command come to."""
+
+    def setUp(self) -> None:
+        self.looker = SeenFrames()
+        self.frames = Frames(self.looker, 3)
+        self.told("spawn 1", {"1": {}})
+
+    def told(self, line: str, after: dict[str, dict[int, int]], reply: str = "ok") -> list[str]:
+        return self.frames.take(line.split(" "), reply, after)
+
+    def test_what_comes_and_is_copied(self) -> None:
+        self.assertEqual(self.told("read 1 20000 1", {"1": {0x20000: 0}}), ["zero 1 20000"])
+        self.assertEqual(self.told("write 1 20000 01", {"1": {0x20000: 77}}), ["new 1 20000 0"])
+        self.assertEqual(self.told("fork 1 2", {"1": {0x20000: 77}, "2": {0x20000: 77}}), [])
+        after = {"1": {0x20000: 77}, "2": {0x20000: 88}}
+        self.assertEqual(self.told("write 2 20000 01", after), ["copy 2 20000 1"])
+        self.assertEqual(self.frames.walk(77), [("1", 0x20000)])
+
+    def test_a_frame_that_moves_keeps_its_number(self) -> None:
+        self.told("write 1 20000 01", {"1": {0x20000: 77}})
+        self.assertEqual(self.told("read 1 50000 1", {"1": {0x20000: 78}}), [])
+        self.assertEqual(self.frames.numbers, {78: 0})
+        # (the page of the line itself doesn't move unseen)
+        self.assertEqual(self.told("read 1 20000 1", {"1": {0x20000: 79}}), ["copy 1 20000 1"])
+
+    def test_entries_move_with_their_pages(self) -> None:
+        self.told("write 1 20000 01", {"1": {0x20000: 77}})
+        line = "mremap 1 20000 4096 4096 fixed 30000"
+        self.assertEqual(self.told(line, {"1": {0x30000: 77}}, "map 30000"), [])
+
+    def test_a_frame_in_use_is_no_new_one(self) -> None:
+        self.told("write 1 20000 01", {"1": {0x20000: 77}})
+        after = {"1": {0x20000: 77, 0x21000: 77}}
+        self.assertEqual(self.told("write 1 21000 01", after), ["new 1 21000 0"])
+
+    def test_more_frames_than_there_are(self) -> None:
+        with self.assertRaises(TooMany):
+            entries = {0x20000 + PAGE * it: 70 + it for it in range(4)}
+            self.told("mlock 1 20000 16384", {"1": entries})
+
+    def test_a_page_comes_from_swap(self) -> None:
+        self.told("write 1 20000 01", {"1": {0x20000: 77}})
+        self.frames.now, slot = {"1": {0x20000: -(5 << 5) - 1}}, -(5 << 5) - 1
+        self.frames.prune()
+        self.looker.cached = {78}
+        notes = self.told("read 1 20000 1", {"1": {0x20000: 78}})
+        self.assertEqual(notes, ["load 0:5 0", "map 1 20000 0"])
+        self.assertEqual(self.frames.cached, {slot: 78})
+        self.looker.cached = set()
+        self.assertEqual(self.told("write 1 20000 02", {"1": {0x20000: 78}}), ["drop 0:5"])
+
+    def test_a_page_that_others_have_in_swap_is_copied(self) -> None:
+        slot = -(5 << 5) - 1
+        self.frames.now = {"1": {0x20000: slot}, "2": {0x20000: slot}}
+        after = {"1": {0x20000: 78}, "2": {0x20000: slot}}
+        notes = self.told("write 1 20000 01", after)
+        self.assertEqual(notes, ["load 0:5 0", "map 1 20000 0", "copy 1 20000 1"])
+
+    def test_holes_between_areas(self) -> None:
+        areas = [Area(0x10000, 0x20000, "rw-", False, ""), Area(0x30000, TOP, "r--", False, "")]
+        self.assertEqual(list(holes_of(areas)), [(0x20000, 0x30000)])
+        self.assertEqual(list(holes_of([])), [(0x10000, TOP)])
 
 
 class SwapFiles(InFolder):
