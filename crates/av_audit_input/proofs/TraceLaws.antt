@@ -278,7 +278,7 @@ stops-line error lines cs number ahead mid after old now new past few same near 
 }
   where
     by : (error : InputErr) → StopsLine error (length lines + 1) after new → StopsTrace error (length lines) after new
-    by (input.BadLine n) h = h
+    by (input.BadLine n) h = (omega (arith, h.0, past.count, few), h)
     by input.TooMany h = absurd h
     by input.TooLong h = h
     by input.Read h = h

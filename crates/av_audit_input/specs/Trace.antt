@@ -110,6 +110,8 @@ StopsMark error ahead now = IsLine ahead
 -- why behind so many lines no more of a trace is taken
 abbrev pub StopsTrace : InputErr → ℕ → List ℕ → PortsView → Type 0
 StopsTrace input.TooMany count ahead now = (count ≡ most_lines) × IsNoMark ahead now
+StopsTrace (input.BadLine n) count ahead now =
+    (n ≤ most_lines) × StopsLine (input.BadLine n) (count + 1) ahead now
 StopsTrace error count ahead now = StopsLine error (count + 1) ahead now
 
 -- some lines of a trace were taken, and the next one not; and no more was read behind them than one

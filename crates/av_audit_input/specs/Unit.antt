@@ -64,8 +64,7 @@ StopsPiece input.TooMany left unit ahead = ⊥
 StopsPiece input.Memory left unit ahead = Unit {0}
 StopsPiece error left unit ahead = ahead ≡ []
 
--- of what was to come a unit, or a part of one, and no more was taken, and no more is left of what
--- was read than one read gives
+-- A unit was taken, or a part of one, or nothing; behind it no more was read than one read gives.
 pub record StopsUnit (error : InputErr) (left : ℕ) (unit : List ℕ) (before : Option (List ℕ))
     (ahead : List ℕ) (now : PortsView) : Type 0 where
   pub took : Took before (undone ahead now) unit

@@ -6,8 +6,8 @@
 //! are read again, one by one (`read_command`). Each unit is read whole, and is the next one of all
 //! that the source has, where it tells that (`read_unit`); so nothing of the transcript is lost. A
 //! unit that goes past 2^32 bytes isn't read. No more is read ahead than one read gives, and none
-//! where a read fails amid a transcript. Before each read the sink is flushed, behind the end of the
-//! input nothing is read, and what failed is what the error tells of.
+//! where a read fails amid a transcript. Before each read the sink is flushed, behind the end of
+//! the input nothing is read, and what failed is what the error tells of.
 //!
 //! Only tested: that memory suffices.
 #![tactic(auto)]
