@@ -142,7 +142,7 @@ finds-all : (finding : Finding) (m : Setting) (commands : List Command) (units m
 finds-all findings.Legal m commands units more Ended none h =
     subst (AreLegal m commands) (sym (append-nil units) ∙ ap (λ us. units ++ us) (sym (none h.1))) h.0
 finds-all (findings.Illegal n) m commands units more Ended none h =
-    stopped-more m commands units more n IsWrong (wrong-longer m more) h.0 (elim h.1 [ inl is ↦ inl is | inr ended ↦ inr (none ended) ])
+    stopped-more m commands units more n IsWrong (wrong-longer m more) h.0 (elim h.1 [ inl is ↦ inl is | inr at_end ↦ inr (none at_end.1) ])
 
 -- ---- an input that is told
 

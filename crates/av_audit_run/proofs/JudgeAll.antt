@@ -123,7 +123,7 @@ module _ {m : Setting} {commands : List Command} {number : ℕ} {before now : Op
     cuts = subst (Cuts h.units before) (sym none) h.cuts;
     few = omega (arith, h.counts);
     near = omega (arith, ap length ended.0);
-    finds = (none-left IsWrong (subst (λ cs. IsWrong m h.world h.ledger cs []) (sym is) tt), inr ended);
+    finds = (none-left IsWrong (subst (λ cs. IsWrong m h.world h.ledger cs []) (sym is) tt), inr (ap (λ n. n + 1) (sym h.many), ended));
   }
 
   -- nor a command

@@ -47,11 +47,13 @@ abbrev pub AreLegal : Setting → List Command → List (List ℕ) → Type 0
 AreLegal m commands units =
     (w : World) × (l : Ledger) × AreUnits m [] first_ledger commands units w l
 
--- what is found in units, which are all where the input has ended
+-- what is found in units, which are all where the input has ended: one that isn't legal is the last
+-- of them, or is wanting behind them at the end
 abbrev pub FindsIn : Finding → Setting → List Command → List (List ℕ) → Type 0 → Type 0
 FindsIn findings.Legal m commands units Ended = AreLegal m commands units × Ended
 FindsIn (findings.Illegal n) m commands units Ended =
-    StopsAt m commands units n IsWrong × ((n ≡ length units) ⊎ Ended)
+    StopsAt m commands units n IsWrong
+    × ((n ≡ length units) ⊎ ((n ≡ length units + 1) × Ended))
 
 -- ---- a transcript that is read
 
@@ -68,7 +70,8 @@ pub record Judges (finding : Finding) (m : Setting) (commands : List Command)
   pub finds : FindsIn finding m commands units (IsEnded rest new)
 
 -- Some units were taken, which are legal for the first commands. Of the next one, which was not
--- judged, all or a part was taken, of the bytes that may still come; and nothing behind it.
+-- judged, all or a part was taken, of the bytes that may still come; behind it no more was read
+-- than one read gives.
 pub record BreaksOff (error : InputErr) (m : Setting) (commands : List Command)
     (before : Option (List ℕ)) (rest : List ℕ) (new : PortsView) : Type 0 where
   pub done : List Command

@@ -6,10 +6,11 @@
 //! behind the last command (`audit`). Where the source tells what it has left that is so of all
 //! units of the transcript (`audits_of_inputs`). One that is legal has no first reply that isn't
 //! (`legal_or_stopped`), and another has that at one number alone (`stopped_once`). Where an audit
-//! breaks off behind the trace, it took legal units, and of the next one a part or all; where source
-//! or sink failed nothing was read behind that. So it passed over no unit that isn't legal
-//! (`breaks_come_before_what_is_wrong`). Of a transcript no more is read than 2^32 bytes and what one
-//! more read gives. Nothing is written, and nothing fails but what the error tells of.
+//! breaks off behind the trace, the units before are legal; the next was taken in part or whole,
+//! and not judged; where source or sink failed nothing was read behind that. So it passed over no
+//! unit that isn't legal (`breaks_come_before_what_is_wrong`). Of a transcript no more is read than
+//! 2^32 bytes and what one more read gives. Nothing is written, and nothing fails but what the
+//! error tells of.
 //!
 //! Only tested: that memory suffices.
 #![tactic(auto)]

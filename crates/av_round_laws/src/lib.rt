@@ -3,8 +3,8 @@
 //! Proved: that, of any two calls of `run` of `av_replay`, one for a trace and one for an audit, in
 //! one process or in two: the audit writes that it is, or the status says that memory was wanting,
 //! that the source or the sink failed, whose count rose then, or that the transcript has more than
-//! 2^32 bytes, as it has then. It rests on the contract of `run` alone. The function does nothing: its
-//! contract is the law.
+//! 2^32 bytes, as it has then. It rests on the contract of `run` alone. The function does nothing:
+//! its contract is the law.
 //!
 //! Only tested: nothing.
 #![tactic(auto)]
