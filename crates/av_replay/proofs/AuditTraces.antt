@@ -159,7 +159,7 @@ module _ (lines : List (List ℕ)) (commands : List Command) (transcript : List 
   within : (error : InputErr) (ahead : List ℕ) (old now : PortsView) → undone [] old ≡ Some (marked lines ++ transcript)
       → StopsWithin error [] ahead old now → MayStop error transcript
   within (input.BadLine n) ahead old now is h =
-      none-bad h.lines ahead now (stand h.lines ahead old now h.trace.good is h.took) h.stops.1
+      none-bad h.lines ahead now (stand h.lines ahead old now h.trace.good is h.took) h.stops.1.1
   within input.TooMany ahead old now is h =
       none-more h.lines ahead now (stand h.lines ahead old now h.trace.good is h.took) h.stops.0 h.stops.1
   within input.TooLong ahead old now is h = absurd h.stops

@@ -13,7 +13,7 @@ use Rattle.av_audit_run.specs.declared.transcript.Finding.TheVariants as finding
 use Rattle.av_audit_machine.specs.Heads.{IsSettingOf, OnlyFails}
 use Rattle.av_replay.specs.declared.status.Status.{Status}
 use Rattle.av_replay.specs.declared.status.Status.TheVariants as statuses
-use Rattle.av_replay.specs.Audit.{BreaksOff, DoesAudit, EndsAudit, Finds, legal_text, status_by}
+use Rattle.av_replay.specs.Audit.{CannotGoOn, DoesAudit, EndsAudit, Finds, legal_text, status_by}
 use Rattle.av_replay.specs.Summary.{EndsText}
 
 module _ (m : Setting) (old new : PortsView) where
@@ -32,7 +32,7 @@ module _ (m : Setting) (old new : PortsView) where
   legal-ends statuses.TooLong mid finds only ends = absurd ends
 
   -- it could not go on
-  pub breaks-ends : (error : InputErr) → BreaksOff error m old new → EndsAudit (status_by error) m old new
+  pub breaks-ends : (error : InputErr) → CannotGoOn error m old new → EndsAudit (status_by error) m old new
   breaks-ends (input.BadLine number) breaks = breaks
   breaks-ends input.TooMany breaks = breaks
   breaks-ends input.TooLong breaks = breaks

@@ -34,26 +34,26 @@ WritesLegal status m old new =
     × EndsText status mid.sink new.sink legal_text
 
 -- it could not go on
-abbrev pub BreaksOff : InputErr → Setting → PortsView → PortsView → Type 0
-BreaksOff error m old new = AuditStops error m old new × OnlyReads old new × FailsBy error old new
+abbrev pub CannotGoOn : InputErr → Setting → PortsView → PortsView → Type 0
+CannotGoOn error m old new = AuditStops error m old new × OnlyReads old new × FailsBy error old new
 
 -- how an audit ends on a machine of this setting, by the status
 abbrev pub EndsAudit : Status → Setting → PortsView → PortsView → Type 0
 EndsAudit statuses.Done m old new = WritesLegal statuses.Done m old new
 EndsAudit (statuses.Illegal n) m old new = Finds (findings.Illegal n) m old new
-EndsAudit (statuses.BadLine n) m old new = BreaksOff (input.BadLine n) m old new
-EndsAudit statuses.TooMany m old new = BreaksOff input.TooMany m old new
-EndsAudit statuses.TooLong m old new = BreaksOff input.TooLong m old new
-EndsAudit statuses.ReadFault m old new = BreaksOff input.Read m old new
+EndsAudit (statuses.BadLine n) m old new = CannotGoOn (input.BadLine n) m old new
+EndsAudit statuses.TooMany m old new = CannotGoOn input.TooMany m old new
+EndsAudit statuses.TooLong m old new = CannotGoOn input.TooLong m old new
+EndsAudit statuses.ReadFault m old new = CannotGoOn input.Read m old new
 EndsAudit statuses.WriteFault m old new =
-    BreaksOff input.Write m old new ⊎ WritesLegal statuses.WriteFault m old new
+    CannotGoOn input.Write m old new ⊎ WritesLegal statuses.WriteFault m old new
 EndsAudit statuses.Memory m old new =
-    BreaksOff input.Memory m old new ⊎ WritesLegal statuses.Memory m old new
+    CannotGoOn input.Memory m old new ⊎ WritesLegal statuses.Memory m old new
 EndsAudit statuses.Usage m old new = ⊥
 EndsAudit statuses.AttachFault m old new = ⊥
 
--- What an audit ends with of a trace of these commands, its mark and this transcript: that is so of
--- all units of it, unless there are too many bytes, memory is wanting, or source or sink failed.
+-- How an audit ends of a trace of these commands, its mark and this transcript: what it finds is so
+-- of all units, unless there are too many bytes, memory is wanting, or source or sink failed.
 abbrev pub IsJudged :
     Status → Setting → List Command → List ℕ → PortsView → PortsView → Type 0
 IsJudged statuses.Done m commands transcript old new =
