@@ -105,7 +105,7 @@ CARRIERS = {
     "lines_are_done_up_to_the_most replies_are_out_before_a_read failed_writes_cut_the_last_reply",
     "av_round_laws": "done_runs_are_found_legal",
     "avsim": "text_for exit_number Failure",
-    "av_sample": "ask",
+    "av_sample": "ask judge_line",
 }
 
 

@@ -33,7 +33,7 @@ pub enum Unanswered {
 }
 
 /// The command that a line says.
-fn said_command(alloc: Global, line: &[u8]) -> Result<Command, Unanswered>
+pub fn said_command(alloc: Global, line: &[u8]) -> Result<Command, Unanswered>
     ensures says { IfOk result (λ command. Says line.now (Some command)) }
     ensures blank { IsErrOf result Unanswered.Blank → Says line.now None }
     ensures bad { IsErrOf result Unanswered.NoCommand
