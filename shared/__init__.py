@@ -1,10 +1,10 @@
 """What the programs of tools, view, shell, bench and .ci share: where the repository is, how they
 say what is wrong (`saying`), and how far they are (`meter`).
 
-Each of these folders has a link to this file, shared.py, so that a program finds the package beside
-itself; and by it, the modules of the other folders. (A copy in place of a link does as well.) A
-program imports this first: where Python is too old for the others, it says so and ends. So this
-file and the programs themselves are of Python 3.6.
+Each of these folders has a module of this name, which stands for this package, so that a program
+finds it beside itself; and by it, the modules of the other folders. A program imports this first:
+where Python is too old for the others, it says so and ends. So this file, those modules and the
+programs themselves are of Python 3.6.
 """
 import os
 import sys
@@ -19,6 +19,4 @@ if sys.version_info < (3, 10):
     sys.exit(125)
 
 ROOT = os.path.dirname(os.path.dirname(os.path.realpath(__file__)))
-# where the package is, also for a program that has it by a link
-__path__ = [f"{ROOT}/shared"]
 sys.path += [f"{ROOT}/{it}" for it in ("tools", "view", "shell")]
