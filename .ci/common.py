@@ -18,7 +18,7 @@ from shared import ROOT
 import swapfile
 
 # the crates that have worked examples of definitions
-WITH_EXAMPLES = ("av_laws", "av_examples")
+WITH_EXAMPLES = ("av_laws", "av_examples", "av_round_laws")
 # what a run ended with: status, standard output and standard error
 Ran = tuple[int, str, str]
 # what a check looks at

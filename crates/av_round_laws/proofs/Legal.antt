@@ -1,7 +1,6 @@
 -- A run's text is a legal transcript.
-use Rattle.std.proofs.Common.{◌≡◌, ℕ, ◌≤◌, ◌^◌, refl, sym, subst, List, [], ◌∷◌, ◌++◌, length, map}
+use Rattle.std.proofs.Common.{◌≤◌, ◌^◌, refl, sym, subst, List, [], ◌∷◌, length, map}
 use Rattle.std.specs.List.{AllByRecursion}
-use Rattle.av_trace.specs.declared.command.Command.{Command}
 use Rattle.av_trace.specs.Command.{IsInRange}
 use Rattle.av_trace.specs.Print.{text_of}
 use Rattle.av_trace.specs.Reply.{IsReply}
