@@ -17,15 +17,15 @@ BEGIN = "spawn 1\nmmap 1 8192 rw- fixed 20000\nwrite 1 20000 01\n"
 
 class Wrong(NamedTuple):
     """A wrong kernel: what the stub does instead, for a trace of which the last line is the one
-    whose reply isn't legal; or, where `asked` says so, what is asked behind it. A child that does it
-    may be looked at before it did, so that it is told at another place, `other`.
+    whose reply isn't legal; or, where `asked` says so, what is asked behind it. A child does it
+    before its own next line; where it was looked at after it did, that tells, in one of `others`.
     """
 
     place: str
     instead: str
     trace: str
     asked: str = ""
-    other: str = ""
+    others: tuple[str, ...] = ()
 
 
 WRONG = {
@@ -33,14 +33,7 @@ WRONG = {
         CHILD,
         f"{{{CHILD} call(__NR_madvise, 0x20000, 4096, 22, 0, 0, 0);}}\n",
         f"{BEGIN}fork 1 2\nwrite 2 20000 02\n",
-        other="line 4: entry 2 20000 (asked behind it)",
-    ),
-    "a child gets zeros": Wrong(
-        CHILD,
-        f"{{{CHILD} call(__NR_madvise, 0x20000, 4096, 4, 0, 0, 0);}}\n",
-        f"{BEGIN}fork 1 2\n",
-        "entry 2 20000",
-        "line 4: read 2 20000 4096 (asked behind it)",
+        others=("line 4: entry 2 20000 (asked behind it)",),
     ),
     "bytes stay behind dontneed": Wrong(
         CALL,
