@@ -9,7 +9,7 @@ import threading
 from shared.meter import Progress
 from shared.saying import Refused
 
-from labels import FIRST_ONES, SAID_OF_FIRST_ONES, is_label
+from labels import is_label, said_of_accesses
 from names import Names
 from told import BY_RANGE, MIDWAY, Told, page_of
 
@@ -38,9 +38,11 @@ def commands_of(text: str) -> list[Command]:
     return found
 
 
-def has_first_ones(commands: list[Command]) -> bool:
-    """Whether a trace says in its head that its accesses are first ones."""
-    return bool(commands) and FIRST_ONES in commands[0].comment.split("\n")
+def said_of_head(commands: list[Command], frames: int) -> str:
+    """What is said of a run with so many frames, where the head of the trace says that it hasn't
+    all accesses.
+    """
+    return said_of_accesses(commands[0].comment, frames) if commands else ""
 
 
 def replies_of(transcript: str) -> list[list[str]]:
@@ -346,8 +348,8 @@ def data_of(
             f"from line {wrong} on notes tell otherwise than `entry` or `slot` does: "
             "that is a fault, please tell"
         )
-    if has_first_ones(run.commands) and run.has_note("put"):
-        said.append(SAID_OF_FIRST_ONES)
+    if run.has_note("put"):
+        said.append(said_of_head(run.commands, frames))
     if lost:
         said.append(f"from line {lost} on not all entries are known: they are drawn as ?")
     return {

@@ -19,7 +19,6 @@ from shared.saying import Refused
 
 import making
 from bits import asks_marks
-from labels import SAID_OF_FIRST_ONES
 from sums import ALL, Counts, Sums
 from swapfile import MOST_FILES, MOST_FRAMES, MOST_PAGES, Machine, words_of
 
@@ -176,7 +175,7 @@ def write(words: argparse.Namespace, commands: list[making.Command], to: str) ->
     lines, areas = lines_of(commands)
     sizes = [size_of(words.program, it, lines, areas) for it in words.sizes]
     print("\n".join(table_of(sizes)))
-    said = SAID_OF_FIRST_ONES if making.has_first_ones(commands) else ""
+    said = making.said_of_head(commands, words.sizes[0])
     if said:
         print(said)
     name = "trace" if words.trace == "-" else os.path.basename(words.trace)
