@@ -174,18 +174,24 @@ class Notes:
 
     def __init__(self, file: str):
         self.file = open(file, "w+b")  # pylint: disable=consider-using-with
+        # the frames of this round, and whether one is there twice
+        self.frames: set[int] = set()
+        self.is_shared = False
 
     def add(self, process: int, first: int, entries: memoryview) -> None:
         """The pages of a block that have frames of their own."""
-        found = array.array("Q")
-        for at, it in enumerate(entries, first):
-            if it & THERE and not it & OF_FILE:
-                found.extend((it & FRAME, process, at))
-        found.tofile(self.file)
+        pairs = enumerate(entries, first)
+        found = [(it & FRAME, at) for at, it in pairs if it & THERE and not it & OF_FILE]
+        whole = (word for frame, page in found for word in (frame, process, page))
+        array.array("Q", whole).tofile(self.file)
+        frames = {frame for frame, _ in found}
+        self.is_shared = self.is_shared or not frames.isdisjoint(self.frames)
+        self.frames |= frames
 
     def begin(self) -> None:
         """A round: of it the time is told, in place of a frame."""
         array.array("Q", (time.monotonic_ns(), 0, 0)).tofile(self.file)
+        self.frames, self.is_shared = set(), False
 
     def rounds(self) -> Iterator[tuple[int, dict[int, list[Page]]]]:
         """Each round's time, with the pages of each frame."""
@@ -255,7 +261,7 @@ class Rounds:
             self.note(it)
         for it in processes:
             self.page_out(it)
-        if len(processes) > 1:
+        if self.notes.is_shared:
             # (MADV_PAGEOUT passes over pages that two processes share)
             self.group.send_out()
         self.left = sum(map(anonymous_of, processes))
