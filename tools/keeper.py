@@ -3,6 +3,7 @@
 A process beside the tool waits until that has ended, also by a signal that can't be caught, and
 undoes what it was told of, the last first. So each deed is told before it is done.
 """
+import contextlib
 import ctypes
 import os
 import signal
@@ -44,7 +45,8 @@ def end_all(group: str) -> None:
     """Whatever still runs in a cgroup ends."""
     with open(f"{group}/cgroup.procs", encoding="ascii") as it:
         for pid in it.read().split():
-            os.kill(int(pid), signal.SIGKILL)
+            with contextlib.suppress(ProcessLookupError):
+                os.kill(int(pid), signal.SIGKILL)
 
 
 def leave(group: str) -> None:
@@ -52,9 +54,9 @@ def leave(group: str) -> None:
     until = time.monotonic() + PATIENCE
     while os.path.isdir(group) and time.monotonic() < until:
         try:
-            end_all(group)
             os.rmdir(group)
         except OSError:
+            end_all(group)
             time.sleep(PAUSE)
 
 
