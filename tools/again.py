@@ -24,6 +24,7 @@ from shared.saying import Refused, count_of
 from faults import AGAIN, FAULT, TOLD
 from groups import JOINS, Group
 from keeper import Keeper
+from looking import drain
 from proc import FRAME, THERE, Area, areas_of
 from ranges import PAGE
 from strace import time_of
@@ -259,6 +260,8 @@ class Rounds:
         self.notes.begin()
         for it in processes:
             self.note(it)
+        # (a page that a CPU keeps aside would go out, but not be written)
+        drain(os.getpid())
         for it in processes:
             self.page_out(it)
         if self.notes.is_shared:
