@@ -1,11 +1,16 @@
 // A program in phases: it fills 60 pages, uses 12 of them for a while, then 24 others, and in the
-// end all. Each third page is changed when it was read.
+// end all. It reads each page, and changes each third one then.
 #include <sys/mman.h>
-#include <unistd.h>
 
 enum { PAGE = 4096, PAGES = 60 };
 
 static volatile char *pages;
+
+// Works for a while, without a page.
+static void work(void) {
+  for (volatile int step = 0; step < 2000000; step++)
+    ;
+}
 
 static void use(int first, int past, int times) {
   for (; times > 0; times--)
@@ -13,7 +18,7 @@ static void use(int first, int past, int times) {
       char was = pages[page * PAGE];
       if (page % 3 == 0)
         pages[page * PAGE] = was + 1;
-      usleep(1000);
+      work();
     }
 }
 
