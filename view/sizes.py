@@ -98,8 +98,8 @@ class Sizes:
         self.pages = pages_written(lines)
 
     def all(self, sizes: list[int]) -> list[Size]:
-        """The runs, side by side as far as the machine has processors."""
-        with concurrent.futures.ThreadPoolExecutor(os.cpu_count() or 1) as pool:
+        """The runs, as many side by side as there are processors for this program."""
+        with concurrent.futures.ThreadPoolExecutor(len(os.sched_getaffinity(0))) as pool:
             return list(pool.map(self.size, sizes))
 
     def size(self, frames: int) -> Size:
