@@ -53,8 +53,8 @@ def name_of(pid: int) -> str:
 def check_process(pid: int) -> None:
     """Refuses a process that can't be recorded."""
     name_of(pid)
-    if not os.access(f"/proc/{pid}/mem", os.R_OK | os.W_OK):
-        raise Refused(f"process {pid} isn't yours: be root")
+    if os.geteuid():
+        raise Refused("-p is for root: no one else sees which frames a process has")
     if not shutil.which("perf"):
         raise Refused("-p takes perf (Debian: apt-get install linux-perf)")
 
@@ -124,8 +124,9 @@ class Attach:
             began = time.monotonic()
             self.pids = stop_all(self.asked.pid, keeper)
             making = self.begin()
-            strace = self.trace()
+            strace = self.trace(keeper)
             perf = Watcher(self.perf_words(), f"{self.folder}/perf.data")
+            keeper.tell("interrupt", f"{perf.ran.pid}", began_at(perf.ran.pid))
             if not perf.begin():
                 raise Refused("perf may not record that process")
             self.let_go()
@@ -150,7 +151,7 @@ class Attach:
     def log(self) -> str:
         return f"{self.folder}/log"
 
-    def trace(self) -> subprocess.Popen:
+    def trace(self, keeper: Keeper) -> subprocess.Popen:
         """A strace that has all their threads."""
         words = ["strace", "-f", "-y", "-ttt", "-e", "trace=memory,process"]
         words += ["-o", f"{self.folder}/rest"]
@@ -159,13 +160,14 @@ class Attach:
         ran = subprocess.Popen(  # pylint: disable=consider-using-with
             words, stderr=subprocess.DEVNULL, start_new_session=True
         )
+        keeper.tell("interrupt", f"{ran.pid}", began_at(ran.pid))
         threads = [f"{it}/task/{of}" for it in self.pids for of in os.listdir(f"/proc/{it}/task")]
         wait_for(lambda: all(map(is_traced, threads)), f"{self.asked.pid} can't be traced")
         return ran
 
     def perf_words(self) -> list[str]:
         events, more, _ = self.asked.events
-        words = [*more, "-m", BUFFER] if not os.geteuid() else [*more]
+        words = [*more, "-m", BUFFER]
         for it in events:
             words += ["-e", it]
         return [*words, "-p", ",".join(map(str, self.pids))]

@@ -5,6 +5,7 @@ undoes what it was told of, the last first. So each deed is told before it is do
 """
 import contextlib
 import ctypes
+import functools
 import os
 import signal
 import time
@@ -16,10 +17,10 @@ PAUSE, PATIENCE = 0.02, 20
 APART = "\0"
 
 
-def continue_process(pid: str, began: str) -> None:
-    """A process that was stopped goes on, if it is still that one."""
+def send(number: signal.Signals, pid: str, began: str) -> None:
+    """A process gets a signal, if it is still that one."""
     if began_at(int(pid)) == began:
-        os.kill(int(pid), signal.SIGCONT)
+        os.kill(int(pid), number)
 
 
 def began_at(pid: int) -> str:
@@ -61,7 +62,8 @@ def leave(group: str) -> None:
 
 
 DEEDS: dict[str, Callable[..., None]] = {
-    "continue": continue_process,
+    "continue": functools.partial(send, signal.SIGCONT),
+    "interrupt": functools.partial(send, signal.SIGINT),
     "leave": leave,
     "remove": os.remove,
     "rmdir": os.rmdir,
