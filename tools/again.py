@@ -9,6 +9,7 @@ the swap file, and none that wasn't changed: so the read becomes a write.
 """
 import array
 import ctypes
+import errno
 import os
 import re
 import shutil
@@ -67,6 +68,10 @@ def check_rights() -> None:
         raise Refused("--again is for root: it sends pages out, and has a cgroup")
     if not shutil.which("perf"):
         raise Refused("--again takes perf (Debian: apt-get install linux-perf)")
+    libc = ctypes.CDLL(None, use_errno=True)
+    libc.syscall(PROCESS_MADVISE, -1, 0, 0, PAGEOUT, 0)
+    if ctypes.get_errno() == errno.ENOSYS:
+        raise Refused("--again takes process_madvise, which Linux has from 5.10 on")
 
 
 def swap_on(keeper: Keeper, folder: str) -> None:
