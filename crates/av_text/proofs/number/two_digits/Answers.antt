@@ -1,14 +1,14 @@
 -- the table is held against the digits of each of the 100 numbers, by computing
 use Rattle.std.proofs.Common.{◌≡◌, ℕ, zero, suc, ◌+◌, ◌-◌, ◌*◌, ◌/◌, ◌%◌, ◌<◌, Bool, true, ◌&&◌, T, eqb, get_or, inl, inr, arith, eq-zero-or-pos, eqb→eq}
 use lib.Ieee.Fits.{and_l, and_r}
-use Rattle.av_text.specs.declared.number.TheConstants.{TENS}
-use Rattle.av_text.proofs.number.ten_pair.Goals as goal
+use Rattle.av_text.specs.declared.number.TheConstants.{TWO_DIGITS}
+use Rattle.av_text.proofs.number.two_digits.Goals as goal
 
 abbrev are_tens : ℕ → Bool
 are_tens zero = true
-are_tens (suc p) = (eqb (get_or TENS (2 * p) 0) (48 + p / 10) && eqb (get_or TENS (2 * p + 1) 0) (48 + p % 10)) && are_tens p
+are_tens (suc p) = (eqb (get_or TWO_DIGITS (2 * p) 0) (48 + p / 10) && eqb (get_or TWO_DIGITS (2 * p + 1) 0) (48 + p % 10)) && are_tens p
 
-below : (n p : ℕ) → T (are_tens n) → p < n → (get_or TENS (2 * p) 0 ≡ 48 + p / 10) × (get_or TENS (2 * p + 1) 0 ≡ 48 + p % 10)
+below : (n p : ℕ) → T (are_tens n) → p < n → (get_or TWO_DIGITS (2 * p) 0 ≡ 48 + p / 10) × (get_or TWO_DIGITS (2 * p + 1) 0 ≡ 48 + p % 10)
 below zero p t h = absurd (omega arith)
 below (suc n) p t h =
     elim (eq-zero-or-pos (n - p)) [
