@@ -28,17 +28,17 @@ loop-rest-preserved c =
 pub returns : goal.returns
 returns c =
     let w : IsWritten c.args.n c.if-rest-ge16.rest c.if-rest-ge16.at c.if-rest-ge16.digits =
-      elim c.if-rest-ge16.branch [
-        | then-rest-ge16 w ↦
+    elim c.if-rest-ge16.branch [
+      | then-rest-ge16 w ↦
           let room = more_room c.loop-rest.rest c.loop-rest.at w.if-rest-ge16.true c.loop-rest.invariant.room in
           rw (w.digits-is, w.at-is, w.rest-is) (written_next c.args.n c.loop-rest.rest c.loop-rest.at _ c.loop-rest.digits w.table_digit.result
           w.if-rest-ge16.true (omega arith) (omega (arith, room)) w.table_digit.ensures c.loop-rest.invariant)
-        | else-rest-ge16 w ↦ rw (w.digits-is, w.at-is, w.rest-is) c.loop-rest.invariant
-      ] in
+      | else-rest-ge16 w ↦ rw (w.digits-is, w.at-is, w.rest-is) c.loop-rest.invariant
+    ] in
     let small : c.if-rest-ge16.rest < 16 =
-      elim c.if-rest-ge16.branch [
-        | then-rest-ge16 w ↦ omega (arith, w.rest-is, c.loop-rest-test.false)
-        | else-rest-ge16 w ↦ omega (arith, w.rest-is, w.if-rest-ge16.false)
-      ] in
+    elim c.if-rest-ge16.branch [
+      | then-rest-ge16 w ↦ omega (arith, w.rest-is, c.loop-rest-test.false)
+      | else-rest-ge16 w ↦ omega (arith, w.rest-is, w.if-rest-ge16.false)
+    ] in
     on_ok_weaker c.append.result (λ e. e ∙ ap (λ (t : List ℕ). c.args.text.now ++ t)
     (written_last c.args.n c.if-rest-ge16.rest c.if-rest-ge16.at c.if-rest-ge16.digits c.table_digit-2.result small c.table_digit-2.ensures w)) c.append.ensures.ok

@@ -17,7 +17,7 @@ pub invariant_of-self : goal.invariant_of-self
 invariant_of-self c =
     let gone = c.remove-area.ensures in
     let left = λ (flag : Area → Bool).
-      gone-count flag c.self.inside.slab.slots c.remove-area.new.self.slots c.args.id c.remove-area.result gone.updates.others gone.value gone.updates.changed in
+    gone-count flag c.self.inside.slab.slots c.remove-area.new.self.slots c.args.id c.remove-area.result gone.updates.others gone.value gone.updates.changed in
     record {
       locked_ones = omega (arith, left (λ a. a.flags.locked), c.self.invariant.locked_ones, c.count_without-self-inside.ensures);
       mergeable_ones = omega (arith, left (λ a. a.flags.mergeable), c.self.invariant.mergeable_ones, c.count_without-self-inside-2.ensures);
