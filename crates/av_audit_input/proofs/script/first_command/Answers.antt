@@ -1,5 +1,5 @@
 use Rattle.av_audit_input.proofs.ScriptLaws.{first-of}
-use Rattle.av_audit_input.proofs.script.read_command.Goals as goal
+use Rattle.av_audit_input.proofs.script.first_command.Goals as goal
 
 pub returns-in-Ok-clause-first : goal.returns-in-Ok-clause-first
 returns-in-Ok-clause-first c first others h =
