@@ -1,8 +1,8 @@
 -- A frame with a mark stays unseen.
-use Rattle.std.proofs.Common.{◌≡◌, ℕ, Bool, true, false, cond, not, ◌&&◌, ◌==◌, List, Option, Some, None, Result, Ok, Err, MatchResult, refl, sym, ap, ◌∙◌}
+use Rattle.std.proofs.Common.{◌≡◌, ℕ, ◌-◌, Bool, true, false, cond, not, ◌&&◌, ◌==◌, List, Option, Some, None, Result, Ok, Err, MatchResult, refl, sym, ap, ◌∙◌}
 use Rattle.std.proofs.lemmas.Bool.{false≢true}
-use Rattle.std.specs.Prelude.{MatchOption, nat_le, nat_lt, ◌<◌, ◌≤◌}
-use Rattle.av_base.specs.Words.{with_at}
+use Rattle.std.specs.Prelude.{MatchOption, ◌<◌, ◌≤◌}
+use Rattle.av_base.specs.Words.{with_at, within}
 use Rattle.av_pagetable.specs.declared.pte.Pte.{Pte}
 use Rattle.av_pagetable.specs.declared.pte.Pte.TheVariants.{Empty, Zero, Here, Away}
 use Rattle.av_pagetable.specs.Entries.{with_entry}
@@ -29,7 +29,7 @@ unseen-child f (Away slot) = refl
 
 pub unseen-ranged : (f from past : ℕ) (table : ℕ → Pte) (page : ℕ) → names_seen f (table page) ≡ false
     → names_seen f (without_range from past table page) ≡ false
-unseen-ranged f from past table page unseen = by (nat_le from page && nat_lt page past)
+unseen-ranged f from past table page unseen = by (within from (past - from) page)
   where
     by : (b : Bool) → names_seen f (cond b Empty (table page)) ≡ false
     by true = refl

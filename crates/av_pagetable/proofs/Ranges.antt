@@ -1,12 +1,13 @@
 -- Tables and directories without the entries of a range of pages.
-use Rattle.std.proofs.Common.{◌≡◌, ◌≢◌, ℕ, ◌+◌, ◌-◌, ◌*◌, ◌/◌, ◌%◌, ◌<◌, ◌≤◌, List, [], ◌∷◌, ◌++◌, length, take, drop, slice_set, get_or, refl, sym, ap, subst, ◌∙◌, arith, inl, inr, cond, true, false, Bool, ◌&&◌, Some, None}
-use Rattle.std.specs.Prelude.{nat_le, nat_lt, nat_eq}
+use Rattle.std.proofs.Common.{◌≡◌, ◌≢◌, ℕ, ◌+◌, ◌-◌, ◌*◌, ◌/◌, ◌%◌, ◌<◌, ◌≤◌, List, [], ◌∷◌, ◌++◌, length, take, drop, slice_set, get_or, refl, sym, ap, subst, ◌∙◌, arith, inl, inr, cond, true, false, Bool, Some, None}
+use Rattle.std.specs.Prelude.{nat_eq}
 use Rattle.std.specs.List.{All, AllPairs, AllWithin, remove, remove_range}
 use Rattle.std.specs.Map.{lookup}
 use Rattle.std.proofs.lemmas.Bool.{cases_eq, cases_lt}
 use Rattle.std.proofs.lemmas.Bool.Decides.{nat_tests}
 use Rattle.std.proofs.lemmas.List.{length-append, length-drop, length-take-le, get_or_append_left, get_or-append_right, get_or-drop, get_or-take, take-append-drop}
 use Rattle.std.proofs.lemmas.Nat.{div-add-mod', div_below, le-div, mod_below, mul-le}
+use Rattle.av_base.specs.Words.{within}
 use Rattle.av_pagetable.specs.declared.pte.Pte.{Pte}
 use Rattle.av_pagetable.specs.declared.pte.Pte.TheVariants.{Empty}
 use Rattle.av_pagetable.specs.Table.{HasSome, without_range}
@@ -15,13 +16,13 @@ use Rattle.av_pagetable.proofs.DirParts.{gap, missed, passed, remove_here, remov
 use Rattle.av_pagetable.proofs.DirEntries.{next_row, no_part, part_is, same_part, starts_past, there}
 
 -- ---- a table
-test_inside : (from past page : ℕ) → from ≤ page → page < past → (nat_le from page && nat_lt page past) ≡ true
+test_inside : (from past page : ℕ) → from ≤ page → page < past → within from (past - from) page ≡ true
 test_inside from past page low high = grind (arith, nat_tests)
 
-test_below : (from past page : ℕ) → page < from → (nat_le from page && nat_lt page past) ≡ false
+test_below : (from past page : ℕ) → page < from → within from (past - from) page ≡ false
 test_below from past page low = grind (arith, nat_tests)
 
-test_past : (from past page : ℕ) → past ≤ page → (nat_le from page && nat_lt page past) ≡ false
+test_past : (from past page : ℕ) → past ≤ page → within from (past - from) page ≡ false
 test_past from past page high = grind (arith, nat_tests)
 
 pub inside : (from past : ℕ) (table : ℕ → Pte) (page : ℕ) → from ≤ page → page < past → without_range from past table page ≡ Empty
@@ -161,10 +162,10 @@ module _ {C : Type 0} (at : C → ℕ → Pte) (span : ℕ) (parts : List (ℕ �
 pub none_lost : {C : Type 0} (at : C → ℕ → Pte) (span : ℕ) (parts : List (ℕ × C)) (k n from past : ℕ) → 0 < span → past ≤ span
     → k ≤ length parts → AllWithin (λ part. part.0 < n) parts 0 k → AllWithin (λ part. n < part.0) parts k (length parts)
     → entries at span parts ≡ without_range (n * span + from) (n * span + past) (entries at span parts)
-none_lost at span parts k n from past some under within lower higher =
+none_lost at span parts k n from past some under few lower higher =
     in_one (λ j. in_part at (part_of parts j)) (λ j. in_part at (part_of parts j)) span n from past some under (λ j r other. refl)
-    (λ r. subst (λ o. in_part at o r ≡ without_range from past (in_part at o) r) (sym (no_part parts n (gap parts k n within lower higher)))
-    (none r (nat_le from r && nat_lt r past)))
+    (λ r. subst (λ o. in_part at o r ≡ without_range from past (in_part at o) r) (sym (no_part parts n (gap parts k n few lower higher)))
+    (none r (within from (past - from) r)))
   where
     none : (r : ℕ) (b : Bool) → no_entry r ≡ cond b Empty (no_entry r)
     none r true = refl
