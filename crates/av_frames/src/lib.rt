@@ -8,6 +8,7 @@
 #![tactic(auto)]
 
 mod frames;
+mod free;
 mod pages;
 mod slots;
 
