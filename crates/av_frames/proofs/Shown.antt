@@ -7,7 +7,7 @@ use Rattle.av_base.specs.declared.slot.Slot.{Slot}
 use Rattle.av_base.specs.Words.{with_at, is_in, without}
 use Rattle.av_base.proofs.Without.{count-without}
 use Rattle.av_frames.specs.Store.{Store, Shown, shown, fresh, relocated, with_bytes, with_maps, with_home, with_dirty, with_slot}
-use Rattle.av_frames.proofs.Listed.{none_in, not_in}
+use Rattle.av_frames.proofs.Free.{none_in, not_in}
 
 -- the bytes of frames by functions, after one is replaced
 pub laid : (pages : List (List ℕ)) (f : ℕ) (page : List ℕ) (new : ℕ → ℕ) → f < length pages → ((i : ℕ) → get_or page i 0 ≡ new i)

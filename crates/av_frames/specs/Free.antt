@@ -2,8 +2,8 @@
 use Rattle.std.specs.Prelude.{◌≡◌, ℕ, ◌+◌, ◌^◌, ◌<◌, ◌≤◌, Bool, true, false, ◌==◌}
 use Rattle.std.specs.Prelude.{if◌then◌else◌, List, length, slice_index_or, filter}
 use Rattle.av_base.specs.Words.{how_many}
-use Rattle.av_frames.specs.declared.free.Place.{Place}
-use Rattle.av_frames.specs.declared.free.Place.TheVariants.{Free, Used, Left}
+use Rattle.av_frames.specs.declared.free_list.Place.{Place}
+use Rattle.av_frames.specs.declared.free_list.Place.TheVariants.{Free, Used, Left}
 
 -- how many frames there are, and the free ones in their order
 pub record FreeFrames : Type 0 where

@@ -9,7 +9,7 @@ ghost use Rattle.av_base.specs.Page.{page_size};
 ghost use Rattle.av_base.specs.Words.{how_many, is_in, without};
 ghost use Rattle.std.specs.List.{range_with_len};
 
-use crate::free::FreeList;
+use crate::free_list::FreeList;
 use crate::pages::Pages;
 use crate::slots::Slots;
 use av_base::Slot;

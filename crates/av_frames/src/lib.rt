@@ -8,7 +8,7 @@
 #![tactic(auto)]
 
 mod frames;
-mod free;
+mod free_list;
 mod pages;
 mod slots;
 

@@ -2,12 +2,12 @@ use Rattle.std.proofs.Common.{◌≡◌, ℕ, ◌+◌, ◌<◌, Bool, true, fals
 use Rattle.std.proofs.lemmas.List.{append-nil}
 use Rattle.std.specs.List.{range_with_len}
 use Rattle.std.specs.VecDeque.{deque_len, deque_capacity}
-use Rattle.av_frames.specs.declared.free.Place.{Place}
-use Rattle.av_frames.specs.declared.free.Place.TheVariants.{Free, Used, Left}
+use Rattle.av_frames.specs.declared.free_list.Place.{Place}
+use Rattle.av_frames.specs.declared.free_list.Place.TheVariants.{Free, Used, Left}
 use Rattle.av_frames.specs.Free.{is_free, is_out, listed, place_of}
-use Rattle.av_frames.proofs.Listed.{any_default, filter_next, keeps_free, keeps_out, out-more}
-use Rattle.av_frames.proofs.free.list_free.Goals.{in-Free, in_default}
-use Rattle.av_frames.proofs.free.list_free.Goals as goal
+use Rattle.av_frames.proofs.Free.{any_default, filter_next, keeps_free, keeps_out, out-more}
+use Rattle.av_frames.proofs.free_list.list_free.Goals.{in-Free, in_default}
+use Rattle.av_frames.proofs.free_list.list_free.Goals as goal
 
 -- the numbers below one more, by what was kept of the last
 next : (old : List Place) (n : ℕ) (b : Bool) → is_free (place_of old n) ≡ b

@@ -1,9 +1,9 @@
 use Rattle.std.proofs.Common.{◌≡◌, true, sym, subst, length-set, refl, arith}
 use Rattle.av_base.specs.Words.{is_in}
-use Rattle.av_frames.specs.declared.free.Place.TheVariants.{Left}
+use Rattle.av_frames.specs.declared.free_list.Place.TheVariants.{Left}
 use Rattle.av_frames.specs.Free.{FreeFrames}
-use Rattle.av_frames.proofs.Listed.{in_range_listed, listed-out, whole_out}
-use Rattle.av_frames.proofs.free.FreeList.take_out.Goals as goal
+use Rattle.av_frames.proofs.Free.{in_range_listed, listed-out, whole_out}
+use Rattle.av_frames.proofs.free_list.FreeList.take_out.Goals as goal
 
 pub index_mut-requires : goal.index_mut-requires
 index_mut-requires c =

@@ -1,10 +1,10 @@
 use Rattle.std.proofs.Common.{◌≡◌, ◌<◌, false, refl, sym, subst, ap, ◌∙◌}
 use Rattle.av_base.specs.Words.{is_in}
-use Rattle.av_frames.specs.declared.free.Place.{Place}
-use Rattle.av_frames.specs.declared.free.Place.TheVariants.{Free, Used, Left}
+use Rattle.av_frames.specs.declared.free_list.Place.{Place}
+use Rattle.av_frames.specs.declared.free_list.Place.TheVariants.{Free, Used, Left}
 use Rattle.av_frames.specs.Free.{FreeFrames, is_free}
-use Rattle.av_frames.proofs.Listed.{tells}
-use Rattle.av_frames.proofs.free.FreeList.has.Goals as goal
+use Rattle.av_frames.proofs.Free.{tells}
+use Rattle.av_frames.proofs.free_list.FreeList.has.Goals as goal
 
 other : (p : Place) → (p ≡ Free → ⊥) → false ≡ is_free p
 other Free h = absurd (h refl)

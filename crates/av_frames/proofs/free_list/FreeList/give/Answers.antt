@@ -1,10 +1,10 @@
 use Rattle.std.proofs.Common.{◌≡◌, ℕ, ◌+◌, ◌<◌, ◌∷◌, slice_set, false, cond, ap, sym, subst, ◌∙◌, length, length-set, arith, deque_capacity}
 use Rattle.av_base.specs.Words.{is_in, without}
-use Rattle.av_frames.specs.declared.free.Place.TheVariants.{Free}
+use Rattle.av_frames.specs.declared.free_list.Place.TheVariants.{Free}
 use Rattle.av_frames.specs.Free.{FreeFrames, is_out, listed, place_of}
-use Rattle.av_frames.proofs.Listed.{found, left_given, listed_given, none_given, room_given, whole_given}
-use Rattle.av_frames.proofs.free.FreeList.give.Goals.{in-Left, in_default}
-use Rattle.av_frames.proofs.free.FreeList.give.Goals as goal
+use Rattle.av_frames.proofs.Free.{found, left_given, listed_given, none_given, room_given, whole_given}
+use Rattle.av_frames.proofs.free_list.FreeList.give.Goals.{in-Left, in_default}
+use Rattle.av_frames.proofs.free_list.FreeList.give.Goals as goal
 
 pub overflow_sub-self : goal.overflow_sub-self
 overflow_sub-self c = left_given _ _ _ _ c.self.invariant c.args.frame

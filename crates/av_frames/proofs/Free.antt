@@ -6,8 +6,8 @@ use Rattle.std.specs.List.{range_with_len}
 use Rattle.av_base.specs.Words.{how_many, is_in, without}
 use Rattle.av_base.proofs.Without.{count-without, length-without, without-none}
 use Rattle.av_base.proofs.Counted.{count-set, count-none}
-use Rattle.av_frames.specs.declared.free.Place.{Place}
-use Rattle.av_frames.specs.declared.free.Place.TheVariants.{Free, Used, Left}
+use Rattle.av_frames.specs.declared.free_list.Place.{Place}
+use Rattle.av_frames.specs.declared.free_list.Place.TheVariants.{Free, Used, Left}
 use Rattle.av_frames.specs.Free.{IsListed, is_free, is_out, listed, place_of}
 use Rattle.av_frames.specs.Store.{first_of}
 use Rattle.av_frames.proofs.Numbers.{numbers-suc, length-numbers, once_from, none_plus}

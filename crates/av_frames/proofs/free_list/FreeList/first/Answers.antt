@@ -1,8 +1,8 @@
 use Rattle.std.proofs.Common.{◌≡◌, rules, sym, ap, ◌∙◌}
 use Rattle.av_frames.specs.Free.{FreeFrames}
 use Rattle.av_frames.specs.Store.{first_of}
-use Rattle.av_frames.proofs.Listed.{all_listed}
-use Rattle.av_frames.proofs.free.FreeList.first.Goals as goal
+use Rattle.av_frames.proofs.Free.{all_listed}
+use Rattle.av_frames.proofs.free_list.FreeList.first.Goals as goal
 
 pub returns : goal.returns
 returns c =

@@ -1,8 +1,8 @@
 use Rattle.std.proofs.Common.{◌≡◌, Some, refl, sym, ap, ◌∙◌}
 use Rattle.av_frames.specs.Free.{listed}
 use Rattle.av_frames.specs.Store.{first_of}
-use Rattle.av_frames.proofs.Listed.{first-goes, in_range_listed, once_listed}
-use Rattle.av_frames.proofs.free.FreeList.take_first.Goals as goal
+use Rattle.av_frames.proofs.Free.{first-goes, in_range_listed, once_listed}
+use Rattle.av_frames.proofs.free_list.FreeList.take_first.Goals as goal
 
 pub returns : goal.returns
 returns c =

@@ -1,8 +1,8 @@
 use Rattle.std.proofs.Common.{arith}
 use Rattle.std.proofs.lemmas.List.{length-replicate}
-use Rattle.av_frames.specs.declared.free.Place.TheVariants.{Free}
-use Rattle.av_frames.proofs.Listed.{listed_fresh, whole_fresh}
-use Rattle.av_frames.proofs.free.FreeList.new.Goals as goal
+use Rattle.av_frames.specs.declared.free_list.Place.TheVariants.{Free}
+use Rattle.av_frames.proofs.Free.{listed_fresh, whole_fresh}
+use Rattle.av_frames.proofs.free_list.FreeList.new.Goals as goal
 
 pub invariant_of-result : goal.invariant_of-result
 invariant_of-result c = rw (c.in_ok-all_numbers.ensures.0, c.in_ok-fill.ensures) (whole_fresh c.args.count _ (omega arith) c.in_ok-all_numbers.ensures.2)

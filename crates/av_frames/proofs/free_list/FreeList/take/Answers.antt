@@ -1,8 +1,8 @@
 use Rattle.std.proofs.Common.{◌∷◌, ap, sym, ◌∙◌, length-set}
 use Rattle.av_base.specs.Words.{is_in}
-use Rattle.av_frames.specs.declared.free.Place.TheVariants.{Used}
-use Rattle.av_frames.proofs.Listed.{all_listed, front_listed, in_range_listed, listed_taken, not_in, whole_taken}
-use Rattle.av_frames.proofs.free.FreeList.take.Goals as goal
+use Rattle.av_frames.specs.declared.free_list.Place.TheVariants.{Used}
+use Rattle.av_frames.proofs.Free.{all_listed, front_listed, in_range_listed, listed_taken, not_in, whole_taken}
+use Rattle.av_frames.proofs.free_list.FreeList.take.Goals as goal
 
 pub invariant_of-self-2 : goal.invariant_of-self-2
 invariant_of-self-2 c = whole_taken _ _ _ _ c.self.invariant c.in_ok-frame.frame c.pop_front.new.self.items _ c.if-self-gt0.false c.in_ok-frame.ensures.items

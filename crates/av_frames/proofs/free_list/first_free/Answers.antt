@@ -1,8 +1,8 @@
 use Rattle.std.proofs.Common.{◌≡◌, ℕ, suc, ◌+◌, ◌<◌, Bool, false, cond, List, ◌∷◌, length, drop, get_or, sym, ap, ◌∙◌, add-one, arith}
 use Rattle.std.proofs.Math.Seq.{drop-cons}
-use Rattle.av_frames.specs.declared.free.Place.{Place}
+use Rattle.av_frames.specs.declared.free_list.Place.{Place}
 use Rattle.av_frames.specs.Free.{is_free, listed, place_of}
-use Rattle.av_frames.proofs.free.first_free.Goals as goal
+use Rattle.av_frames.proofs.free_list.first_free.Goals as goal
 
 -- from a place on, by whether the frame there is free
 from : (places : List Place) (queue : List ℕ) (at x : ℕ) (b : Bool) → at < length queue → x ≡ get_or queue at x → b ≡ is_free (place_of places x)

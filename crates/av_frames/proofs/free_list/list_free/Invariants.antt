@@ -2,7 +2,7 @@ use Rattle.std.proofs.Common.{◌≡◌, ℕ, ◌<◌, ◌≤◌, not, length}
 use Rattle.std.specs.List.{range_with_len}
 use Rattle.std.specs.VecDeque.{deque_len, deque_capacity}
 use Rattle.av_frames.specs.Free.{is_free, is_out, listed, place_of}
-use Rattle.av_frames.proofs.free.list_free.Given as goal
+use Rattle.av_frames.proofs.free_list.list_free.Given as goal
 
 abbrev pub invariant-loop-frame : goal.invariant-loop-frame
 invariant-loop-frame l = record {

@@ -2,10 +2,10 @@ use Rattle.std.proofs.Common.{◌≡◌, ℕ, ◌++◌, List, filter, length, ta
 use Rattle.std.proofs.Math.Seq.{take-append_seam}
 use Rattle.std.specs.List.{range_with_len}
 use Rattle.av_base.specs.Words.{is_in}
-use Rattle.av_frames.specs.declared.free.Place.{Place}
+use Rattle.av_frames.specs.declared.free_list.Place.{Place}
 use Rattle.av_frames.specs.Free.{IsListed, is_free, listed, place_of}
-use Rattle.av_frames.proofs.Listed.{has_is, same_free, twice, whole_sorted}
-use Rattle.av_frames.proofs.free.FreeList.order.Goals as goal
+use Rattle.av_frames.proofs.Free.{has_is, same_free, twice, whole_sorted}
+use Rattle.av_frames.proofs.free_list.FreeList.order.Goals as goal
 
 -- what was written over a list as long is there instead
 over : (n : ℕ) (new old : List Place) → n ≡ length new → take n (new ++ drop (length new) old) ≡ new
