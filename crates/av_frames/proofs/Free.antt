@@ -282,9 +282,6 @@ module _ (queue : List ℕ) (room : ℕ) (places : List Place) (left : ℕ) (w :
   pub in_range_listed : (f : ℕ) → is_in f (listed places queue) ≡ true → f < length places
   in_range_listed f h = free-within places f (has_is f ∙ h)
 
-  pub short_listed : length (listed places queue) ≤ length places
-  short_listed = let a = w.counted in let b = w.total in omega (arith, a, b)
-
   -- how often it stands in the queue, and in the list
   once_there : (f : ℕ) → is_in f (listed places queue) ≡ true
       → (is_free (place_of places f) ≡ true) × (is_out (place_of places f) ≡ false) × (how_many (λ g. f == g) (listed places queue) ≡ 1)
