@@ -3,6 +3,7 @@ the next command begins, and `# mapping: libc.so.6` what the next `mmap` maps. A
 head says that its accesses are first ones.
 """
 import re
+from typing import Iterable
 
 PROCESS = re.compile(r"process (\d{1,5}): (.+?)(?: \([^()]*\))?")
 MAPPING = "mapping: "
@@ -23,6 +24,13 @@ def process_of(comment: str) -> tuple[int, str] | None:
 def mapping_of(comment: str) -> str:
     """The name that a comment gives a mapping; empty where it gives none."""
     return comment.removeprefix(MAPPING) if comment.startswith(MAPPING) else ""
+
+
+def said_of_first_ones(head: Iterable[str], has_gone_out: bool) -> str:
+    """What is said of a run of which a page has gone out, where comments in the head of its trace
+    tell that its accesses are first ones; else nothing.
+    """
+    return SAID_OF_FIRST_ONES if has_gone_out and FIRST_ONES in head else ""
 
 
 def is_label(comment: str) -> bool:
