@@ -8,7 +8,7 @@ import re
 from shared.saying import Refused, count_of, name_of, printable
 
 from faults import Fault
-from labels import FIRST_ONES
+from labels import CALLER, FIRST_ONES
 from memory import Command, Memory
 from peak import Peak
 from spaces import Space
@@ -312,7 +312,9 @@ class Convert:
         line = f"{name} {space.number} {fault.address:x} {what}"
         wanted = "segv 0" if not is_served else "ok" if is_write else "data"
         self.tally.accesses[name] += 1
-        self.memory.commands.append(Command(line, wanted, fault.place, fault.text))
+        self.memory.commands.append(
+            Command(line, wanted, fault.place, fault.text, caller=fault.chain)
+        )
 
     def why_no_access(self, thread: Thread | None, fault: Fault) -> str:
         """Why a fault isn't in the trace; empty where it is."""
@@ -354,6 +356,7 @@ class Convert:
         lines += [f"swapon {area}" for area in range(len(machine.areas))]
         for it in self.memory.commands:
             lines += [f"# {it.comment}"] if it.comment else []
+            lines += [f"# {CALLER}{it.caller}"] if it.caller else []
             lines += [f"# {it.place}: {it.origin[:400]}"] if with_origin and it.origin else []
             lines.append(it.line)
         if self.threads:

@@ -78,10 +78,9 @@ class Beside:
 
     def __init__(self, trace: str, transcript: str):
         self.trace, self.transcript, self.count = trace, transcript, 0
-        text = read(trace)
-        self.lines, self.commands = commands_of(text)
-        self.asks_marks = asks_marks(text)
-        self.head = [it[2:] for it in text[:4096].split("\n") if it.startswith("# ")]
+        self.text = read(trace)
+        self.lines, self.commands = commands_of(self.text)
+        self.asks_marks = asks_marks(self.text)
 
     def __iter__(self) -> Iterator[Step]:
         try:
@@ -111,7 +110,8 @@ class Beside:
         gone out, and where the transcript ends before the trace does.
         """
         sys.stdout.flush()
-        said = said_of_first_ones(self.head, has_gone_out)
+        head = [it[2:] for it in self.text[:4096].split("\n") if it.startswith("# ")]
+        said = said_of_first_ones(head, has_gone_out)
         if said:
             print(f"{tool}: {said}", file=sys.stderr)
         if self.count < len(self.commands):

@@ -7,14 +7,16 @@ import unittest
 
 from shared.saying import Refused, count_of, lines_of, printable
 
+import chains
 import swapfile
 from calls import Mapped, address_of, kind_of, protection_of
-from faults import most_common, read_faults
+from faults import most_common, read_faults, with_chains
 from frames import Frames, TooMany
-from labels import is_label, mapping_of, process_of
+from labels import caller_of, is_label, mapping_of, process_of
 from lackey import names_of, number_of
 from looking import IN_SWAP_CACHE
 from marks import Marks
+from payers import folded, payers_of, rows_of
 from peak import Peak
 from proc import Area
 from ranges import Ranges, up
@@ -53,7 +55,8 @@ class Labels(unittest.TestCase):
         self.assertEqual(process_of(comment), (6, "redis-cli"))
         self.assertEqual(process_of("process 6: a (b)"), (6, "a"))
         self.assertEqual(mapping_of("mapping: libc.so.6"), "libc.so.6")
-        for it in ("process 6 has two pages", "a mapping: x", "", "process 6:"):
+        self.assertEqual((caller_of("by: main;f"), is_label("by: main")), ("main;f", True))
+        for it in ("process 6 has two pages", "a mapping: x", "", "process 6:", "x by: y"):
             self.assertFalse(is_label(it))
 
 
@@ -423,6 +426,60 @@ class Summed(unittest.TestCase):
         lines[-3:] = [("mlock 1 20000 8192", "ok"), ("write 1 20fff 0102", "ok")]
         one = sums_of(steps_of(lines))["1"]
         self.assertEqual((one.accesses, one.faults, one.reused), (2, 1, 1))
+
+
+class Paid(unittest.TestCase):
+    """Who pays."""
+
+    COMMANDS = [("swapon 0", "on 7 0"), ("spawn 1", "ok"),
+                ("mmap 1 8192 rw-", "map 20000"), ("mmap 1 4096 rw-", "map 30000"),
+                ("write 1 20000 01", "ok / new 1 20000 0"),
+                ("write 1 30000 01", "ok / new 1 30000 1"), ("fork 1 2", "ok"),
+                ("write 2 20000 01", "ok / copy 2 20000 2"), ("write 1 20000 01", "ok"),
+                ("compact", "ok / move 2 3"),
+                ("reclaim 1", "ok / put 3 0:1 / unmap 3 / start 0:1"),
+                ("complete 1", "ok / done 0:1 / drop 0:1"),
+                ("mremap 2 20000 4096 4096 fixed 50000", "map 50000"),
+                ("read 2 50000 1", "data 01 / load 0:1 2 / map 2 50000 2"),
+                ("read 2 51000 1", "oom 0 / load 0:2 3")]
+    ABOVE = {2: "# mapping: heap", 4: "# by: main;f", 7: "# by: main;g", 13: "# by: main;h;f"}
+
+    def paid(self, by: str) -> dict:
+        lines = (f"{self.ABOVE.get(at, '#')}\n{it[0]}" for at, it in enumerate(self.COMMANDS))
+        return payers_of(steps_of(self.COMMANDS), "\n".join(lines), by, False)
+
+    def test_by_mapping(self) -> None:
+        rows = rows_of(self.paid("mapping"))
+        wanted = {"heap": [0, 1, 1, 1, 1, 1], "30000-31000": [0, 1, 0, 0, 0, 0],
+                  "-": [0, 0, 0, 0, 1, 0]}
+        self.assertEqual({it: [*row.values()] for it, row in rows.items()}, wanted)
+
+    def test_by_caller(self) -> None:
+        paid = self.paid("caller")
+        rows = rows_of(paid)
+        self.assertEqual([*rows["f"].values()], [0, 1, 0, 0, 1, 0])
+        self.assertEqual([*rows["g"].values()], [0, 0, 1, 0, 0, 1])
+        found = folded(paid, "new", {"1": "prog"})
+        self.assertEqual(found, ["prog;- 1", "prog;main;f 1"])
+
+
+class Chained(unittest.TestCase):
+    """Call chains."""
+
+    def test_functions(self) -> None:
+        for line, wanted in (
+            ("\t  1139 main+0x10 (/srv/a)", "main"), ("\t  1139 std::f(int; x) (/srv/a b)",
+             "std::f(int: x)"), ("\t  7f11 [unknown] (/lib/libc.so.6)", "[libc.so.6]"),
+            ("\t  7f11 [unknown] ([unknown])", ""), (" > /bin/a(main+0x1f) [0x1]", "main"),
+            (" > /bin/a() [0x1]", "[a]"), (" > unexpected_backtracing_error [0x1]", ""),
+        ):
+            self.assertEqual(chains.function_of(line), wanted)
+        lines = [f"\t {it} f{it} (a)" for it in range(99)]
+        self.assertEqual(chains.joined(lines).split(";")[:1], [f"f{chains.MOST - 1}"])
+
+    def test_lines_go_with_the_fault_above(self) -> None:
+        lines = ["# x", "a", "\t 1 f (b)", "", "\t 2 g (b)", "c"]
+        self.assertEqual([*with_chains(lines)], [(2, "a", [lines[2], lines[4]]), (6, "c", [])])
 
 
 class Marked(unittest.TestCase):
