@@ -9,7 +9,7 @@ import threading
 from shared.meter import Progress
 from shared.saying import Refused
 
-from labels import FIRST_ONES, SAID_OF_FIRST_ONES, is_label
+from labels import is_label, said_of_first_ones
 from names import Names
 from told import BY_RANGE, MIDWAY, Told, page_of
 
@@ -38,9 +38,9 @@ def commands_of(text: str) -> list[Command]:
     return found
 
 
-def has_first_ones(commands: list[Command]) -> bool:
-    """Whether a trace says in its head that its accesses are first ones."""
-    return bool(commands) and FIRST_ONES in commands[0].comment.split("\n")
+def head_of(commands: list[Command]) -> list[str]:
+    """The comments in the head of a trace."""
+    return commands[0].comment.split("\n") if commands else []
 
 
 def replies_of(transcript: str) -> list[list[str]]:
@@ -346,8 +346,7 @@ def data_of(
             f"from line {wrong} on notes tell otherwise than `entry` or `slot` does: "
             "that is a fault, please tell"
         )
-    if has_first_ones(run.commands) and run.has_note("put"):
-        said.append(SAID_OF_FIRST_ONES)
+    said.append(said_of_first_ones(head_of(run.commands), run.has_note("put")))
     if lost:
         said.append(f"from line {lost} on not all entries are known: they are drawn as ?")
     return {

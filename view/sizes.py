@@ -19,7 +19,7 @@ from shared.saying import Refused
 
 import making
 from bits import asks_marks
-from labels import SAID_OF_FIRST_ONES
+from labels import said_of_first_ones
 from sums import ALL, Counts, Sums
 from swapfile import MOST_FILES, MOST_FRAMES, MOST_PAGES, Machine, words_of
 
@@ -176,7 +176,7 @@ def write(words: argparse.Namespace, commands: list[making.Command], to: str) ->
     lines, areas = lines_of(commands)
     sizes = [size_of(words.program, it, lines, areas) for it in words.sizes]
     print("\n".join(table_of(sizes)))
-    said = SAID_OF_FIRST_ONES if making.has_first_ones(commands) else ""
+    said = said_of_first_ones(making.head_of(commands), any(it.sums.put for it in sizes))
     if said:
         print(said)
     name = "trace" if words.trace == "-" else os.path.basename(words.trace)
