@@ -5,11 +5,12 @@ that one names. Frames are in two lists, as the definitions have them, from the 
 """
 import collections
 
-from looking import IN_SWAP_CACHE, MERGED, Entries, Looker, slot_of
+from looking import IN_SWAP_CACHE, MAPPED, MERGED, Entries, Looker, slot_of
 from ranges import PAGE, up
 
 # stands, with what is above, for frames that only the swap cache can have
 UNSEEN = 1 << 60
+BY_ITSELF = "a page went to swap by itself"
 # all entries: of each process, by the address
 All = dict[str, Entries]
 
@@ -95,12 +96,21 @@ class Frames:
     def is_merged(self, frame: int) -> bool:
         return bool(self.looker.flags(frame) & MERGED)
 
-    def lost_slots(self) -> set[int]:
+    def lost_slots(self, after: All) -> set[int]:
         """The slots that the swap cache may not have any more."""
-        return {it for it, frame in self.cached.items() if not self.is_in_swap_cache(frame)}
+        named = {it for entries in after.values() for it in entries.values()}
+        return {
+            slot
+            for slot, frame in self.cached.items()
+            if not self.is_in_swap_cache(frame, frame in named)
+        }
 
-    def is_in_swap_cache(self, frame: int) -> bool:
-        return frame < UNSEEN and bool(self.looker.flags(frame) & IN_SWAP_CACHE)
+    def is_in_swap_cache(self, frame: int, is_named: bool = True) -> bool:
+        """Whether a frame is that of a slot still. (A free one may be mapped by others by now, who
+        swap as well.)
+        """
+        flags = self.looker.flags(frame) if frame < UNSEEN else 0
+        return bool(flags & IN_SWAP_CACHE) and (is_named or not flags & MAPPED)
 
     def take(self, words: list[str], reply: str, after: All) -> list[str]:
         """The notes of a command, from what is there after it."""
@@ -140,6 +150,23 @@ class Frames:
         self.counts["moved"] += len(moved)
         self.rename(moved)
 
+    def look_again(self, after: All) -> None:
+        """What changed with no line. (No note says how a frame came, so the auditor won't know it.)
+        """
+        self.follow_moves([], after)
+        entries = {it for all_ in after.values() for it in all_.values()}
+        if any(it not in self.slots() for it in entries if it < 0):
+            raise Cut(BY_ITSELF)
+        for it in entries - {*self.numbers, 0}:
+            if it > 0:
+                self.fresh(it)
+        self.now = after
+        self.prune()
+
+    def slots(self) -> set[int]:
+        """The slots that entries name."""
+        return {it for all_ in self.now.values() for it in all_.values() if it < 0}
+
     def rename(self, moved: dict[int, int]) -> None:
         """Gives other frames the numbers and entries of some."""
         numbers = {frame: it for frame, it in self.numbers.items() if frame not in moved}
@@ -158,7 +185,7 @@ class Story:
     def __init__(self, frames: Frames, words: list[str], reply: str, after: All):
         self.frames, self.words, self.reply, self.after = frames, words, reply, after
         self.state: All = {number: dict(it) for number, it in frames.now.items()}
-        self.lost = frames.lost_slots()
+        self.lost = frames.lost_slots(after)
         self.notes: list[str] = []
         # frames that stay where they are, so that no page can take them anew
         self.stay = {
@@ -209,7 +236,7 @@ class Story:
             self.gone(number, page)
             return
         if it < 0:
-            raise Cut("a page went to swap by itself")
+            raise Cut(BY_ITSELF)
         if it == 0:
             self.note("zero", number, page)
         elif not was:

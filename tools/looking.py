@@ -25,7 +25,7 @@ IS_THERE, IS_SWAPPED, IS_ZERO = 1 << 3, 1 << 4, 1 << 5
 # without it so many pages of a process are looked at, at most
 MOST_PAGES = 1 << 20
 # what /proc/kpageflags says of a frame
-WRITEBACK, IN_SWAP_CACHE, MERGED = 1 << 8, 1 << 13, 1 << 21
+WRITEBACK, MAPPED, IN_SWAP_CACHE, MERGED = 1 << 8, 1 << 11, 1 << 13, 1 << 21
 MIGRATE_PAGES = 256
 
 Entries = dict[int, int]

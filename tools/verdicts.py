@@ -10,6 +10,8 @@ from swapping import PAGES
 
 # lines of a reply that are shown at most
 MOST_ROWS = 8
+# the status where all that was told is legal, and the trace was cut short
+IN_PART = 3
 COUNTS = {
     "moved": "kept their numbers: {} frames that the kernel moved meanwhile, as compaction does",
     "mended": "read: {} pages of zeros that a fork didn't give the child (docs/LINUX.md, "
@@ -43,12 +45,11 @@ def tell(verdict: Verdict, has_frames: bool, out: str) -> int:
         tell_finding(finding, told)
     lines = {it.line for it in telling.told if not it.is_added}
     what = f"{count_of(len(telling.told), 'reply', 'replies')} to {count_of(len(lines), 'line')}"
-    legal = "not legal" if verdict.illegal else "legal"
-    print(f"Linux {os.uname().release}: {what} judged: {legal}")
+    print(f"Linux {os.uname().release}: {what} judged: {word_for(verdict)}")
     if verdict.left_out:
         print(f"left out, and begun anew: {count_of(len(verdict.left_out), 'line')}, by these rows")
     if verdict.again:
-        print(f"tried again: {count_of(verdict.again, 'time')}, for a reply that no row explains")
+        print(f"tried again: {count_of(verdict.again, 'time')}: no row explains, or it was cut short")
     for why, names in telling.passed.items():
         print(f"not told: {', '.join(f'{names[it]} {it}' for it in names)}: {why}")
     for name, text in COUNTS.items():
@@ -61,7 +62,15 @@ def tell(verdict: Verdict, has_frames: bool, out: str) -> int:
         print(NO_FRAMES)
     if out:
         write(verdict, out)
-    return 1 if verdict.illegal else 0
+    if verdict.illegal:
+        return 1
+    return IN_PART if telling.cut else 0
+
+
+def word_for(verdict: Verdict) -> str:
+    if verdict.illegal:
+        return "not legal"
+    return "legal, as far as it was told" if verdict.telling.cut else "legal"
 
 
 def write(verdict: Verdict, out: str) -> None:
