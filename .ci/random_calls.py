@@ -258,6 +258,14 @@ class Swaps(Trace):
     def swap(self) -> str:
         return f"reclaim {self.pick.choice([1, 2, 3, 4, 6, 8, 12, 20])}"
 
+    def lines(self, count: int) -> Iterator[str]:
+        """Behind the first mapping most of its pages get frames."""
+        first, pages = PLACES[0]
+        for it in super().lines(count):
+            yield it
+            if it == "mmap 1 8192 rw-":
+                yield from (f"write 1 {first + PAGE * at:x} {at:02x}" for at in range(pages - 4))
+
 
 def trace_of(seed: int, count: int = 150) -> str:
     """The trace of a seed, with so many drawn lines and reports between."""

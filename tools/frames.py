@@ -5,7 +5,7 @@ that one names. Frames are in two lists, as the definitions have them, from the 
 """
 import collections
 
-from looking import IN_SWAP_CACHE, MAPPED, MERGED, Entries, Looker, slot_of
+from looking import IN_SWAP_CACHE, MAPPED, MERGED, Cut, Entries, Looker, slot_of
 from ranges import PAGE, up
 
 # stands, with what is above, for frames that only the swap cache can have
@@ -13,10 +13,6 @@ UNSEEN = 1 << 60
 BY_ITSELF = "a page went to swap by itself"
 # all entries: of each process, by the address
 All = dict[str, Entries]
-
-
-class Cut(Exception):
-    """Why the transcript can't go on: a sentence."""
 
 
 class TooMany(Cut):

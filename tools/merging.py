@@ -7,9 +7,9 @@ import os
 import time
 from typing import TYPE_CHECKING, Iterator
 
-from frames import All, Cut, Frames
+from frames import All, Frames
 from kernel import KSM
-from looking import alone, unbroken
+from looking import Cut, alone, unbroken
 from ranges import PAGE
 from swapping import locked_frames
 

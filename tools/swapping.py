@@ -18,8 +18,8 @@ from typing import TYPE_CHECKING, Iterable, Iterator
 from shared.saying import Refused
 
 import swapfile
-from frames import BY_ITSELF, Cut, Frames, slot_text
-from looking import WRITEBACK, alone, slot_of, unbroken
+from frames import BY_ITSELF, Frames, slot_text
+from looking import WRITEBACK, Cut, alone, slot_of, unbroken
 from proc import Area
 from ranges import PAGE
 from shift import NotAsked

@@ -7,9 +7,9 @@ import collections
 import os
 from typing import Iterator, NamedTuple
 
-from frames import All, Cut, Frames, TooMany, may_touch
+from frames import All, Frames, TooMany, may_touch
 from kernel import CALLS, NO_FRAMES, Kernel
-from looking import Looker, drain
+from looking import Cut, Looker, drain
 from merging import Merging
 from proc import Area, row_of
 from ranges import PAGE, up

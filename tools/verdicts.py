@@ -5,6 +5,8 @@ from shared.saying import Refused, count_of, printable
 
 from check import NONE
 from judging import Finding, Verdict, files_of
+from looking import MOST_PAGES
+from ranges import PAGE
 from rows import Row
 from swapping import PAGES
 
@@ -19,6 +21,10 @@ COUNTS = {
     "not drained": "not drained: the CPUs' lists, {} times, so that any write may copy",
     "seen": "told as rmap: {} entry: no file shows whether an entry was seen",
 }
+NO_SCAN = (
+    "this kernel has no PAGEMAP_SCAN, which came with 6.7: all is judged, up to where a process maps "
+    f"more than {MOST_PAGES * PAGE >> 30} GiB"
+)
 NO_FRAMES = (
     "frames are shown to CAP_SYS_ADMIN alone: judged are replies, bytes, maps and areas, with "
     "avsim's own notes; which frame a page has, and whether a write copied it, isn't seen"
@@ -60,6 +66,8 @@ def tell(verdict: Verdict, has_frames: bool, out: str) -> int:
         print(f"not told from line {telling.line} on: {telling.cut}")
     if not has_frames:
         print(NO_FRAMES)
+    elif telling.frames and not telling.frames.looker.can_scan:
+        print(NO_SCAN)
     if out:
         write(verdict, out)
     if verdict.illegal:

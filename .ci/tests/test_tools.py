@@ -10,10 +10,10 @@ from shared.saying import Refused, count_of, lines_of, printable
 import swapfile
 from calls import Mapped, address_of, kind_of, protection_of
 from faults import most_common, read_faults
-from frames import Cut, Frames, TooMany
+from frames import Frames, TooMany
 from labels import is_label, mapping_of, process_of
 from lackey import names_of, number_of
-from looking import IN_SWAP_CACHE, MAPPED
+from looking import IN_SWAP_CACHE, MAPPED, Cut
 from marks import Marks
 from peak import Peak
 from proc import Area
