@@ -232,7 +232,8 @@ class Story:
             self.gone(number, page)
             return
         if it < 0:
-            raise Cut(BY_ITSELF)
+            self.stayed(number, page, it)
+            return
         if it == 0:
             self.note("zero", number, page)
         elif not was:
@@ -240,6 +241,12 @@ class Story:
         else:
             self.served(number, page, was, it)
         state[page] = it
+
+    def stayed(self, number: str, page: int, slot: int) -> None:
+        """A page in swap that a move should have taken, and didn't. (That isn't legal.)"""
+        if self.frames.now.get(number, {}).get(page) != slot:
+            raise Cut(BY_ITSELF)
+        self.state[number][page] = slot
 
     def served(self, number: str, page: int, was: int, it: int) -> None:
         """A page that had a frame or a slot, and has a frame."""
