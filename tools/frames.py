@@ -74,12 +74,20 @@ class Frames:
 
     def fresh(self, frame: int) -> int:
         """A number for a frame, the least that none has."""
+        if frame in self.numbers:
+            self.give_up(frame)
         number = next(self.free, None)
         if number is None:
             raise TooMany(f"the kernel has more than {self.most} frames in use")
         self.numbers[frame] = number
         self.inactive.insert(0, number)
         return number
+
+    def give_up(self, frame: int) -> None:
+        """A frame that no entry names isn't that of its slot any more, and nobody saw it go."""
+        self.unseen += 1
+        self.doubtful.add(self.slot_of(frame))
+        self.rename({frame: UNSEEN + self.unseen})
 
     def mapped(self) -> list[int]:
         """The frames that entries name."""
@@ -257,17 +265,14 @@ class Story:
         slot = self.frames.slot_of(frame)
         if self.words[0] == "read" and slot in self.frames.doubtful:
             return
-        if slot in self.lost and not self.names(slot, 0 if frame == it else frame):
+        if slot in self.lost and not self.names(slot, 0):
             self.drop(slot)
 
     def brought(self, number: str, page: int, slot: int, it: int) -> int:
         """The frame that a slot's page comes in with."""
         frames = self.frames
         if slot in frames.cached and slot in self.lost:
-            # (the cache gave it up, and it was read again)
-            old = frames.cached[slot]
-            if old != it and not self.names(0, old) and it not in frames.numbers:
-                frames.rename({old: it})
+            self.read_again(slot, it)
         if slot not in frames.cached:
             if it in frames.numbers and it in self.stay:
                 raise Cut("a page came from swap over a frame in use")
@@ -285,6 +290,22 @@ class Story:
         frame = frames.cached[slot]
         self.note("map", number, page, frames.numbers[frame])
         return frame
+
+    def read_again(self, slot: int, it: int) -> None:
+        """The cache gave up a slot's frame, and read the slot anew: what came in is the page's, or
+        was copied at once and isn't seen.
+        """
+        frames = self.frames
+        old = frames.cached[slot]
+        if old == it or self.names(0, old) or it in frames.numbers:
+            return
+        if frames.is_in_swap_cache(it):
+            self.lost.remove(slot)
+            frames.rename({old: it})
+        elif not self.is_shared(slot):
+            frames.rename({old: it})
+        elif old < UNSEEN:
+            frames.give_up(old)
 
     def gone(self, number: str, page: int) -> None:
         was = self.state[number].pop(page)

@@ -33,6 +33,7 @@ PAGEOUT, PREFER, FIRST = 21, 0x8000, 32767
 PAGES, PATIENCE = 1024, 20
 UNREADABLE = "no process can read one of its frames, which so can't be kept as seen"
 NOTHING = "there is no frame to send out"
+OTHER_AREA = "pages went to another swap area"
 
 
 def libc_call(name: str, *of: object) -> None:
@@ -140,7 +141,7 @@ class Swapping:
         """Whether it is the file where pages went. (Others may swap, too, and fill it.)"""
         kinds = {slot_of(it)[0] for it in slots} | {self.kind} - {-1}
         if len(kinds) > 1 or any(slot_of(it)[1] >= PAGES for it in slots):
-            raise Cut("pages went to another swap area")
+            raise Cut(OTHER_AREA)
         self.kind = max(kinds, default=-1)
 
     # ---- what is told of it

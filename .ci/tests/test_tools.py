@@ -358,6 +358,22 @@ class Notes(unittest.TestCase):
         self.looker.others = {77}
         self.assertEqual(self.told("munmap 1 20000 4096", {"1": {}}), ["drop 0:5"])
 
+    def test_what_the_cache_gave_up_is_read_again(self) -> None:
+        slot = -(5 << 5) - 1
+        for several, cached, notes in (
+            (False, {88}, ["map 1 20000 0"]),
+            (False, set(), ["map 1 20000 0", "drop 0:5"]),
+            (True, {88}, ["map 1 20000 0"]),
+            (True, set(), ["map 1 20000 0", "copy 1 20000 1"]),
+        ):
+            self.setUp()
+            self.told("write 1 20000 01", {"1": {0x20000: 77}})
+            others = {"2": {0x20000: slot}} if several else {}
+            self.frames.now = {"1": {0x20000: slot}, **others}
+            self.frames.cached, self.looker.cached = {slot: 77}, cached
+            given = self.told("write 1 20000 02", {"1": {0x20000: 88}, **others})
+            self.assertEqual(given, notes)
+
     def test_what_changes_by_itself_has_no_note(self) -> None:
         self.told("write 1 20000 01", {"1": {0x20000: 77}})
         self.frames.look_again({"1": {0x20000: 78}})
@@ -366,6 +382,14 @@ class Notes(unittest.TestCase):
         self.assertEqual(self.frames.numbers, {79: 1})
         with self.assertRaises(Cut):
             self.frames.look_again({"1": {0x21000: -(5 << 5) - 1}})
+
+    def test_a_frame_that_the_cache_gave_up_may_be_a_new_one(self) -> None:
+        self.told("write 1 20000 01", {"1": {0x20000: 77}})
+        slot = -(5 << 5) - 1
+        self.frames.now, self.frames.cached = {"1": {0x20000: slot}}, {slot: 77}
+        after = {"1": {0x20000: slot, 0x21000: 77}}
+        self.assertEqual(self.told("write 1 21000 01", after), ["new 1 21000 1"])
+        self.assertEqual(sorted(self.frames.numbers.values()), [0, 1])
 
     def test_a_page_that_others_have_in_swap_is_copied(self) -> None:
         slot = -(5 << 5) - 1
