@@ -22,8 +22,8 @@ COUNTS = {
     "seen": "told as rmap: {} entry: no file shows whether an entry was seen",
 }
 NO_SCAN = (
-    "this kernel has no PAGEMAP_SCAN, which came with 6.7: all is judged, up to where a process maps "
-    f"more than {MOST_PAGES * PAGE >> 30} GiB"
+    "this kernel has no PAGEMAP_SCAN, which came with 6.7: all is judged, up to where a process "
+    f"maps more than {MOST_PAGES * PAGE >> 30} GiB"
 )
 NO_FRAMES = (
     "frames are shown to CAP_SYS_ADMIN alone: judged are replies, bytes, maps and areas, with "
@@ -55,7 +55,8 @@ def tell(verdict: Verdict, has_frames: bool, out: str) -> int:
     if verdict.left_out:
         print(f"left out, and begun anew: {count_of(len(verdict.left_out), 'line')}, by these rows")
     if verdict.again:
-        print(f"tried again: {count_of(verdict.again, 'time')}: no row explains, or it was cut short")
+        again = count_of(verdict.again, "time")
+        print(f"tried again: {again}: no row explained a reply, or the trace was cut short")
     for why, names in telling.passed.items():
         print(f"not told: {', '.join(f'{names[it]} {it}' for it in names)}: {why}")
     for name, text in COUNTS.items():
