@@ -15,7 +15,7 @@ from frames import Frames, TooMany
 from grain import coarse
 from labels import caller_of, is_label, mapping_of, process_of
 from lackey import names_of, number_of
-from looking import IN_SWAP_CACHE
+from looking import IN_SWAP_CACHE, MAPPED, Cut
 from marks import Marks
 from memory import Command
 from payers import folded, payers_of, rows_of
@@ -291,13 +291,16 @@ class Shifts(unittest.TestCase):
 
 
 class SeenFrames:
-    """What a kernel would show of frames: those that the swap cache has."""
+    """What a kernel would show of frames: those that the swap cache has, and those that others map.
+    """
 
     def __init__(self) -> None:
         self.cached: set[int] = set()
+        self.others: set[int] = set()
 
     def flags(self, frame: int) -> int:
-        return IN_SWAP_CACHE if frame in self.cached else 0
+        flags = IN_SWAP_CACHE if frame in self.cached else 0
+        return flags | (MAPPED if frame in self.others else 0)
 
 
 class Notes(unittest.TestCase):
@@ -351,6 +354,47 @@ class Notes(unittest.TestCase):
         self.assertEqual(self.frames.cached, {slot: 78})
         self.looker.cached = set()
         self.assertEqual(self.told("write 1 20000 02", {"1": {0x20000: 78}}), ["drop 0:5"])
+
+    def test_a_free_frame_may_be_in_the_cache_for_others(self) -> None:
+        self.told("write 1 20000 01", {"1": {0x20000: 77}})
+        self.frames.now, slot = {"1": {0x20000: -(5 << 5) - 1}}, -(5 << 5) - 1
+        self.frames.cached, self.looker.cached = {slot: 77}, {77}
+        self.assertEqual(self.frames.lost_slots({"1": {}}), set())
+        self.looker.others = {77}
+        self.assertEqual(self.told("munmap 1 20000 4096", {"1": {}}), ["drop 0:5"])
+
+    def test_what_the_cache_gave_up_is_read_again(self) -> None:
+        slot = -(5 << 5) - 1
+        for several, cached, notes in (
+            (False, {88}, ["map 1 20000 0"]),
+            (False, set(), ["map 1 20000 0", "drop 0:5"]),
+            (True, {88}, ["map 1 20000 0"]),
+            (True, set(), ["map 1 20000 0", "copy 1 20000 1"]),
+        ):
+            self.setUp()
+            self.told("write 1 20000 01", {"1": {0x20000: 77}})
+            others = {"2": {0x20000: slot}} if several else {}
+            self.frames.now = {"1": {0x20000: slot}, **others}
+            self.frames.cached, self.looker.cached = {slot: 77}, cached
+            given = self.told("write 1 20000 02", {"1": {0x20000: 88}, **others})
+            self.assertEqual(given, notes)
+
+    def test_what_changes_by_itself_has_no_note(self) -> None:
+        self.told("write 1 20000 01", {"1": {0x20000: 77}})
+        self.frames.look_again({"1": {0x20000: 78}})
+        self.assertEqual(self.frames.numbers, {78: 0})
+        self.frames.look_again({"1": {0x21000: 79}})
+        self.assertEqual(self.frames.numbers, {79: 1})
+        with self.assertRaises(Cut):
+            self.frames.look_again({"1": {0x21000: -(5 << 5) - 1}})
+
+    def test_a_frame_that_the_cache_gave_up_may_be_a_new_one(self) -> None:
+        self.told("write 1 20000 01", {"1": {0x20000: 77}})
+        slot = -(5 << 5) - 1
+        self.frames.now, self.frames.cached = {"1": {0x20000: slot}}, {slot: 77}
+        after = {"1": {0x20000: slot, 0x21000: 77}}
+        self.assertEqual(self.told("write 1 21000 01", after), ["new 1 21000 1"])
+        self.assertEqual(sorted(self.frames.numbers.values()), [0, 1])
 
     def test_a_page_that_others_have_in_swap_is_copied(self) -> None:
         slot = -(5 << 5) - 1
