@@ -1,7 +1,11 @@
 """What `.ci/linux` has judged: wrong kernels, each an edit of tools/stub.c, and which examples of
-docs/LINUX.md a kernel's own transcript doesn't show.
+docs/LINUX.md a kernel's own transcript doesn't show; and what became of traces, in numbers.
 """
+import collections
 from typing import NamedTuple
+
+from judging import Verdict, lines_of
+from rows import Row
 
 CALL = "        answer.result = call(of[0], of[1], of[2], of[3], of[4], of[5], of[6]);\n"
 WRITE = "        answer.result = of[1] - copy((char *)of[0], asked.bytes, of[1]);\n"
@@ -15,17 +19,42 @@ LEGAL = {"growth", "old_range", "protection_keys", "lock_execute_only", "fork_en
 BEGIN = "spawn 1\nmmap 1 8192 rw- fixed 20000\nwrite 1 20000 01\n"
 
 
+class Tally:
+    """What became of traces that were judged: how many there were, and the lines that rows of
+    docs/LINUX.md left out.
+    """
+
+    def __init__(self) -> None:
+        self.counts: collections.Counter[str] = collections.Counter()
+        self.rows: collections.Counter[Row] = collections.Counter()
+
+    def add(self, trace: str, verdict: Verdict) -> None:
+        is_once = not (verdict.illegal or verdict.left_out or verdict.telling.cut)
+        self.counts["traces"] += 1
+        self.counts["lines"] += len(lines_of(trace))
+        self.counts["replies judged"] += len(verdict.telling.told)
+        self.counts["legal at once"] += is_once
+        self.counts["told in part"] += bool(verdict.telling.cut)
+        self.counts["not legal"] += bool(verdict.illegal)
+        self.counts["tried again"] += verdict.again
+        self.rows.update(it.row for it in verdict.left_out if it.row)
+
+    def __str__(self):
+        counts = [f"{count} {what}" for what, count in self.counts.items()]
+        rows = [f"  {count} by {it.section}: {it.begin}" for it, count in self.rows.most_common()]
+        head = f"{', '.join(counts)}, {self.rows.total()} lines left out"
+        return "\n".join([head, *rows])
+
+
 class Wrong(NamedTuple):
     """A wrong kernel: what the stub does instead, for a trace of which the last line is the one
-    whose reply isn't legal; or, where `asked` says so, what is asked behind it. A child does it
-    before its own next line; where it was looked at after it did, that tells, in one of `others`.
+    whose reply isn't legal; or, where `asked` says so, what is asked behind it.
     """
 
     place: str
     instead: str
     trace: str
     asked: str = ""
-    others: tuple[str, ...] = ()
 
 
 WRONG = {
@@ -33,7 +62,12 @@ WRONG = {
         CHILD,
         f"{{{CHILD} call(__NR_madvise, 0x20000, 4096, 22, 0, 0, 0);}}\n",
         f"{BEGIN}fork 1 2\nwrite 2 20000 02\n",
-        others=("line 4: entry 2 20000 (asked behind it)",),
+    ),
+    "a child gets zeros": Wrong(
+        CHILD,
+        f"{{{CHILD} call(__NR_madvise, 0x20000, 4096, 4, 0, 0, 0);}}\n",
+        f"{BEGIN}fork 1 2\n",
+        "entry 2 20000",
     ),
     "bytes stay behind dontneed": Wrong(
         CALL,

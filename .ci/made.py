@@ -76,7 +76,7 @@ CARRIERS = {
     "av_audit_neighbour": "judges_merge judges_compact",
     "av_audit_machine": "read_machine machine_of_heads",
     "av_audit": "Auditor",
-    "av_audit_input": "Script read_command read_trace read_unit",
+    "av_audit_input": "Script first_command read_trace read_unit",
     "av_audit_run": "audit audits_of_inputs legal_or_stopped stopped_once "
     "breaks_come_before_what_is_wrong",
     "av_swap_laws": "frames_are_put slots_are_loaded slots_are_dropped soundness_goes_on",

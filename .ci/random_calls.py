@@ -1,9 +1,11 @@
 """Random traces for a real kernel: calls of a few processes that share pages, most of them good,
 over a few pages at three places, with what `maps`, `areas`, `entry` and `rmap` show behind them.
-Of another kind are those whose ranges end where addresses do.
+Of other kinds are those whose ranges end where addresses do, and those whose pages go to swap and
+come back.
 
 Called as `.ci/random_calls.py SEED` it prints the trace of a seed, whose comment says with which
-machine it is run; with `ends` behind it that of the other kind. The same seed makes the same trace.
+machine it is run; with `ends` or `swaps` behind it that of another kind. The same seed makes the
+same trace.
 """
 import random
 import sys
@@ -61,6 +63,22 @@ KINDS_OF_ENDS = {
     "exit": 1,
     "rmap": 12,
     "leave": 2,
+}
+KINDS_OF_SWAPS = {
+    "mmap": 3,
+    "munmap": 3,
+    "mprotect": 3,
+    "mremap": 5,
+    "madvise": 5,
+    "mlock": 2,
+    "munlock": 1,
+    "read": 16,
+    "write": 18,
+    "fork": 5,
+    "exit": 3,
+    "entry": 3,
+    "rmap": 3,
+    "swap": 16,
 }
 
 
@@ -224,6 +242,31 @@ class Ends(Trace):
         return f"mmap {self.process()} {PAGE} rw- fixed {NO_PLACE:x}"
 
 
+class Swaps(Trace):
+    """Lines of a few pages that go to swap, and come back."""
+
+    kinds = KINDS_OF_SWAPS
+
+    def __init__(self, seed: int):
+        super().__init__(seed)
+        self.machine, self.areas = "16384 frames and a swap file of 1024 pages", 1
+
+    def page(self) -> int:
+        first, count = PLACES[0]
+        return first + PAGE * self.pick.randrange(count)
+
+    def swap(self) -> str:
+        return f"reclaim {self.pick.choice([1, 2, 3, 4, 6, 8, 12, 20])}"
+
+    def lines(self, count: int) -> Iterator[str]:
+        """Behind the first mapping most of its pages get frames."""
+        first, pages = PLACES[0]
+        for it in super().lines(count):
+            yield it
+            if it == "mmap 1 8192 rw-":
+                yield from (f"write 1 {first + PAGE * at:x} {at:02x}" for at in range(pages - 4))
+
+
 def trace_of(seed: int, count: int = 150) -> str:
     """The trace of a seed, with so many drawn lines and reports between."""
     return "".join(f"{it}\n" for it in Trace(seed).lines(count))
@@ -234,5 +277,11 @@ def ends_of(seed: int, count: int = 100) -> str:
     return "".join(f"{it}\n" for it in Ends(seed).lines(count))
 
 
+def swaps_of(seed: int, count: int = 80) -> str:
+    """That of a seed whose pages go to swap."""
+    return "".join(f"{it}\n" for it in Swaps(seed).lines(count))
+
+
 if __name__ == "__main__":
-    print((ends_of if "ends" in sys.argv[2:] else trace_of)(int(sys.argv[1])), end="")
+    make = {"ends": ends_of, "swaps": swaps_of}.get("".join(sys.argv[2:]), trace_of)
+    print(make(int(sys.argv[1])), end="")

@@ -23,7 +23,7 @@ STILL = "Tt"
 
 class Asked(NamedTuple):
     """What is to be recorded: the process, for how many seconds (0: until control-C or its end),
-    the folder, and what perf is asked for.
+    the folder, and what perf is asked for: events and more words.
     """
 
     pid: int
@@ -166,7 +166,7 @@ class Attach:
         return ran
 
     def perf_words(self) -> list[str]:
-        events, more, _ = self.asked.events
+        events, more = self.asked.events
         words = [*more, "-m", BUFFER]
         for it in events:
             words += ["-e", it]

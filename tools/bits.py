@@ -96,7 +96,7 @@ class Bits:
         """Pages that come in."""
         for it in notes:
             if it[0] == "map":
-                self.pages[it[1]] -= changed(it[1], [it])
+                self.pages[it[1]].discard(int(it[2], 16) // PAGE)
         return NONE
 
     def mlock(self, words: list[str], answer: str, notes: Notes) -> Collection[int]:

@@ -8,7 +8,8 @@ import re
 from shared.saying import Refused, count_of, name_of, printable
 
 from faults import Fault
-from labels import accesses_comment
+from grain import GRAINS, coarse
+from labels import CALLER, accesses_comment
 from memory import Command, Memory
 from peak import Peak
 from spaces import Space
@@ -28,7 +29,8 @@ class Options:
     or a write, `touch` how many pages of a writable mapping are written, and `frames` how many
     the machine has: 0 means as many as are held at most. `are_first`: the faults are those of the
     kernel, so mostly the first access to each page; but where `too_few_below` says a number, they
-    were recorded in rounds, and are too few for machines of fewer frames.
+    were recorded in rounds, and are too few for machines of fewer frames. `page`
+    is what one page of the trace stands for, where that is more than one of the program's.
     """
 
     anonymous_only: bool = False
@@ -37,6 +39,7 @@ class Options:
     touch: int = 0
     frames: int = 0
     are_first: bool = False
+    page: str = ""
     too_few_below: int = 0
 
     def said(self) -> str:
@@ -96,6 +99,11 @@ class Convert:
 
     def run(self) -> None:
         """Goes through the log."""
+        self.go_through()
+        if self.options.page:
+            self.memory.commands = coarse(self.memory.commands, GRAINS[self.options.page])
+
+    def go_through(self) -> None:
         faults = iter(self.faults)
         fault = next(faults, None)
         for at, step in enumerate(self.steps):
@@ -318,7 +326,9 @@ class Convert:
         line = f"{name} {space.number} {fault.address:x} {what}"
         wanted = "segv 0" if not is_served else "ok" if is_write else "data"
         self.tally.accesses[name] += 1
-        self.memory.commands.append(Command(line, wanted, fault.place, fault.text))
+        self.memory.commands.append(
+            Command(line, wanted, fault.place, fault.text, caller=fault.chain)
+        )
 
     def why_no_access(self, thread: Thread | None, fault: Fault) -> str:
         """Why a fault isn't in the trace; empty where it is."""
@@ -357,9 +367,12 @@ class Convert:
         """The trace. Its last line is a comment, so that one can see that it is whole."""
         lines = [f"# {self.program or log} as a trace, by tools/from-strace", comment_for(machine)]
         lines += [f"# {self.options.said()}"] if self.options.said() else []
+        page = self.options.page
+        lines += [f"# One page of it is {page} of the program's."] if page else []
         lines += [f"swapon {area}" for area in range(len(machine.areas))]
         for it in self.memory.commands:
             lines += [f"# {it.comment}"] if it.comment else []
+            lines += [f"# {CALLER}{it.caller}"] if it.caller else []
             lines += [f"# {it.place}: {it.origin[:400]}"] if with_origin and it.origin else []
             lines.append(it.line)
         if self.threads:

@@ -10,12 +10,16 @@ from typing import TYPE_CHECKING, NamedTuple
 
 from kernel import Kernel
 from ranges import PAGE, Range, Ranges
-from rows import ADDED, ENTRIES, FORCED, JOINS_MORE, KEPT_SLOT, MOVED_MERGED, UNLOCKED, UNMERGED
-from rows import WRITABLE, Line, Row, careful, row_of
+from rows import ADDED, ENTRIES, FORCED, JOINS_MORE, KEPT_SLOT, LOCKED_READ, MOVED_MERGED
+from rows import UNLOCKED, UNMERGED, WRITABLE, Line, Row, careful, row_of
 
 
 if TYPE_CHECKING:
     from telling import Telling, Told
+
+
+# the notes that say how a page is served
+SERVED = ("new ", "copy ", "zero ", "map ")
 
 
 class Shown(NamedTuple):
@@ -53,11 +57,9 @@ def places_of(reply: list[str], kinds: tuple[str, ...]) -> list[list[str]]:
 
 
 def keeps_slot(telling: Telling, line: LineBefore, linux: list[str], model: list[str]) -> bool:
-    """Whether the kernel did all but drop the slot of a page that a read brought in."""
-    others = ("new ", "copy ", "zero ", "map ", "load ")
-    if not notes_of(model, "drop") or notes_of(linux, "drop"):
-        return False
-    if places_of(linux, others[:4]) != places_of(model, others[:4]):
+    """Whether the kernel did all but drop the slots of pages that reads brought in."""
+    kept = len(notes_of(model, "drop")) - len(notes_of(linux, "drop"))
+    if kept <= 0 or places_of(linux, SERVED) != places_of(model, SERVED):
         return False
     came = {
         place[2]
@@ -67,7 +69,14 @@ def keeps_slot(telling: Telling, line: LineBefore, linux: list[str], model: list
         if place[1] == line.process
     }
     end = line.at + (len(line.words[3]) // 2 if line.name == "write" else int(line.words[3]))
-    return any(line.at // PAGE * PAGE <= int(it, 16) < end for it in came)
+    return kept <= sum(line.at // PAGE * PAGE <= int(it, 16) < end for it in came)
+
+
+def drops_locked(line: LineBefore, linux: list[str], model: list[str]) -> bool:
+    """Whether the kernel did all, and dropped the slots of locked pages, too."""
+    is_locked = line.name == "mlock" or line.has("lo")
+    more = len(notes_of(linux, "drop")) > len(notes_of(model, "drop"))
+    return is_locked and more and places_of(linux, SERVED) == places_of(model, SERVED)
 
 
 def row_for(telling: Telling, shown: Shown) -> Row | None:
@@ -98,6 +107,8 @@ def row_of_notes(telling: Telling, line: LineBefore, shown: Shown) -> Row | None
             return MOVED_MERGED if line.name == "mremap" else UNMERGED
         case "write" | "mlock" if keeps_slot(telling, line, linux, model):
             return KEPT_SLOT
+        case "read" | "mlock" if drops_locked(line, linux, model):
+            return LOCKED_READ
         case "write" | "mlock" if len(notes_of(linux, "copy")) > len(notes_of(model, "copy")):
             return FORCED if not telling.drains or telling.counts["not drained"] else None
         case "merge" if line.number in telling.joined_more:

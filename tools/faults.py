@@ -11,6 +11,7 @@ from typing import Iterator
 
 from shared.saying import Refused, lines_of, name_of, printable
 
+import chains
 from strace import time_of
 
 # the first and the last line of what tools/record leaves, so that one sees whether it is whole
@@ -36,7 +37,7 @@ ADDRESS = re.compile(r"([0-9a-f]+)(?:\s.*)?")
 @dataclasses.dataclass(slots=True)
 class Fault:
     """A page fault. `is_write` is None where that isn't told. The time is that of perf, in
-    nanoseconds, until it is set to the log's.
+    nanoseconds, until it is set to the log's. `chain` has the functions that called.
     """
 
     thread: int
@@ -45,6 +46,21 @@ class Fault:
     is_write: bool | None
     place: str
     text: str
+    chain: str = ""
+
+
+def with_chains(lines: list[str]) -> Iterator[tuple[int, str, list[str]]]:
+    """The lines that aren't of a call chain, each with its number, and with its chain."""
+    last = None
+    for number, line in enumerate(lines, 1):
+        if last and chains.is_of_perf(line):
+            last[2].append(line)
+        elif line.strip() and not line.startswith("#"):
+            if last:
+                yield last
+            last = number, line, []
+    if last:
+        yield last
 
 
 def read_faults(file: str) -> list[Fault]:
@@ -53,17 +69,17 @@ def read_faults(file: str) -> list[Fault]:
     if lines[0] in (HEAD, ON_CLOCK) and lines[-1] != TAIL:
         raise Refused(f"{file}, line {len(lines)}: it doesn't end with {TAIL!r}, so it was cut")
     found = []
-    for number, line in enumerate(lines, 1):
-        if line.strip() and not line.startswith("#"):
-            match = FAULT.fullmatch(line)
-            fault = fault_of(match, f"{name_of(file)}, line {number}") if match else None
-            if not fault:
-                raise Refused(
-                    f"{file}, line {number}: it is no page fault as perf script -F "
-                    f"comm,pid,tid,time,event,addr prints them: {printable(line)}"
-                )
-            if match["name"] not in OTHERS:
-                found.append(fault)
+    for number, line, chain in with_chains(lines):
+        match = FAULT.fullmatch(line)
+        fault = fault_of(match, f"{name_of(file)}, line {number}") if match else None
+        if not fault:
+            raise Refused(
+                f"{file}, line {number}: it is no page fault as perf script -F "
+                f"comm,pid,tid,time,event,addr prints them: {printable(line)}"
+            )
+        if match["name"] not in OTHERS:
+            fault.chain = chains.joined(chain)
+            found.append(fault)
     if not found:
         raise Refused(f"{file} has no page fault")
     return sorted(found, key=lambda it: it.time)

@@ -5,17 +5,14 @@ that one names. Frames are in two lists, as the definitions have them, from the 
 """
 import collections
 
-from looking import IN_SWAP_CACHE, MERGED, Entries, Looker, slot_of
+from looking import IN_SWAP_CACHE, MAPPED, MERGED, Cut, Entries, Looker, slot_of
 from ranges import PAGE, up
 
 # stands, with what is above, for frames that only the swap cache can have
 UNSEEN = 1 << 60
+BY_ITSELF = "a page went to swap by itself"
 # all entries: of each process, by the address
 All = dict[str, Entries]
-
-
-class Cut(Exception):
-    """Why the transcript can't go on: a sentence."""
 
 
 class TooMany(Cut):
@@ -77,12 +74,20 @@ class Frames:
 
     def fresh(self, frame: int) -> int:
         """A number for a frame, the least that none has."""
+        if frame in self.numbers:
+            self.give_up(frame)
         number = next(self.free, None)
         if number is None:
             raise TooMany(f"the kernel has more than {self.most} frames in use")
         self.numbers[frame] = number
         self.inactive.insert(0, number)
         return number
+
+    def give_up(self, frame: int) -> None:
+        """A frame that no entry names isn't that of its slot any more, and nobody saw it go."""
+        self.unseen += 1
+        self.doubtful.add(self.slot_of(frame))
+        self.rename({frame: UNSEEN + self.unseen})
 
     def mapped(self) -> list[int]:
         """The frames that entries name."""
@@ -95,12 +100,21 @@ class Frames:
     def is_merged(self, frame: int) -> bool:
         return bool(self.looker.flags(frame) & MERGED)
 
-    def lost_slots(self) -> set[int]:
+    def lost_slots(self, after: All) -> set[int]:
         """The slots that the swap cache may not have any more."""
-        return {it for it, frame in self.cached.items() if not self.is_in_swap_cache(frame)}
+        named = {it for entries in after.values() for it in entries.values()}
+        return {
+            slot
+            for slot, frame in self.cached.items()
+            if not self.is_in_swap_cache(frame, frame in named)
+        }
 
-    def is_in_swap_cache(self, frame: int) -> bool:
-        return frame < UNSEEN and bool(self.looker.flags(frame) & IN_SWAP_CACHE)
+    def is_in_swap_cache(self, frame: int, is_named: bool = True) -> bool:
+        """Whether a frame is that of a slot still. (A free one may be mapped by others by now, who
+        swap as well.)
+        """
+        flags = self.looker.flags(frame) if frame < UNSEEN else 0
+        return bool(flags & IN_SWAP_CACHE) and (is_named or not flags & MAPPED)
 
     def take(self, words: list[str], reply: str, after: All) -> list[str]:
         """The notes of a command, from what is there after it."""
@@ -140,6 +154,23 @@ class Frames:
         self.counts["moved"] += len(moved)
         self.rename(moved)
 
+    def look_again(self, after: All) -> None:
+        """What changed with no line. (No note says how a frame came, so the auditor won't know it.)
+        """
+        self.follow_moves([], after)
+        entries = {it for all_ in after.values() for it in all_.values()}
+        if any(it not in self.slots() for it in entries if it < 0):
+            raise Cut(BY_ITSELF)
+        for it in entries - {*self.numbers, 0}:
+            if it > 0:
+                self.fresh(it)
+        self.now = after
+        self.prune()
+
+    def slots(self) -> set[int]:
+        """The slots that entries name."""
+        return {it for all_ in self.now.values() for it in all_.values() if it < 0}
+
     def rename(self, moved: dict[int, int]) -> None:
         """Gives other frames the numbers and entries of some."""
         numbers = {frame: it for frame, it in self.numbers.items() if frame not in moved}
@@ -158,7 +189,7 @@ class Story:
     def __init__(self, frames: Frames, words: list[str], reply: str, after: All):
         self.frames, self.words, self.reply, self.after = frames, words, reply, after
         self.state: All = {number: dict(it) for number, it in frames.now.items()}
-        self.lost = frames.lost_slots()
+        self.lost = frames.lost_slots(after)
         self.notes: list[str] = []
         # frames that stay where they are, so that no page can take them anew
         self.stay = {
@@ -209,7 +240,8 @@ class Story:
             self.gone(number, page)
             return
         if it < 0:
-            raise Cut("a page went to swap by itself")
+            self.stayed(number, page, it)
+            return
         if it == 0:
             self.note("zero", number, page)
         elif not was:
@@ -217,6 +249,12 @@ class Story:
         else:
             self.served(number, page, was, it)
         state[page] = it
+
+    def stayed(self, number: str, page: int, slot: int) -> None:
+        """A page in swap that a move should have taken, and didn't. (That isn't legal.)"""
+        if self.frames.now.get(number, {}).get(page) != slot:
+            raise Cut(BY_ITSELF)
+        self.state[number][page] = slot
 
     def served(self, number: str, page: int, was: int, it: int) -> None:
         """A page that had a frame or a slot, and has a frame."""
@@ -227,17 +265,14 @@ class Story:
         slot = self.frames.slot_of(frame)
         if self.words[0] == "read" and slot in self.frames.doubtful:
             return
-        if slot in self.lost and not self.names(slot, 0 if frame == it else frame):
+        if slot in self.lost and not self.names(slot, 0):
             self.drop(slot)
 
     def brought(self, number: str, page: int, slot: int, it: int) -> int:
         """The frame that a slot's page comes in with."""
         frames = self.frames
         if slot in frames.cached and slot in self.lost:
-            # (the cache gave it up, and it was read again)
-            old = frames.cached[slot]
-            if old != it and not self.names(0, old) and it not in frames.numbers:
-                frames.rename({old: it})
+            self.read_again(slot, it)
         if slot not in frames.cached:
             if it in frames.numbers and it in self.stay:
                 raise Cut("a page came from swap over a frame in use")
@@ -255,6 +290,22 @@ class Story:
         frame = frames.cached[slot]
         self.note("map", number, page, frames.numbers[frame])
         return frame
+
+    def read_again(self, slot: int, it: int) -> None:
+        """The cache gave up a slot's frame, and read the slot anew: what came in is the page's, or
+        was copied at once and isn't seen.
+        """
+        frames = self.frames
+        old = frames.cached[slot]
+        if old == it or self.names(0, old) or it in frames.numbers:
+            return
+        if frames.is_in_swap_cache(it):
+            self.lost.remove(slot)
+            frames.rename({old: it})
+        elif not self.is_shared(slot):
+            frames.rename({old: it})
+        elif old < UNSEEN:
+            frames.give_up(old)
 
     def gone(self, number: str, page: int) -> None:
         was = self.state[number].pop(page)

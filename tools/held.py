@@ -18,9 +18,10 @@ class Held:
     def __init__(self, marks: dict[str, Marks]):
         self.marks = marks
         self.tables: dict[str, dict[int, str]] = {}
-        # of each frame how many entries name it, and a page where one does, or did
+        # of each frame how many entries name it, and a page where one does, or did, with its table
         self.names: dict[str, int] = {}
         self.page_of: dict[str, int] = {}
+        self.table_of: dict[str, dict[int, str]] = {}
         self.frame_at: dict[str, str] = {}
         self.slot_of: dict[str, str] = {}
         self.merged: set[str] = set()
@@ -36,16 +37,16 @@ class Held:
             "mremap": self.mremap,
             "madvise": self.madvise,
         }
-        self.notes: dict[str, Callable[..., None]] = {
+        self.notes: dict[str, Callable[[list[str]], None]] = {
             "new": self.enter,
             "copy": self.enter,
             "map": self.enter,
             "join": self.enter,
-            "put": self.cache,
-            "load": lambda slot, frame: self.cache(frame, slot),
+            "put": self.put,
+            "load": self.load,
             "unmap": self.unmap,
             "drop": self.drop,
-            "share": self.merged.add,
+            "share": self.share,
             "move": self.renumber,
         }
 
@@ -55,19 +56,19 @@ class Held:
         if does:
             does(words, answer)
         for it in notes:
-            told = self.notes.get(it[0])
-            if told:
-                told(*it[1:])
+            if it[0] in self.notes:
+                self.notes[it[0]](it)
 
     # entries
 
-    def enter(self, process: str, at: str, frame: str) -> None:
+    def enter(self, note: list[str]) -> None:
         """The entry of a page names a frame."""
+        _, process, at, frame = note
         page, table = int(at, 16) // PAGE, self.tables[process]
         old, count = table.get(page), self.names.get(frame, 0)
         self.names[frame] = count + 1
         if not count:
-            self.page_of[frame] = page
+            self.page_of[frame], self.table_of[frame] = page, table
             if frame not in self.slot_of:
                 self.use()
         if old is not None:
@@ -116,12 +117,22 @@ class Held:
 
     # notes
 
-    def cache(self, frame: str, slot: str) -> None:
+    def put(self, note: list[str]) -> None:
+        """A frame that entries name is cached, too."""
+        _, frame, slot = note
         self.frame_at[slot], self.slot_of[frame] = frame, slot
-        if frame not in self.names:
-            self.use()
 
-    def drop(self, slot: str) -> None:
+    def load(self, note: list[str]) -> None:
+        """A frame that was free is cached."""
+        _, slot, frame = note
+        self.frame_at[slot], self.slot_of[frame] = frame, slot
+        self.use()
+
+    def share(self, note: list[str]) -> None:
+        self.merged.add(note[1])
+
+    def drop(self, note: list[str]) -> None:
+        _, slot = note
         frame = self.frame_at.pop(slot)
         del self.slot_of[frame]
         if frame not in self.names:
@@ -129,26 +140,31 @@ class Held:
 
     def owners(self, frame: str) -> list[tuple[dict[int, str], int]]:
         """The pages whose entries name a frame, each with the table that has it. Most often it is
-        the same page of each process.
+        one, or the same page of each process.
         """
-        page = self.page_of[frame]
+        page, table = self.page_of[frame], self.table_of[frame]
+        if self.names[frame] == 1 and table.get(page) == frame:
+            return [(table, page)]
         found = [(it, page) for it in self.tables.values() if it.get(page) == frame]
         if len(found) == self.names[frame]:
             return found
         every = ((it, page) for it in self.tables.values() for page in it)
         return [(it, page) for it, page in every if it[page] == frame]
 
-    def unmap(self, frame: str) -> None:
+    def unmap(self, note: list[str]) -> None:
+        _, frame = note
         for table, page in self.owners(frame):
             del table[page]
         del self.names[frame]
 
-    def renumber(self, frame: str, to: str) -> None:
+    def renumber(self, note: list[str]) -> None:
         """What names a frame names another, which was free."""
+        _, frame, to = note
         if frame in self.names:
             for table, page in self.owners(frame):
                 table[page] = to
-            self.names[to], self.page_of[to] = self.names.pop(frame), self.page_of[frame]
+            self.names[to] = self.names.pop(frame)
+            self.page_of[to], self.table_of[to] = self.page_of[frame], self.table_of[frame]
         if frame in self.slot_of:
             slot = self.slot_of[to] = self.slot_of.pop(frame)
             self.frame_at[slot] = to
@@ -176,8 +192,10 @@ class Held:
 
     def exit(self, words: list[str], answer: str) -> None:
         if answer == "ok":
-            for frame in self.tables.pop(words[1]).values():
+            table = self.tables.pop(words[1])
+            for frame in table.values():
                 self.leave(frame)
+            table.clear()
 
     def munmap(self, words: list[str], answer: str) -> None:
         if answer == "ok":
@@ -200,7 +218,7 @@ class Held:
             first, past = start // PAGE, (start + min(old, new)) // PAGE
             for page in [it for it in table if first <= it < past]:
                 frame = table[page + by] = table.pop(page)
-                self.page_of[frame] = page + by
+                self.page_of[frame], self.table_of[frame] = page + by, table
         if new < old:
             self.cut(process, start + new, start + old)
 

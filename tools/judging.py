@@ -39,7 +39,7 @@ class Finding(NamedTuple):
 
 class Verdict(NamedTuple):
     """What became of a trace: the last telling, what wasn't legal by the way, and the reply that no
-    row explains; how often it was begun anew for one that then was legal.
+    row explains; how often it was begun anew for one, or because a telling was cut short.
     """
 
     telling: Telling
@@ -145,23 +145,33 @@ class Judge:
         left_out, again = [], 0
         for _ in range(MOST):
             telling = self.tell(lines)
-            at = self.first_illegal(telling.told)
-            if at < 0:
-                return Verdict(telling, left_out, None, again)
-            finding = self.finding(telling, at)
-            if not finding.row and telling.is_unsure and at == len(telling.told) - 1:
-                telling.told.pop()
-                return Verdict(telling, left_out, None, again)
-            if not finding.row:
-                again += 1
-                if again == TRIES:
-                    return Verdict(telling, left_out, finding, again - 1)
+            finding = self.finding(telling)
+            if finding and finding.row:
+                left_out.append(finding)
+                lines = [it for it in lines if it[0] != finding.told.line]
                 continue
-            left_out.append(finding)
-            lines = [it for it in lines if it[0] != finding.told.line]
+            # (what a machine of so few frames can't hold it can't hold the next time)
+            if not finding and (telling.is_unsure or not telling.cut):
+                return Verdict(telling, left_out, None, again)
+            again += 1
+            if again == TRIES:
+                return Verdict(telling, left_out, finding, again - 1)
         raise Refused(f"the trace was begun anew {MOST} times")
 
-    def finding(self, telling: Telling, at: int) -> Finding:
+    def finding(self, telling: Telling) -> Finding | None:
+        """The first reply that isn't legal, with its row. (One whose notes are wanting is taken
+        back where no row explains it.)
+        """
+        at = self.first_illegal(telling.told)
+        if at < 0:
+            return None
+        found = self.finding_at(telling, at)
+        if not found.row and telling.is_unsure and at == len(telling.told) - 1:
+            telling.told.pop()
+            return None
+        return found
+
+    def finding_at(self, telling: Telling, at: int) -> Finding:
         """A reply that isn't legal, with its row."""
         told = telling.told[: at + 1]
         model = self.model_of(told)

@@ -19,7 +19,7 @@ from stubs import ANONYMOUS, FIXED, MADVISE, MMAP, MUNMAP, NORESERVE, PRIVATE
 from stubs import Gone, Mother, Stub
 
 NOREPLACE, MAYMOVE, TO_PLACE, DONTUNMAP = 0x100000, 1, 2, 4
-MPROTECT, MREMAP, MLOCK, MUNLOCK = 10, 25, 149, 150
+MPROTECT, MREMAP, MLOCK, MUNLOCK, GETPID = 10, 25, 149, 150, 39
 # the numbers of what madvise says
 ADVICE = {"dontneed": 4, "dontfork": 10, "dofork": 11, "wipeonfork": 18, "keeponfork": 19}
 ADVICE |= {"mergeable": 12, "unmergeable": 13}
@@ -167,6 +167,10 @@ class Kernel:
         if isinstance(child, int):
             return [text_of(-child)]
         self.live[number] = child
+        # (who answers is there as a whole, and does nothing more of the fork meanwhile; who is gone
+        # is met at the next line)
+        with contextlib.suppress(Gone):
+            child.call(GETPID)
         return ["ok"]
 
     def spawn(self, number: str) -> list[str]:

@@ -1,11 +1,14 @@
 """Comments of a trace that name something: `# process 6: redis-cli (thread 4711)` the process that
-the next command begins, and `# mapping: libc.so.6` what the next `mmap` maps. A comment in its
-head says that its accesses are first ones, or below which number of frames they are too few.
+the next command begins, `# mapping: libc.so.6` what the next `mmap` maps, and `# by: main;serve`
+the functions that called when the next command was done, outermost first. A comment in its head
+says that its accesses are first ones, or below which number of frames they are too few.
 """
 import re
+from typing import Iterable
 
 PROCESS = re.compile(r"process (\d{1,5}): (.+?)(?: \([^()]*\))?")
 MAPPING = "mapping: "
+CALLER = "by: "
 # what is said in the head of a trace whose accesses are page faults, and of what is made of it
 FIRST_ONES = "Its accesses are page faults: mostly the first one to each page."
 SAID_OF_FIRST_ONES = (
@@ -28,13 +31,16 @@ def accesses_comment(is_first: bool, too_few_below: int) -> str:
     return FIRST_ONES if is_first else ""
 
 
-def said_of_accesses(head: str, frames: int) -> str:
-    """What is said of a run of a trace with so many frames, by the comment in its head; empty where
-    all its accesses are there.
+def said_of_accesses(head: Iterable[str], has_gone_out: bool, frames: int = 0) -> str:
+    """What is said of a run of which a page has gone out, where comments in the head of its trace
+    tell that it hasn't all accesses that a machine of so many frames asks for (0: it isn't known
+    how many); else nothing.
     """
-    if FIRST_ONES in head.split("\n"):
+    if not has_gone_out:
+        return ""
+    if FIRST_ONES in head:
         return SAID_OF_FIRST_ONES
-    below = next(filter(None, map(AGAIN.fullmatch, head.split("\n"))), None)
+    below = next(filter(None, map(AGAIN.fullmatch, head)), None)
     return SAID_OF_AGAIN_ONES.format(below[1]) if below and frames < int(below[1]) else ""
 
 
@@ -49,5 +55,10 @@ def mapping_of(comment: str) -> str:
     return comment.removeprefix(MAPPING) if comment.startswith(MAPPING) else ""
 
 
+def caller_of(comment: str) -> str:
+    """The functions that a comment names as callers; empty where it names none."""
+    return comment.removeprefix(CALLER) if comment.startswith(CALLER) else ""
+
+
 def is_label(comment: str) -> bool:
-    return bool(process_of(comment) or mapping_of(comment))
+    return bool(process_of(comment) or mapping_of(comment) or caller_of(comment))

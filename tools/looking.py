@@ -17,18 +17,22 @@ from shared.saying import Refused
 
 from proc import FRAME, SWAPPED, THERE, Pagemap, areas_of
 from ranges import PAGE
-from shift import NotAsked
 
 # a request of pagemap, from Linux 6.7 on: the ranges of pages of some kinds
 SCAN, ASKED, RANGE, ROOM = 0xC0606610, struct.Struct("12Q"), struct.Struct("3Q"), 4096
 IS_THERE, IS_SWAPPED, IS_ZERO = 1 << 3, 1 << 4, 1 << 5
 # without it so many pages of a process are looked at, at most
 MOST_PAGES = 1 << 20
+TOO_LARGE = f"a process maps more than {MOST_PAGES * PAGE >> 30} GiB, and there is no PAGEMAP_SCAN"
 # what /proc/kpageflags says of a frame
-WRITEBACK, IN_SWAP_CACHE, MERGED = 1 << 8, 1 << 13, 1 << 21
+WRITEBACK, MAPPED, IN_SWAP_CACHE, MERGED = 1 << 8, 1 << 11, 1 << 13, 1 << 21
 MIGRATE_PAGES = 256
 
 Entries = dict[int, int]
+
+
+class Cut(Exception):
+    """Why the transcript can't go on: a sentence."""
 
 
 def slot_of(entry: int) -> tuple[int, int]:
@@ -114,7 +118,7 @@ class Looker:
                 self.can_scan = False
         found = [(it.start, it.end) for it in areas_of(pid) if it.start < end]
         if sum(last - first for first, last in found) > MOST_PAGES * PAGE:
-            raise NotAsked(f"a process has more than {MOST_PAGES} pages to look through")
+            raise Cut(TOO_LARGE)
         return found
 
     def scanned(self, pagemap: int, end: int) -> list[tuple[int, int]]:

@@ -10,6 +10,7 @@ from typing import NoReturn
 
 from shared.saying import Refused, name_of, printable
 
+import chains
 from calls import (
     ADVICE,
     ANSWER,
@@ -41,7 +42,8 @@ OF_FILE = "of a file"
 class Command:
     """A line of the trace, and how a reply begins that agrees with the kernel. `missing` says who
     may have mapped it, where no call that is kept mapped a part of the range: `execve`, calls
-    before the `log`, or a call that is left out.
+    before the `log`, or a call that is left out. `caller` has the functions that called when it was
+    done, outermost first.
     """
 
     line: str
@@ -50,6 +52,7 @@ class Command:
     origin: str
     comment: str = ""
     missing: str = ""
+    caller: str = ""
 
 
 class Tally:
@@ -73,14 +76,16 @@ class Memory:
     def __init__(self, anonymous_only: bool, touch: int):
         self.anonymous_only, self.touch_pages = anonymous_only, touch
         self.tally, self.commands = Tally(), []
-        self.place, self.origin, self.call = "", "", None
+        self.place, self.origin, self.caller, self.call = "", "", "", None
 
-    def at(self, place: str, origin: str) -> None:
-        """The line of the log that the next commands come from."""
-        self.place, self.origin = place, origin
+    def at(self, place: str, origin: str, caller: str = "") -> None:
+        """The line of the log that the next commands come from, and who called there."""
+        self.place, self.origin, self.caller = place, origin, caller
 
     def add(self, line: str, wanted: str, comment: str = "", missing: str = "") -> None:
-        self.commands.append(Command(line, wanted, self.place, self.origin, comment, missing))
+        self.commands.append(
+            Command(line, wanted, self.place, self.origin, comment, missing, self.caller)
+        )
 
     def has(self, kind: str) -> bool:
         """Whether pages of such a range are in the trace."""
@@ -92,7 +97,7 @@ class Memory:
     def do(self, space: Space, call: Call) -> None:
         """A call, whatever it is."""
         self.call = call
-        self.at(call.place, str(call))
+        self.at(call.place, str(call), chains.joined(call.chain))
         if call.name in WITHOUT:
             self.tally.left_out[call.name] += 1
             space.rest = call.name if call.name in MAPS_TOO else space.rest

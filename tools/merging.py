@@ -2,13 +2,15 @@
 from __future__ import annotations
 
 import contextlib
+import mmap
 import os
 import time
 from typing import TYPE_CHECKING, Iterator
 
-from frames import All, Cut, Frames
+from frames import All, Frames
 from kernel import KSM
-from looking import alone, unbroken
+from looking import Cut, alone, unbroken
+from ranges import PAGE
 from swapping import locked_frames
 
 if TYPE_CHECKING:
@@ -59,6 +61,17 @@ def quiet() -> Iterator[None]:
                 put("run", run)
 
 
+@contextlib.contextmanager
+def own_page() -> Iterator[None]:
+    """A page that ksmd looks at, and that is equal to none: where nobody asks for merges it doesn't
+    scan.
+    """
+    with mmap.mmap(-1, PAGE, mmap.MAP_PRIVATE | mmap.MAP_ANONYMOUS) as page:
+        page.madvise(mmap.MADV_MERGEABLE)
+        page.write(os.urandom(PAGE))
+        yield
+
+
 class Merging:
     """Does `merge`. `joined` are the frames that took part the last time, by their numbers."""
 
@@ -68,7 +81,7 @@ class Merging:
     def scan(self) -> None:
         """Has ksmd scan all pages some times."""
         until = time.monotonic() + PATIENCE
-        with settings():
+        with settings(), own_page():
             last = int(get("full_scans")) + SCANS
             put("run", "1")
             while int(get("full_scans")) < last:

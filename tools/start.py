@@ -281,7 +281,8 @@ def times_of(lines: list[Line], now: int) -> Iterator[int]:
     the clocks are brought together otherwise.
     """
     before = [True, *(bool(it.text) for it in lines)]
-    gaps = [BEFORE_CALL if it.text else AFTER // 1000 if was else 1 for it, was in zip(lines, before)]
+    access = {True: AFTER // 1000, False: 1}
+    gaps = [BEFORE_CALL if it.text else access[was] for it, was in zip(lines, before)]
     time = now - sum(gaps) - BEFORE_CALL
     for it in gaps:
         time += it

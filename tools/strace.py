@@ -12,6 +12,8 @@ from typing import NoReturn
 
 from shared.saying import Refused, lines_of, name_of, printable
 
+import chains
+
 # the number of the thread in a log without numbers
 ALONE = 0
 DAY = 24 * 3600 * 10**9
@@ -32,7 +34,7 @@ SIGNAL = re.compile(r"--- .* ---")
 @dataclasses.dataclass(slots=True)
 class Call:
     """A call: its words as they stand between the brackets, the time at which it began, and the
-    kernel's answer; none where it never returned.
+    kernel's answer; none where it never returned. `chain` has the lines of those who called it.
     """
 
     thread: int
@@ -41,6 +43,7 @@ class Call:
     time: int
     place: str
     answer: str = ""
+    chain: list[str] = dataclasses.field(default_factory=list)
 
     def __str__(self):
         return f"{self.name}({self.words}) = {self.answer}"
@@ -88,8 +91,14 @@ class Reader:
         raise Refused(f"{self.file}, line {number}: {why}")
 
     def steps(self) -> list[Step]:
-        found = (self.step(number, line) for number, line in enumerate(lines_of(self.file), 1))
-        return [it for it in found if it]
+        found: list[Step] = []
+        for number, line in enumerate(lines_of(self.file), 1):
+            if not chains.is_of_strace(line):
+                step = self.step(number, line)
+                found += [step] if step else []
+            elif found and found[-1].call:
+                found[-1].call.chain.append(line)
+        return found
 
     def step(self, number: int, line: str) -> Step | None:
         """What a line says; None where it is a signal."""

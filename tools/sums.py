@@ -1,4 +1,5 @@
 """What the replies of a run sum up to: for each process, and in all."""
+import collections
 import dataclasses
 from typing import Iterable
 
@@ -45,38 +46,46 @@ class Counts:
     def __init__(self, asks_marks: bool):
         self.rows: dict[str, Sums] = {}
         # how often each note was told, by row
-        self.told: dict[str, dict[str, int]] = {}
+        self.told: dict[str, collections.defaultdict[str, int]] = {}
         self.bits = Bits(asks_marks)
+
+    def begin(self, whose: str) -> Sums:
+        """A row that wasn't there."""
+        self.told[whose] = collections.defaultdict(int)
+        return self.rows.setdefault(whose, Sums())
 
     def take(self, words: list[str], answer: str, notes: Notes) -> Sums:
         """Counts a command, and gives the row in which it is."""
         name = words[0]
         whose = NONE if name in OF_NONE else words[1]
-        row = self.rows.get(whose)
-        if row is None:
-            row, self.told[whose] = self.rows.setdefault(whose, Sums()), {}
-        is_fault = False
+        row, is_fault = self.rows.get(whose) or self.begin(whose), False
         if notes:
             told = self.told[whose]
             for it in notes:
-                told[it[0]] = told.get(it[0], 0) + 1
+                told[it[0]] += 1
                 is_fault = is_fault or it[0] in AT_FAULTS
-        if (notes or name != "read") and name in self.bits.does:
-            reused = self.bits.does[name](words, answer, notes)
-            if reused:
-                row.reused, is_fault = row.reused + len(reused), True
         if name in ACCESSES:
             row.accesses += 1
-            row.faults += is_fault
-        if answer.startswith(OUT_OF_MEMORY):
+            # (most accesses change nothing)
+            if notes or name == "write" and not answer.startswith("err "):
+                row.faults += self.reuse(row, words, answer, notes) or is_fault
+        elif name in self.bits.does:
+            self.reuse(row, words, answer, notes)
+        if answer != "ok" and answer.startswith(OUT_OF_MEMORY):
             row.oom += 1
         return row
+
+    def reuse(self, row: Sums, words: list[str], answer: str, notes: Notes) -> bool:
+        """Whether a write bit came back to a page."""
+        reused = self.bits.does[words[0]](words, answer, notes)
+        row.reused += len(reused)
+        return bool(reused)
 
     def found(self) -> dict[str, Sums]:
         """The rows, with that of all."""
         for whose, told in self.told.items():
             for note, column in COLUMNS.items():
-                setattr(self.rows[whose], column, told.get(note, 0))
+                setattr(self.rows[whose], column, told[note])
         return self.rows | {ALL: sum(self.rows.values(), Sums())}
 
 

@@ -13,13 +13,13 @@ import errno
 import os
 import tempfile
 import time
-from typing import TYPE_CHECKING, Iterator
+from typing import TYPE_CHECKING, Iterable, Iterator
 
 from shared.saying import Refused
 
 import swapfile
-from frames import Cut, Frames, slot_text
-from looking import WRITEBACK, alone, slot_of, unbroken
+from frames import BY_ITSELF, Frames, slot_text
+from looking import WRITEBACK, Cut, alone, slot_of, unbroken
 from proc import Area
 from ranges import PAGE
 from shift import NotAsked
@@ -33,6 +33,7 @@ PAGEOUT, PREFER, FIRST = 21, 0x8000, 32767
 PAGES, PATIENCE = 1024, 20
 UNREADABLE = "no process can read one of its frames, which so can't be kept as seen"
 NOTHING = "there is no frame to send out"
+OTHER_AREA = "pages went to another swap area"
 
 
 def libc_call(name: str, *of: object) -> None:
@@ -132,12 +133,16 @@ class Swapping:
             if it != out.get(was, was):
                 raise Cut("a frame went out in part, or moved meanwhile")
         if set(out) - victims:
-            raise Cut("a page went to swap by itself")
-        kinds = {slot_of(it)[0] for it in out.values()} | {self.kind} - {-1}
-        if len(kinds) > 1:
-            raise Cut("pages went to another swap area")
-        self.kind = max(kinds, default=-1)
+            raise Cut(BY_ITSELF)
+        self.check_area(out.values())
         return out
+
+    def check_area(self, slots: Iterable[int]) -> None:
+        """Whether it is the file where pages went. (Others may swap, too, and fill it.)"""
+        kinds = {slot_of(it)[0] for it in slots} | {self.kind} - {-1}
+        if len(kinds) > 1 or any(slot_of(it)[1] >= PAGES for it in slots):
+            raise Cut(OTHER_AREA)
+        self.kind = max(kinds, default=-1)
 
     # ---- what is told of it
 

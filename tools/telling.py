@@ -7,9 +7,9 @@ import collections
 import os
 from typing import Iterator, NamedTuple
 
-from frames import All, Cut, Frames, TooMany, may_touch
+from frames import All, Frames, TooMany, may_touch
 from kernel import CALLS, NO_FRAMES, Kernel
-from looking import Looker, drain
+from looking import Cut, Looker, drain
 from merging import Merging
 from proc import Area, row_of
 from ranges import PAGE, up
@@ -234,7 +234,7 @@ class Telling:
         if not self.kernel.ranges(self.kernel.process(number)).within(page, page + 1):
             self.add(words, ["err EFAULT"])
             return
-        it = self.frames.now[number].get(page, 0)
+        it = self.entry(number, page)
         if it > 0:
             self.counts["seen"] += words[0] == "entry"
             self.add(["rmap", *words[1:]], self.walk(it))
@@ -249,22 +249,33 @@ class Telling:
             return "empty"
         return "zero" if it == 0 else Swapping.shown(self.frames, it)
 
-    def walk(self, frame: int) -> list[str]:
-        """The reply to `rmap`. The kernel's own count of the entries has to be the same."""
+    def entry(self, number: str, page: int) -> int:
+        """What stands for a page. A frame has as many entries as the kernel itself counts: where it
+        hasn't, something changed behind the line, and is told as it is now.
+        """
+        frames = self.frames
         for _ in range(TRIES):
-            rows = self.frames.walk(frame)
-            count = self.frames.looker.count(frame)
+            it = frames.now[number].get(page, 0)
+            if it <= 0:
+                return it
+            walked, count = len(frames.walk(it)), frames.looker.count(it)
             # (a merged frame may be that of a process beside the trace, too)
-            if count == len(rows) or count > len(rows) and self.frames.is_merged(frame):
-                head = f"frame {self.frames.numbers[frame]} maps {len(rows)}"
-                return [head, *(f"{number} {page:x}" for number, page in rows)]
+            if count == walked or count > walked and frames.is_merged(it):
+                return it
+            frames.look_again(self.look())
         raise Cut(
-            f"/proc/kpagecount names {count} entries of frame {self.frames.numbers[frame]}, and "
-            f"the processes of the trace have {len(rows)}"
+            f"/proc/kpagecount names {count} entries of frame {frames.numbers[it]}, and the "
+            f"processes of the trace have {walked}"
         )
 
+    def walk(self, frame: int) -> list[str]:
+        """The reply to `rmap`."""
+        rows = self.frames.walk(frame)
+        head = f"frame {self.frames.numbers[frame]} maps {len(rows)}"
+        return [head, *(f"{number} {page:x}" for number, page in rows)]
+
     def question(self, number: str, page: int, is_mapped: bool) -> None:
-        it = self.frames.now[number].get(page, 0)
+        it = self.entry(number, page)
         where = [number, f"{page:x}"]
         if it > 0:
             self.add(["rmap", *where], self.walk(it), True)

@@ -13,7 +13,7 @@ from typing import Any, Iterator
 from shared.saying import Refused, count_of, name_of, read
 
 from bits import asks_marks
-from labels import FIRST_ONES
+from labels import said_of_accesses
 
 REFERENCE = os.path.join(os.path.dirname(os.path.realpath(__file__)), "..", "docs", "REFERENCE.md")
 # what the letters of a form stand for; any other word behind a note's name is a cause
@@ -73,15 +73,14 @@ def parts_of(command: str, reply: str) -> tuple[list[str], str, list[list[str]]]
 
 class Beside:
     """The steps of a trace and a transcript, one after the other. `asks_marks` says whether one has
-    to know what its calls say of pages, `has_first_ones` whether its accesses are first ones.
+    to know what its calls say of pages.
     """
 
     def __init__(self, trace: str, transcript: str):
         self.trace, self.transcript, self.count = trace, transcript, 0
-        text = read(trace)
-        self.lines, self.commands = commands_of(text)
-        self.asks_marks = asks_marks(text)
-        self.has_first_ones = f"\n# {FIRST_ONES}\n" in text[:4096]
+        self.text = read(trace)
+        self.lines, self.commands = commands_of(self.text)
+        self.asks_marks = asks_marks(self.text)
 
     def __iter__(self) -> Iterator[Step]:
         try:
@@ -106,8 +105,15 @@ class Beside:
             f"{self.lines[self.count - 1]} of {self.trace}: are they of one run?"
         )
 
-    def check_end(self) -> None:
-        """Says where the transcript ends before the trace does."""
+    def end(self, tool: str, has_gone_out: bool) -> None:
+        """What a tool says in the end: that the trace has first accesses alone, where a page has
+        gone out, and where the transcript ends before the trace does.
+        """
+        sys.stdout.flush()
+        head = [it[2:] for it in self.text[:4096].split("\n") if it.startswith("# ")]
+        said = said_of_accesses(head, has_gone_out)
+        if said:
+            print(f"{tool}: {said}", file=sys.stderr)
         if self.count < len(self.commands):
             raise Refused(
                 f"{name_of(self.transcript)} ends before line {self.lines[self.count]} of "

@@ -5,11 +5,15 @@ from shared.saying import Refused, count_of, printable
 
 from check import NONE
 from judging import Finding, Verdict, files_of
+from looking import MOST_PAGES
+from ranges import PAGE
 from rows import Row
 from swapping import PAGES
 
 # lines of a reply that are shown at most
 MOST_ROWS = 8
+# the status where all that was told is legal, and the trace was cut short
+IN_PART = 3
 COUNTS = {
     "moved": "kept their numbers: {} frames that the kernel moved meanwhile, as compaction does",
     "mended": "read: {} pages of zeros that a fork didn't give the child (docs/LINUX.md, "
@@ -17,6 +21,10 @@ COUNTS = {
     "not drained": "not drained: the CPUs' lists, {} times, so that any write may copy",
     "seen": "told as rmap: {} entry: no file shows whether an entry was seen",
 }
+NO_SCAN = (
+    "this kernel has no PAGEMAP_SCAN, which came with 6.7: all is judged, up to where a process "
+    f"maps more than {MOST_PAGES * PAGE >> 30} GiB"
+)
 NO_FRAMES = (
     "frames are shown to CAP_SYS_ADMIN alone: judged are replies, bytes, maps and areas, with "
     "avsim's own notes; which frame a page has, and whether a write copied it, isn't seen"
@@ -43,12 +51,12 @@ def tell(verdict: Verdict, has_frames: bool, out: str) -> int:
         tell_finding(finding, told)
     lines = {it.line for it in telling.told if not it.is_added}
     what = f"{count_of(len(telling.told), 'reply', 'replies')} to {count_of(len(lines), 'line')}"
-    legal = "not legal" if verdict.illegal else "legal"
-    print(f"Linux {os.uname().release}: {what} judged: {legal}")
+    print(f"Linux {os.uname().release}: {what} judged: {word_for(verdict)}")
     if verdict.left_out:
         print(f"left out, and begun anew: {count_of(len(verdict.left_out), 'line')}, by these rows")
     if verdict.again:
-        print(f"tried again: {count_of(verdict.again, 'time')}, for a reply that no row explains")
+        again = count_of(verdict.again, "time")
+        print(f"tried again: {again}: no row explained a reply, or the trace was cut short")
     for why, names in telling.passed.items():
         print(f"not told: {', '.join(f'{names[it]} {it}' for it in names)}: {why}")
     for name, text in COUNTS.items():
@@ -59,9 +67,19 @@ def tell(verdict: Verdict, has_frames: bool, out: str) -> int:
         print(f"not told from line {telling.line} on: {telling.cut}")
     if not has_frames:
         print(NO_FRAMES)
+    elif telling.frames and not telling.frames.looker.can_scan:
+        print(NO_SCAN)
     if out:
         write(verdict, out)
-    return 1 if verdict.illegal else 0
+    if verdict.illegal:
+        return 1
+    return IN_PART if telling.cut else 0
+
+
+def word_for(verdict: Verdict) -> str:
+    if verdict.illegal:
+        return "not legal"
+    return "legal, as far as it was told" if verdict.telling.cut else "legal"
 
 
 def write(verdict: Verdict, out: str) -> None:

@@ -38,11 +38,9 @@ def commands_of(text: str) -> list[Command]:
     return found
 
 
-def said_of_head(commands: list[Command], frames: int) -> str:
-    """What is said of a run with so many frames, where the head of the trace says that it hasn't
-    all accesses.
-    """
-    return said_of_accesses(commands[0].comment, frames) if commands else ""
+def head_of(commands: list[Command]) -> list[str]:
+    """The comments in the head of a trace."""
+    return commands[0].comment.split("\n") if commands else []
 
 
 def replies_of(transcript: str) -> list[list[str]]:
@@ -348,8 +346,7 @@ def data_of(
             f"from line {wrong} on notes tell otherwise than `entry` or `slot` does: "
             "that is a fault, please tell"
         )
-    if run.has_note("put"):
-        said.append(said_of_head(run.commands, frames))
+    said.append(said_of_accesses(head_of(run.commands), run.has_note("put"), frames))
     if lost:
         said.append(f"from line {lost} on not all entries are known: they are drawn as ?")
     return {

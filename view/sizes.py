@@ -20,6 +20,7 @@ from shared.saying import Refused
 
 import making
 from bits import asks_marks
+from labels import said_of_accesses
 from ranges import PAGE
 from sums import ALL, Counts, Sums
 from swapfile import MOST_FILES, MOST_FRAMES, MOST_PAGES, Machine, words_of
@@ -225,7 +226,8 @@ def write(words: argparse.Namespace, commands: list[making.Command], to: str) ->
     lines, areas = lines_of(commands)
     sizes = Sizes(words.program, lines, areas).all(words.sizes)
     print("\n".join(table_of(sizes)))
-    said = making.said_of_head(commands, words.sizes[0])
+    has_gone_out = any(it.sums.put for it in sizes)
+    said = said_of_accesses(making.head_of(commands), has_gone_out, words.sizes[0])
     if said:
         print(said)
     name = "trace" if words.trace == "-" else os.path.basename(words.trace)

@@ -1,4 +1,5 @@
-"""Unit tests of what tools/record does to see later accesses, and of a process that runs already."""
+"""Unit tests of what tools/record does to see later accesses, and of processes that run already.
+"""
 import io
 import os
 import signal
@@ -257,11 +258,14 @@ class LaterAccesses(InRoom):
     def test_what_is_said(self) -> None:
         comment = accesses_comment(True, 2100)
         self.assertEqual(comment, AGAIN_ONES.format(2100))
-        head = f"a trace\n{comment}"
-        self.assertEqual(said_of_accesses(head, 2100), "")
-        self.assertIn("below 2100 are told too low", said_of_accesses(head, 2099))
-        self.assertEqual(said_of_accesses(FIRST_ONES, 9999), SAID_OF_FIRST_ONES)
-        self.assertEqual((accesses_comment(False, 0), said_of_accesses("", 1)), ("", ""))
+        head = ["a trace", comment]
+        self.assertEqual(said_of_accesses(head, True, 2100), "")
+        for frames in (2099, 0):
+            said = said_of_accesses(head, True, frames)
+            self.assertIn("below 2100 are told too low", said)
+        self.assertEqual(said_of_accesses(head, False, 5), "")
+        self.assertEqual(said_of_accesses([FIRST_ONES], True, 9999), SAID_OF_FIRST_ONES)
+        self.assertEqual((accesses_comment(False, 0), said_of_accesses([], True)), ("", ""))
 
 
 def areas(*rows: tuple[int, int, Kind]) -> Ranges:

@@ -7,14 +7,18 @@ import unittest
 
 from shared.saying import Refused, count_of, lines_of, printable
 
+import chains
 import swapfile
 from calls import Mapped, address_of, kind_of, protection_of
-from faults import most_common, read_faults
+from faults import most_common, read_faults, with_chains
 from frames import Frames, TooMany
-from labels import is_label, mapping_of, process_of
+from grain import coarse
+from labels import caller_of, is_label, mapping_of, process_of
 from lackey import names_of, number_of
-from looking import IN_SWAP_CACHE
+from looking import IN_SWAP_CACHE, MAPPED, Cut
 from marks import Marks
+from memory import Command
+from payers import folded, payers_of, rows_of
 from peak import Peak
 from proc import Area
 from ranges import Ranges, up
@@ -53,7 +57,8 @@ class Labels(unittest.TestCase):
         self.assertEqual(process_of(comment), (6, "redis-cli"))
         self.assertEqual(process_of("process 6: a (b)"), (6, "a"))
         self.assertEqual(mapping_of("mapping: libc.so.6"), "libc.so.6")
-        for it in ("process 6 has two pages", "a mapping: x", "", "process 6:"):
+        self.assertEqual((caller_of("by: main;f"), is_label("by: main")), ("main;f", True))
+        for it in ("process 6 has two pages", "a mapping: x", "", "process 6:", "x by: y"):
             self.assertFalse(is_label(it))
 
 
@@ -286,13 +291,16 @@ class Shifts(unittest.TestCase):
 
 
 class SeenFrames:
-    """What a kernel would show of frames: those that the swap cache has."""
+    """What a kernel would show of frames: those that the swap cache has, and those that others map.
+    """
 
     def __init__(self) -> None:
         self.cached: set[int] = set()
+        self.others: set[int] = set()
 
     def flags(self, frame: int) -> int:
-        return IN_SWAP_CACHE if frame in self.cached else 0
+        flags = IN_SWAP_CACHE if frame in self.cached else 0
+        return flags | (MAPPED if frame in self.others else 0)
 
 
 class Notes(unittest.TestCase):
@@ -346,6 +354,47 @@ class Notes(unittest.TestCase):
         self.assertEqual(self.frames.cached, {slot: 78})
         self.looker.cached = set()
         self.assertEqual(self.told("write 1 20000 02", {"1": {0x20000: 78}}), ["drop 0:5"])
+
+    def test_a_free_frame_may_be_in_the_cache_for_others(self) -> None:
+        self.told("write 1 20000 01", {"1": {0x20000: 77}})
+        self.frames.now, slot = {"1": {0x20000: -(5 << 5) - 1}}, -(5 << 5) - 1
+        self.frames.cached, self.looker.cached = {slot: 77}, {77}
+        self.assertEqual(self.frames.lost_slots({"1": {}}), set())
+        self.looker.others = {77}
+        self.assertEqual(self.told("munmap 1 20000 4096", {"1": {}}), ["drop 0:5"])
+
+    def test_what_the_cache_gave_up_is_read_again(self) -> None:
+        slot = -(5 << 5) - 1
+        for several, cached, notes in (
+            (False, {88}, ["map 1 20000 0"]),
+            (False, set(), ["map 1 20000 0", "drop 0:5"]),
+            (True, {88}, ["map 1 20000 0"]),
+            (True, set(), ["map 1 20000 0", "copy 1 20000 1"]),
+        ):
+            self.setUp()
+            self.told("write 1 20000 01", {"1": {0x20000: 77}})
+            others = {"2": {0x20000: slot}} if several else {}
+            self.frames.now = {"1": {0x20000: slot}, **others}
+            self.frames.cached, self.looker.cached = {slot: 77}, cached
+            given = self.told("write 1 20000 02", {"1": {0x20000: 88}, **others})
+            self.assertEqual(given, notes)
+
+    def test_what_changes_by_itself_has_no_note(self) -> None:
+        self.told("write 1 20000 01", {"1": {0x20000: 77}})
+        self.frames.look_again({"1": {0x20000: 78}})
+        self.assertEqual(self.frames.numbers, {78: 0})
+        self.frames.look_again({"1": {0x21000: 79}})
+        self.assertEqual(self.frames.numbers, {79: 1})
+        with self.assertRaises(Cut):
+            self.frames.look_again({"1": {0x21000: -(5 << 5) - 1}})
+
+    def test_a_frame_that_the_cache_gave_up_may_be_a_new_one(self) -> None:
+        self.told("write 1 20000 01", {"1": {0x20000: 77}})
+        slot = -(5 << 5) - 1
+        self.frames.now, self.frames.cached = {"1": {0x20000: slot}}, {slot: 77}
+        after = {"1": {0x20000: slot, 0x21000: 77}}
+        self.assertEqual(self.told("write 1 21000 01", after), ["new 1 21000 1"])
+        self.assertEqual(sorted(self.frames.numbers.values()), [0, 1])
 
     def test_a_page_that_others_have_in_swap_is_copied(self) -> None:
         slot = -(5 << 5) - 1
@@ -423,6 +472,116 @@ class Summed(unittest.TestCase):
         lines[-3:] = [("mlock 1 20000 8192", "ok"), ("write 1 20fff 0102", "ok")]
         one = sums_of(steps_of(lines))["1"]
         self.assertEqual((one.accesses, one.faults, one.reused), (2, 1, 1))
+
+
+class Paid(unittest.TestCase):
+    """Who pays."""
+
+    COMMANDS = [("swapon 0", "on 7 0"), ("spawn 1", "ok"),
+                ("mmap 1 8192 rw-", "map 20000"), ("mmap 1 4096 rw-", "map 30000"),
+                ("write 1 20000 01", "ok / new 1 20000 0"),
+                ("write 1 30000 01", "ok / new 1 30000 1"), ("fork 1 2", "ok"),
+                ("write 2 20000 01", "ok / copy 2 20000 2"), ("write 1 20000 01", "ok"),
+                ("compact", "ok / move 2 3"),
+                ("reclaim 1", "ok / put 3 0:1 / unmap 3 / start 0:1"),
+                ("complete 1", "ok / done 0:1 / drop 0:1"),
+                ("mremap 2 20000 4096 4096 fixed 50000", "map 50000"),
+                ("read 2 50000 1", "data 01 / load 0:1 2 / map 2 50000 2"),
+                ("read 2 51000 1", "oom 0 / load 0:2 3")]
+    ABOVE = {2: "# mapping: heap", 4: "# by: main;f", 7: "# by: main;g", 13: "# by: main;h;f"}
+
+    def paid(self, by: str) -> dict:
+        lines = (f"{self.ABOVE.get(at, '#')}\n{it[0]}" for at, it in enumerate(self.COMMANDS))
+        return payers_of(steps_of(self.COMMANDS), "\n".join(lines), by, False)
+
+    def test_by_mapping(self) -> None:
+        rows = rows_of(self.paid("mapping"))
+        wanted = {"heap": [0, 1, 1, 1, 1, 1], "30000-31000": [0, 1, 0, 0, 0, 0],
+                  "-": [0, 0, 0, 0, 1, 0]}
+        self.assertEqual({it: [*row.values()] for it, row in rows.items()}, wanted)
+
+    def test_by_caller(self) -> None:
+        paid = self.paid("caller")
+        rows = rows_of(paid)
+        self.assertEqual([*rows["f"].values()], [0, 1, 0, 0, 1, 0])
+        self.assertEqual([*rows["g"].values()], [0, 0, 1, 0, 0, 1])
+        found = folded(paid, "new", {"1": "prog"})
+        self.assertEqual(found, ["prog;- 1", "prog;main;f 1"])
+
+
+class Chained(unittest.TestCase):
+    """Call chains."""
+
+    def test_functions(self) -> None:
+        for line, wanted in (
+            ("\t  1139 main+0x10 (/srv/a)", "main"), ("\t  1139 std::f(int; x) (/srv/a b)",
+             "std::f(int: x)"), ("\t  7f11 [unknown] (/lib/libc.so.6)", "[libc.so.6]"),
+            ("\t  7f11 [unknown] ([unknown])", ""), (" > /bin/a(main+0x1f) [0x1]", "main"),
+            (" > /bin/a() [0x1]", "[a]"), (" > unexpected_backtracing_error [0x1]", ""),
+        ):
+            self.assertEqual(chains.function_of(line), wanted)
+        lines = [f"\t {it} f{it} (a)" for it in range(99)]
+        self.assertEqual(chains.joined(lines).split(";")[:1], [f"f{chains.MOST - 1}"])
+
+    def test_lines_go_with_the_fault_above(self) -> None:
+        lines = ["# x", "a", "\t 1 f (b)", "", "\t 2 g (b)", "c"]
+        self.assertEqual([*with_chains(lines)], [(2, "a", [lines[2], lines[4]]), (6, "c", [])])
+
+
+class Coarse(unittest.TestCase):
+    """A trace at a coarser grain."""
+
+    def coarse(self, *lines: str) -> list[str]:
+        """The lines behind the first one, of pages of 16 KiB."""
+        fine = [Command(it.removesuffix(" refused"), "segv 0" if " refused" in it else "ok", "", "")
+                for it in ("spawn 1", *lines)]
+        return [it.line for it in coarse(fine, 4)][1:]
+
+    def test_neighbours_share_a_page(self) -> None:
+        found = self.coarse("mmap 1 4096 r-- fixed 20000", "mmap 1 8192 -w- fixed 21000",
+                            "write 1 21010 01", "munmap 1 20000 4096", "munmap 1 21000 8192")
+        self.assertEqual(found, ["mmap 1 4096 r-- fixed 8000", "mprotect 1 8000 4096 rw-",
+                                 "write 1 8404 01", "mprotect 1 8000 4096 -w-",
+                                 "munmap 1 8000 4096"])
+
+    def test_a_page_is_another_where_all_of_it_is_mapped_anew(self) -> None:
+        first = "mmap 1 32768 rw- fixed 20000"
+        found = self.coarse(first, "mmap 1 16384 r-- fixed 22000", "mmap 1 24576 rw- fixed 22000")
+        self.assertEqual(found, ["mmap 1 8192 rw- fixed 8000", "mmap 1 4096 rw- fixed 9000"])
+        found = self.coarse(first, "madvise 1 22000 24576 dontneed", "mlock 1 21000 4096")
+        self.assertEqual(found[1:], ["madvise 1 9000 4096 dontneed"])
+
+    def test_what_moves_is_written_where_it_comes(self) -> None:
+        found = self.coarse("mmap 1 32768 rw- fixed 20000", "write 1 25000 01",
+                            "mremap 1 20000 32768 32768 fixed 41000", "write 1 0 01 refused")
+        self.assertEqual(found[2:], ["munmap 1 8000 8192", "mmap 1 12288 rw- fixed 10000",
+                                     "write 1 11400 01"])
+
+    def test_a_child_has_no_page_that_is_kept_back(self) -> None:
+        found = self.coarse("mmap 1 16384 rw- fixed 20000", "madvise 1 20000 8192 dontfork",
+                            "madvise 1 22000 8192 dontfork", "fork 1 2", "exit 1")
+        self.assertEqual(found[1:], ["fork 1 2", "munmap 2 8000 4096", "exit 1"])
+
+    def test_random_ranges(self) -> None:
+        pick, fine = random.Random(7), {}
+        lines = ["spawn 1"]
+        for _ in range(400):
+            start, count = pick.randrange(64), pick.randrange(1, 24)
+            prot = pick.choice(("r--", "rw-", "---", ""))
+            fine |= {page: prot for page in range(start, start + count)}
+            at, length = f"{start * PAGE:x}", count * PAGE
+            lines.append(f"mmap 1 {length} {prot} fixed {at}" if prot else f"munmap 1 {at} {length}")
+        shown = {}
+        for line in (it.line.split(" ") for it in coarse(
+                [Command(it, "ok", "", "") for it in lines], 4)[1:]):
+            first = int(line[-1] if line[0] == "mmap" else line[2], 16) // PAGE
+            length = int(line[2] if line[0] == "mmap" else line[3])
+            prot = {"mmap": line[3], "mprotect": line[-1], "munmap": ""}[line[0]]
+            shown |= {page: prot for page in range(first, first + length // PAGE)}
+        for page in range(22):
+            its = [fine.get(it, "") for it in range(4 * page, 4 * page + 4)]
+            wanted = "".join(max(it) for it in zip(*filter(None, its)))
+            self.assertEqual(shown.get(page, ""), wanted)
 
 
 class Marked(unittest.TestCase):

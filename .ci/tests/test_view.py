@@ -176,7 +176,8 @@ class Text(unittest.TestCase):
 
     def test_a_trace(self) -> None:
         commands = making.commands_of("# one\nspawn 1\nmaps 1\n")
-        run = types.SimpleNamespace(commands=commands, replies=[["ok"], ["runs 0"]], said="")
+        run = types.SimpleNamespace(commands=commands, replies=[["ok"], ["runs 0"]], said="",
+                                    has_note=lambda _: False)
         wanted = ["# one", "spawn 1  | ok", "maps 1   | runs 0"]
         self.assertEqual(list(side_by_side(run, 80)), wanted)
         marked = list(side_by_side(run, 80, 1))

@@ -56,6 +56,7 @@ impl<T: Copy + Drop, S: Copy + Drop> Arena<T, S> {
 
     /// Puts an entry, as a node without sides, under a number that is not in use. Without memory
     /// all stays, and where 2^32 numbers are in use, too.
+    #[inline(always)]
     pub fn add_leaf(&mut self, entry: T) -> Result<u32, AllocError>
         ensures unused { IfOk result (λ number. store_of self.old number ≡ None) }
         ensures added { IfOk result

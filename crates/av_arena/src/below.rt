@@ -59,8 +59,7 @@ pub fn settle<T: Entry>(arena: &mut Arena<T, T::Sum>, number: u32) -> Link<T::Su
 }
 
 /// What becomes of such a node by a rotation: another node is the root.
-#[cold]
-#[inline(never)]
+#[inline(always)]
 fn rotate<T: Entry>(arena: &mut Arena<T, T::Sum>, number: u32) -> Link<T::Sum>
     requires node { IsUnsettled T.key T.unit T.op T.of 2 (store_of arena.old) number }
     requires uneven { IsLevelAt T.key T.unit T.op T.of (store_of arena.old) number false }
@@ -138,7 +137,6 @@ fn lift<T: Entry>(arena: &mut Arena<T, T::Sum>, number: u32, high: u32, side: Si
 }
 
 /// Settles a side of a node, whose root is `child`, by a rotation.
-#[cold]
 #[inline(never)]
 fn turn_side<T: Entry>(arena: &mut Arena<T, T::Sum>, number: u32, child: u32, side: Side) -> bool
     requires child { IsUnsettled T.key T.unit T.op T.of 2 (store_of arena.old) child }
@@ -183,7 +181,7 @@ fn settle_side<T: Entry>(arena: &mut Arena<T, T::Sum>, number: u32, child: u32, 
 }
 
 /// Puts a node without sides on a side of another, where there is none.
-#[inline(never)]
+#[inline(always)]
 fn hang<T: Entry>(arena: &mut Arena<T, T::Sum>, number: u32, new: u32, entry: &T, side: Side)
     requires used { IsSome (store_of arena.old number) }
     requires empty { child_number side (store_of arena.old number) ≡ None }

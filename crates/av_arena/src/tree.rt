@@ -168,6 +168,7 @@ fn with_left<T: Entry>(
 
 /// The tree with the node `number`, which is in use and not in it, for the entry. Each other entry
 /// keeps its number.
+#[inline(always)]
 pub fn place<T: Entry>(
     arena: &mut Arena<T, T::Sum>,
     tree: Option<Link<T::Sum>>,

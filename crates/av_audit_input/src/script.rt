@@ -53,7 +53,7 @@ impl Script {
 
 /// Makes `command` what the first line of a script's text says, or nothing where there is no line;
 /// and gives how many bytes the line takes. The bytes of a write take the room of `spare`.
-pub fn read_command(
+pub fn first_command(
     alloc: Global,
     text: &[u8],
     spare: &mut Bytes,

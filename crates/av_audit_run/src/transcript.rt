@@ -16,7 +16,7 @@ ghost use Rattle.av_audit_run.specs.Transcript.{AuditStops, Audits, BreaksOff, J
 
 use av_audit::{Auditor, Verdict};
 use av_audit_book::Machine;
-use av_audit_input::{Extent, InputErr, Script, read_command, read_trace, read_unit};
+use av_audit_input::{Extent, InputErr, Script, first_command, read_trace, read_unit};
 use av_ports::{Pending, Ports};
 use av_text::Bytes;
 use std::alloc::Global;
@@ -82,7 +82,7 @@ fn judge_all<P: Ports>(
         if !read_unit(ports, pending, extent, unit)? {
             return Ok(Finding::Illegal(number));
         }
-        let size = read_command(alloc, rest, &mut spare, &mut command)?;
+        let size = first_command(alloc, rest, &mut spare, &mut command)?;
         rest = behind(rest, size);
         let Some(next) = &command else {
             // The unit comes behind the last command.

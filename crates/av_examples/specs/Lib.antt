@@ -4,6 +4,8 @@ pub mod Frames
 pub mod History
 pub mod Locks
 pub mod Merging
+pub mod Sound
+pub mod Stands
 pub mod Texts
 pub mod Views
 pub mod Words

@@ -18,8 +18,8 @@ ghost use Rattle.av_examples.specs.Views.{
   writable,
 };
 
-/// Each list of frames is compared with its own, and it and the slots in flight have their order. Of
-/// an anon_vma its root and its parent are compared.
+/// Each list of frames is compared with its own, and it and the slots in flight have their order.
+/// Of an anon_vma its root and its parent are compared.
 pub fn views_are_compared_in_order()
     ensures each_its_own { ListsStand two_shown two_of_each }
     ensures active { ListsStand both_active active_otherwise → ⊥ }

@@ -1,11 +1,12 @@
 -- What is shown of the frames: a free list, and for each frame its bytes, how many entries name it,
 -- its home, the slot at which it is cached, and whether it is dirty.
-use Rattle.std.specs.Prelude.{◌≡◌, ℕ, ◌+◌, ◌-◌, ◌^◌, ◌<◌, ◌≤◌, Bool, true, false, ◌==◌}
+use Rattle.std.specs.Prelude.{◌≡◌, ℕ, ◌-◌, ◌^◌, ◌<◌, Bool, false}
 use Rattle.std.specs.Prelude.{if◌then◌else◌, List, [], ◌∷◌, length, slice_index, slice_index_or}
 use Rattle.std.specs.Prelude.{Option, None, Some, filter}
 use Rattle.av_base.specs.declared.slot.Slot.{Slot}
-use Rattle.av_base.specs.Words.{how_many, is_in, with_at, within, without}
+use Rattle.av_base.specs.Words.{is_in, with_at, within, without}
 use Rattle.std.specs.List.{range_with_len}
+use Rattle.av_frames.specs.Free.{FreeFrames}
 
 -- the value of `Frames`: a value has to be data, so each is a list by frame
 pub record Store : Type 0 where
@@ -92,23 +93,12 @@ relocated from to s = record s {
 abbrev pub free_in_order : Shown → List ℕ
 free_in_order s = filter (λ f. is_in f s.free) (range_with_len 0 s.count)
 
--- the test that a flag stands
-abbrev pub itself : Bool → Bool
-itself b = b
-
--- the lists of `Frames` fit together: one item for each frame, room in the free list for all, and a
--- flag for each frame in use
-pub record IsWhole (frees : List ℕ) (frees_len frees_room : ℕ) (pages : List (List ℕ))
-    (flags : List Bool) (counts : List ℕ) (owners : List (Option (ℕ × ℕ))) (marks : List Bool)
-    (places : List (Option Slot)) : Type 0 where
+-- the lists of `Frames` fit together: one item for each frame
+pub record IsWhole (frees : FreeFrames) (pages : List (List ℕ)) (counts : List ℕ)
+    (owners : List (Option (ℕ × ℕ))) (marks : List Bool) (places : List (Option Slot)) : Type 0 where
   pub few : length pages < 2 ^ 32
-  pub used : length flags ≡ length pages
+  pub free : frees.count ≡ length pages
   pub maps : length counts ≡ length pages
   pub homes : length owners ≡ length pages
   pub dirty : length marks ≡ length pages
   pub slots : length places ≡ length pages
-  pub len : frees_len ≡ length frees
-  pub room : length pages ≤ frees_room
-  -- each frame is used or stands once in the free list
-  pub total : length frees + how_many itself flags ≡ length pages
-  pub once : (f : ℕ) → how_many (λ g. f == g) frees ≡ (if slice_index_or flags f true then 0 else 1)

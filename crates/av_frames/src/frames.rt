@@ -1,31 +1,26 @@
 //! The frames: their bytes, and what is kept of each.
 
 ghost use Rattle.std.specs.Prelude.{◌≡◌, ℕ, ◌+◌, ◌<◌, ◌≤◌, ◌^◌, ◌-◌, ◌∷◌, ◌==◌, [], length};
-ghost use Rattle.std.specs.Prelude.{slice_index, MatchOption, IfOk, true, false, replicate, not};
-ghost use Rattle.std.specs.Prelude.{filter, is_some, slice_index_or};
+ghost use Rattle.std.specs.Prelude.{slice_index, MatchOption, IfOk, true, false, replicate, is_some};
 ghost use Rattle.av_frames.specs.Store.{shown, first_of, fresh, overlaid, with_bytes, with_maps};
 ghost use Rattle.av_frames.specs.Store.{with_home, with_dirty, with_slot, relocated};
 ghost use Rattle.av_frames.specs.Store.{free_in_order};
 ghost use Rattle.av_base.specs.Page.{page_size};
 ghost use Rattle.av_base.specs.Words.{how_many, is_in, without};
-ghost use Rattle.std.specs.List.{position, range_with_len};
-ghost use Rattle.std.specs.VecDeque.{deque_len, deque_capacity};
+ghost use Rattle.std.specs.List.{range_with_len};
 
+use crate::free_list::FreeList;
 use crate::pages::Pages;
 use crate::slots::Slots;
 use av_base::Slot;
 use std::alloc::{AllocError, Global};
-use std::collections::VecDeque;
 use std::marker::Model;
 
 /// A fixed number of frames of a page each, numbered from 0. Only `new` takes memory.
 #[derive(Drop)]
 pub struct Frames {
-    /// The first is taken next. There is room for every frame, so that giving back takes no memory.
-    free: VecDeque<u32>,
+    free: FreeList,
     bytes: Pages,
-    /// Whether each frame is out of `free`, so that no one has to search it.
-    used: Vec<bool>,
     maps: Vec<u64>,
     homes: Vec<Option<(u64, u64)>>,
     dirty: Vec<bool>,
@@ -33,8 +28,6 @@ pub struct Frames {
 }
 
 impl Model for Frames {
-    ghost use Rattle.std.specs.Prelude.{length};
-    ghost use Rattle.std.specs.VecDeque.{deque_len, deque_capacity};
     ghost use Rattle.av_frames.specs.Store.{Store, IsWhole};
 
     ghost Value = { Store };
@@ -48,8 +41,8 @@ impl Model for Frames {
       slots = a.slots;
     } };
 
-    ghost invariant = { λ a. IsWhole a.free.items (deque_len a.free) (deque_capacity a.free) a.bytes
-        a.used.items a.maps.items a.homes.items a.dirty.items a.slots };
+    ghost invariant = { λ a. IsWhole a.free a.bytes a.maps.items a.homes.items a.dirty.items
+        a.slots };
 }
 
 impl Frames {
@@ -59,9 +52,8 @@ impl Frames {
     {
         let len = count as usize;
         Ok(Frames {
-            free: all_numbers(alloc, count)?,
+            free: FreeList::new(alloc, count)?,
             bytes: Pages::new(alloc, len)?,
-            used: fill(alloc, false, len)?,
             maps: fill(alloc, 0, len)?,
             homes: fill(alloc, None, len)?,
             dirty: fill(alloc, false, len)?,
@@ -77,16 +69,14 @@ impl Frames {
             × (f < (shown self.old).count) × (is_in f self.new.free ≡ false)
             × (shown self.new ≡ record (shown self.old) { free = self.new.free })) }
     {
-        let frame = self.free.pop_front()?;
-        self.used[frame as usize] = true;
-        Some(frame)
+        self.free.take()
     }
 
     /// The free frame that is taken next. None exactly where none is free.
     pub fn first(&self) -> Option<u32>
         ensures { result ≡ first_of self.now.free }
     {
-        self.free.front().copied()
+        self.free.first()
     }
 
     /// Puts a frame in front of the free ones.
@@ -95,20 +85,19 @@ impl Frames {
         requires not_free { is_in frame self.old.free ≡ false }
         ensures { shown self.new ≡ record (shown self.old) { free = frame ∷ self.old.free } }
     {
-        self.used[frame as usize] = false;
-        self.free.push_front_reserved(frame);
+        self.free.give(frame);
     }
 
     /// Moves what is kept of a frame that isn't free to one that is: bytes, how many entries name
     /// it, home, slot, and whether it is dirty. The frame is free instead, in front of the others.
-    /// It costs a look at each free frame in front of that one, and the copy of a page.
+    /// It costs the copy of a page, whatever the number of free frames.
     pub fn relocate(&mut self, from: u32, to: u32)
         requires in_range { (from < (shown self.old).count) × (to < (shown self.old).count) }
         requires not_free { is_in from self.old.free ≡ false }
         requires free { is_in to self.old.free ≡ true }
         ensures { shown self.new ≡ relocated from to (shown self.old) }
     {
-        self.take_out(to);
+        self.free.take_out(to);
         self.copy(from, to);
         self.set_home(to, self.home(from));
         self.set_dirty(to, self.dirty(from));
@@ -125,7 +114,7 @@ impl Frames {
           free = free_in_order (shown self.old);
         } }
     {
-        list_unused(&self.used, &mut self.free);
+        self.free.order();
     }
 
     fn set_maps(&mut self, frame: u32, maps: u64)
@@ -133,20 +122,6 @@ impl Frames {
         ensures { shown self.new ≡ with_maps frame maps (shown self.old) }
     {
         self.maps[frame as usize] = maps;
-    }
-
-    /// Takes a frame out from among the free ones.
-    fn take_out(&mut self, frame: u32)
-        requires in_range { frame < (shown self.old).count }
-        requires free { is_in frame self.old.free ≡ true }
-        ensures { shown self.new
-            ≡ record (shown self.old) { free = without frame self.old.free } }
-    {
-        self.used[frame as usize] = true;
-        let Some(place) = place_of(&self.free, frame) else {
-            unreachable!();
-        };
-        self.free.remove(place);
     }
 
     /// How many frames there are, free or not.
@@ -256,7 +231,7 @@ impl Frames {
         ensures in_range { (f : ℕ) → is_in f self.now.free ≡ true → f < (shown self.now).count }
         ensures within { result ≤ (shown self.now).count }
     {
-        self.free.len() as u32
+        self.free.len()
     }
 
     /// Whether a frame is free.
@@ -264,7 +239,7 @@ impl Frames {
         requires { frame < (shown self.now).count }
         ensures { result ≡ is_in frame self.now.free }
     {
-        !self.used[frame as usize]
+        self.free.has(frame)
     }
 
     /// The bytes of a frame.
@@ -313,41 +288,6 @@ impl Frames {
     }
 }
 
-/// Where a frame stands in the list of free ones. The search goes by the list's two slices: its
-/// own iterator costs several times as much a place.
-fn place_of(free: &VecDeque<u32>, frame: u32) -> Option<usize>
-    ensures { result ≡ position (λ other. frame == other) free.now.items }
-{
-    let (front, back) = free.as_slices();
-    match place_in(front, frame) {
-        Some(at) => Some(at),
-        None => Some(front.len() + place_in(back, frame)?),
-    }
-}
-
-/// Where a frame stands in a part of that list.
-fn place_in(part: &[u32], frame: u32) -> Option<usize>
-    ensures { result ≡ position (λ other. frame == other) part.now }
-{
-    part.iter().position(|other| frame == *other)
-}
-
-/// Makes a list that of the frames which aren't used, the least first.
-fn list_unused(used: &[bool], free: &mut VecDeque<u32>)
-    requires few { length used.now < 2 ^ 32 }
-    requires room { length used.now ≤ deque_capacity free.old }
-    ensures items { free.new.items ≡ filter (λ f. not (slice_index_or used.now f true))
-        (range_with_len 0 (length used.now)) }
-    ensures capacity { deque_capacity free.new ≡ deque_capacity free.old }
-{
-    free.clear();
-    for frame in 0..used.len() {
-        if !used[frame] {
-            free.push_back_reserved(frame as u32);
-        }
-    }
-}
-
 /// The same value, this many times.
 pub fn fill<T: Copy>(alloc: Global, value: T, count: usize) -> Result<Vec<T>, AllocError>
     ensures { IfOk result (λ v. v.items ≡ replicate count value) }
@@ -355,17 +295,4 @@ pub fn fill<T: Copy>(alloc: Global, value: T, count: usize) -> Result<Vec<T>, Al
     let mut values = Vec::new(alloc);
     values.resize(count, value)?;
     Ok(values)
-}
-
-/// The numbers below the count, with the room that they take.
-#[tactic(auto, using(crate::proofs::Fresh::numbers_next))]
-fn all_numbers(alloc: Global, count: u32) -> Result<VecDeque<u32>, AllocError>
-    ensures { IfOk result (λ q.
-        (q.items ≡ range_with_len 0 count) × (deque_len q ≡ count) × (count ≤ deque_capacity q)) }
-{
-    let mut numbers = VecDeque::with_capacity(alloc, count as usize)?;
-    for i in 0..count {
-        numbers.push_back(i)?;
-    }
-    Ok(numbers)
 }

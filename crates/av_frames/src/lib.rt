@@ -8,6 +8,7 @@
 #![tactic(auto)]
 
 mod frames;
+mod free_list;
 mod pages;
 mod slots;
 

@@ -28,13 +28,7 @@ pub fn zap_all(mem: &mut Mem, process: u16, notes: &mut Notes) -> Result<(), All
         notes.old notes.new) }
     ensures rest { KeepsRest mem.old mem.new }
 {
-    let mut run = [Pte::Empty; RUN];
-    let mut next = 0;
-    while let Some(page) = mem.tables.next_from(process, next) {
-        let len = mem.tables.read_run(process, page, &mut run);
-        next = page + len as u64;
-        let_go_each(mem, &run[..len], notes)?;
-    }
+    let_go_range(mem, process, 0, u64::MAX, notes)?;
     mem.tables.clear(process);
     Ok(())
 }
@@ -56,10 +50,37 @@ pub fn zap_range(
         (zaps_of l (keys_in l process from (past - from))) notes.old notes.new) }
     ensures rest { KeepsRest mem.old mem.new }
 {
+    let_go_range(mem, process, from, past, notes)?;
+    mem.tables.clear_range(process, from, past);
+    Ok(())
+}
+
+/// Lets the entries of a process's pages from `from` to below `past` go, by rising page, while the
+/// table has them still.
+fn let_go_range(
+    mem: &mut Mem,
+    process: u16,
+    from: u64,
+    past: u64,
+    notes: &mut Notes,
+) -> Result<(), AllocError>
+    requires orderly { IsOrderly mem.old }
+    ensures goes { (d : Device) (l : Ledger) → HasLedger d mem.old l →
+        OnOk result (LetsGo d mem.old mem.new (view mem.old).table l process from (past - from)
+        notes.old notes.new) }
+    ensures tables { (view mem.new).table ≡ (view mem.old).table }
+    ensures rest { KeepsRest mem.old mem.new }
+{
+    let mut run = [Pte::Empty; RUN];
     let mut next = from;
-    while let Some((page, entry)) = mem.tables.take_first(process, next, past) {
-        let_go(mem, entry, notes)?;
-        next = page + 1;
+    while let Some(page) = mem.tables.next_from(process, next) {
+        if page >= past {
+            return Ok(());
+        }
+        let read = mem.tables.read_run(process, page, &mut run);
+        let len = read.min((past - page) as usize);
+        next = page + len as u64;
+        let_go_each(mem, &run[..len], notes)?;
     }
     Ok(())
 }

@@ -17,6 +17,7 @@ use av_vmatree::Tree;
 use std::alloc::AllocError;
 
 /// Tries the boundaries before the pages `from` and `past`.
+#[inline(always)]
 pub fn join_ends(
     areas: &mut Areas,
     tree: &mut Tree,

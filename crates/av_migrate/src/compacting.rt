@@ -17,9 +17,9 @@ use std::sync::ledger::Ledger;
 /// free, until they pass each other. Then the list of free ones rises. A note of each move is
 /// added. What is locked, merged or in flight moves too.
 ///
-/// It takes the steps of the walks of the frames that move. Each frame is looked at once or twice;
-/// at each move also those free ones that stand in front of the one that is taken, and a page is
-/// copied. Of 16,384 frames, half of them free and scattered, some 4,100 move.
+/// It takes the steps of the walks of the frames that move. Each frame is looked at once or twice,
+/// and at each move a page is copied. Of 16,384 frames, half of them free and scattered, some 4,100
+/// move.
 ///
 /// Without memory part of the moves may be done.
 pub fn compact_frames<L: Ledger>(

@@ -20,8 +20,7 @@ use std::sync::ledger::Ledger;
 /// A frame in use goes over to a free one. Its entries are found by its walk alone, with exactly
 /// the steps of that; without memory for it all stays.
 ///
-/// It costs its walk, the copy of a page, and a look at each free frame in front of that one: it
-/// is taken from wherever it stands in their list.
+/// It costs its walk and the copy of a page, wherever that one stands in the list of free ones.
 pub fn move_frame<L: Ledger>(
     mem: &mut Mem,
     alloc: Global,

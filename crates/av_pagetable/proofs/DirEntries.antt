@@ -47,7 +47,7 @@ later_there x y span h same = let e : x / span * span ≡ y / span * span = ap (
     omega (arith, h, e, div-add-mod' x span, div-add-mod' y span)
 
 -- a part of a later number starts past the page
-starts_past : (x n span : ℕ) → 0 < span → x / span < n → x ≤ n * span
+pub starts_past : (x n span : ℕ) → 0 < span → x / span < n → x ≤ n * span
 starts_past x n span some h = elim (cases_lt (n * span) x) [
   | inl lt ↦ absurd (omega (arith, h, le-div n x span some (omega (arith, lt))))
   | inr ge ↦ omega (arith, ge)

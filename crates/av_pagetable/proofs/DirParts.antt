@@ -52,7 +52,7 @@ pub skipped : {C : Type 0} (xs ys : List (ℕ × C)) (p : ℕ × C) (n : ℕ) �
 skipped [] ys p n h = ap (λ b. cond b (Some p.1) (lookup (nat_eq n) ys)) (differ n p.0 h)
 skipped (x ∷ xs) ys p n h = ap (cond (nat_eq n x.0) (Some x.1)) (skipped xs ys p n h)
 
-passed : {C : Type 0} (parts ys : List (ℕ × C)) (k n : ℕ) → k ≤ length parts → AllWithin (λ part. part.0 ≢ n) parts 0 k →
+pub passed : {C : Type 0} (parts ys : List (ℕ × C)) (k n : ℕ) → k ≤ length parts → AllWithin (λ part. part.0 ≢ n) parts 0 k →
     lookup (nat_eq n) (take k parts ++ ys) ≡ lookup (nat_eq n) ys
 passed parts ys zero n h apart = refl
 passed [] ys (suc k) n h apart = absurd (omega (arith, h))
@@ -60,7 +60,7 @@ passed (x ∷ xs) ys (suc k) n h apart =
     ap (λ b. cond b (Some x.1) (lookup (nat_eq n) (take k xs ++ ys))) (differ n x.0 (λ e. apart 0 x (omega arith) (omega arith) (sym e)))
     ∙ passed xs ys k n (omega (arith, h)) (λ i d low high. apart (suc i) d (omega arith) (omega (arith, high)))
 
-missed : {C : Type 0} (parts : List (ℕ × C)) (k n : ℕ) → AllWithin (λ part. part.0 ≢ n) parts k (length parts)
+pub missed : {C : Type 0} (parts : List (ℕ × C)) (k n : ℕ) → AllWithin (λ part. part.0 ≢ n) parts k (length parts)
     → lookup (nat_eq n) (drop k parts) ≡ None
 missed [] zero n apart = refl
 missed [] (suc k) n apart = refl

@@ -1,13 +1,13 @@
 -- A frame with a mark stays unseen.
-use Rattle.std.proofs.Common.{◌≡◌, ℕ, Bool, true, false, cond, not, ◌&&◌, ◌==◌, List, Option, Some, None, Result, Ok, Err, MatchResult, refl, sym, ap, ◌∙◌}
+use Rattle.std.proofs.Common.{◌≡◌, ℕ, ◌-◌, Bool, true, false, cond, not, ◌&&◌, ◌==◌, List, Option, Some, None, Result, Ok, Err, MatchResult, refl, sym, ap, ◌∙◌}
 use Rattle.std.proofs.lemmas.Bool.{false≢true}
 use Rattle.std.specs.Prelude.{MatchOption, ◌<◌, ◌≤◌}
-use Rattle.av_base.specs.Words.{with_at}
+use Rattle.av_base.specs.Words.{with_at, within}
 use Rattle.av_pagetable.specs.declared.pte.Pte.{Pte}
 use Rattle.av_pagetable.specs.declared.pte.Pte.TheVariants.{Empty, Zero, Here, Away}
 use Rattle.av_pagetable.specs.Entries.{with_entry}
 use Rattle.av_pagetable.specs.Seen.{AreUnseen, is_marked, names_seen}
-use Rattle.av_pagetable.specs.Table.{IsFirst, child_entry, read_only}
+use Rattle.av_pagetable.specs.Table.{IsFirst, child_entry, read_only, without_range}
 
 -- ---- entries
 
@@ -26,6 +26,14 @@ unseen-child f (Here g write seen) = none (f == g)
     none true = refl
     none false = refl
 unseen-child f (Away slot) = refl
+
+pub unseen-ranged : (f from past : ℕ) (table : ℕ → Pte) (page : ℕ) → names_seen f (table page) ≡ false
+    → names_seen f (without_range from past table page) ≡ false
+unseen-ranged f from past table page unseen = by (within from (past - from) page)
+  where
+    by : (b : Bool) → names_seen f (cond b Empty (table page)) ≡ false
+    by true = refl
+    by false = unseen
 
 -- ---- marks
 

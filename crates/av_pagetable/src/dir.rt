@@ -5,6 +5,7 @@ ghost use Rattle.std.specs.Prelude.{MatchOption};
 ghost use Rattle.std.specs.List.{AllPairs, HoldsAt};
 ghost use Rattle.av_base.specs.Words.{with_at};
 ghost use Rattle.av_pagetable.specs.Table.{IsRun, ReachesLast, page_bound, run_size};
+ghost use Rattle.av_pagetable.specs.Table.{without_range};
 ghost use Rattle.av_pagetable.specs.Dir.{alone, count_from, entries, no_entry, AreParts};
 ghost use Rattle.av_pagetable.specs.Dir.{AreSideBySide};
 ghost use Rattle.av_pagetable.specs.declared.pte.Pte.{Pte};
@@ -139,6 +140,17 @@ impl<C: Level> Level for Dir<C> {
         }
     }
 
+    fn clear_range(&mut self, from: u64, past: u64) {
+        let span = C::span();
+        let (first, last) = (from / span, past / span);
+        if first == last {
+            self.clear_in(first, from % span, past % span);
+        } else if first < last {
+            self.clear_up_to(from, last);
+            self.clear_in(last, 0, past % span);
+        }
+    }
+
     #[inline]
     fn next_from(&self, page: u64) -> Option<u64> {
         if self.parts.is_empty() {
@@ -181,9 +193,10 @@ impl<C: Level> Level for Dir<C> {
 }
 
 impl<C: Level> Dir<C> {
-    ghost use Rattle.std.specs.Prelude.{◌≡◌, ℕ, ◌+◌, ◌*◌, ◌<◌, ◌≤◌, [], MatchOption, length};
+    ghost use Rattle.std.specs.Prelude.{◌≡◌, ℕ, ◌+◌, ◌*◌, ◌/◌, ◌<◌, ◌≤◌, [], MatchOption, length};
     ghost use Rattle.std.specs.Prelude.{option_map, IfSome, Some};
-    ghost use Rattle.av_pagetable.specs.Table.{page_bound};
+    ghost use Rattle.std.specs.List.{AllWithin};
+    ghost use Rattle.av_pagetable.specs.Table.{page_bound, without_range};
     ghost use Rattle.av_pagetable.specs.Dir.{part_of, entries, entries_at, IsPlace, IsFirstIn};
     ghost use Rattle.av_pagetable.specs.Held.{AreHeld};
     ghost use Rattle.av_pagetable.specs.declared.pte.Pte.{Pte};
@@ -297,6 +310,75 @@ impl<C: Level> Dir<C> {
             }
         }
         parts.search(number as u16)
+    }
+
+    // How many parts have lower numbers.
+    #[inline]
+    fn place_from(&self, number: u64) -> usize
+        ensures within { result ≤ length self.now }
+        ensures lower { AllWithin (λ part. part.0 < number) self.now 0 result }
+        ensures rest { AllWithin (λ part. number ≤ part.0) self.now result (length self.now) }
+    {
+        // That the numbers rise is known once a field was looked at.
+        let _ = &self.parts;
+        match self.place(number) {
+            Ok(place) => place,
+            Err(place) => place,
+        }
+    }
+
+    // Takes out the entries of the pages from `from` on and below `past` in the part of a number,
+    // and the part where none is left.
+    fn clear_in(&mut self, number: u64, from: u64, past: u64)
+        requires fits { C.span * 512 ≤ page_bound }
+        requires within { past ≤ C.span }
+        ensures { entries C.at C.span self.new
+            ≡ without_range (number * C.span + from) (number * C.span + past)
+            (entries C.at C.span self.old) }
+    {
+        if past <= from {
+            return;
+        }
+        match self.place(number) {
+            Ok(place) => {
+                let part = self.parts.at_mut(place);
+                part.1.clear_range(from, past);
+                if part.1.is_empty() {
+                    self.parts.remove(self.alloc, place);
+                }
+            }
+            Err(_) => {}
+        }
+    }
+
+    // Takes out the parts from one number on and below another.
+    fn clear_between(&mut self, from: u64, past: u64)
+        requires fits { C.span * 512 ≤ page_bound }
+        ensures { entries C.at C.span self.new
+            ≡ without_range (from * C.span) (past * C.span) (entries C.at C.span self.old) }
+    {
+        let _span = C::span();
+        if from < past {
+            let (start, end) = (self.place_from(from), self.place_from(past));
+            self.parts.remove_range(self.alloc, start, end);
+        }
+    }
+
+    // Takes out the entries from a page on and before the part of a number.
+    fn clear_up_to(&mut self, from: u64, last: u64)
+        requires fits { C.span * 512 ≤ page_bound }
+        requires earlier { from / C.span < last }
+        ensures { entries C.at C.span self.new
+            ≡ without_range from (last * C.span) (entries C.at C.span self.old) }
+    {
+        let span = C::span();
+        let first = from / span;
+        if from % span == 0 {
+            self.clear_between(first, last);
+        } else {
+            self.clear_in(first, from % span, span);
+            self.clear_between(first + 1, last);
+        }
     }
 
     // The least page with an entry in the part at a place, from this one of the part on.

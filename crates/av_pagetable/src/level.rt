@@ -9,7 +9,7 @@ pub trait Level: Drop {
     ghost use Rattle.std.specs.Prelude.{MatchResult, IfOk, IfSome};
     ghost use Rattle.av_base.specs.Words.{with_at};
     ghost use Rattle.av_pagetable.specs.Table.{IsFirst, HasSome, child_entry, page_bound};
-    ghost use Rattle.av_pagetable.specs.Table.{read_only};
+    ghost use Rattle.av_pagetable.specs.Table.{read_only, without_range};
     ghost use Rattle.av_pagetable.specs.Held.{AreHeld, AllDivide};
     ghost use Rattle.av_pagetable.specs.declared.pte.Pte.{Pte};
 
@@ -80,6 +80,12 @@ pub trait Level: Drop {
         requires there { at self.old page ≡ Pte.Empty → ⊥ }
         ensures gives { result ≡ at self.old page }
         ensures takes { at self.new ≡ with_at page Pte.Empty (at self.old) };
+
+    /// Takes out the entries of the pages from `from` on and below `past`, and gives back what no
+    /// longer holds any.
+    fn clear_range(&mut self, from: u64, past: u64)
+        requires fits { span ≤ page_bound }
+        ensures { at self.new ≡ without_range from past (at self.old) };
 
     /// The least page from this one on that has an entry.
     fn next_from(&self, page: u64) -> Option<u64>

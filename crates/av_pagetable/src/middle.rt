@@ -83,6 +83,11 @@ impl Level for Middle {
     }
 
     #[inline(always)]
+    fn clear_range(&mut self, from: u64, past: u64) {
+        self.tables.clear_range(from, past);
+    }
+
+    #[inline(always)]
     fn next_from(&self, page: u64) -> Option<u64> {
         self.tables.next_from(page)
     }

@@ -3,6 +3,7 @@
 ghost use Rattle.std.specs.Prelude.{◌≡◌, ◌<◌, ◌≤◌, ◌==◌, [], ◌∷◌, length, slice_index_or};
 ghost use Rattle.std.specs.Prelude.{MatchResult};
 ghost use Rattle.std.specs.Prelude.{AllPairs, IfOk, insert, remove};
+ghost use Rattle.std.specs.List.{remove_range};
 ghost use Rattle.std.specs.Borrow.{sem};
 ghost use Rattle.av_pagetable.specs.Dir.{IsPlace};
 ghost use Rattle.av_pagetable.specs.Images.{AreAllImages};
@@ -151,6 +152,24 @@ impl<C: Level> Parts<C> {
             Parts::Alone(_) => *self = Parts::new(alloc),
             Parts::Many(parts) => {
                 parts.remove(place);
+            }
+        }
+    }
+
+    /// Takes out the parts from a place on and before another.
+    pub(crate) fn remove_range(&mut self, alloc: Global, from: usize, past: usize)
+        requires order { from ≤ past }
+        requires within { past ≤ length (parts_in self.old) }
+        ensures { parts_in self.new ≡ remove_range (parts_in self.old) from past }
+    {
+        match self {
+            Parts::Alone(_) => {
+                if from < past {
+                    *self = Parts::new(alloc);
+                }
+            }
+            Parts::Many(parts) => {
+                parts.drain(from..past);
             }
         }
     }

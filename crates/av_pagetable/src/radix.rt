@@ -61,6 +61,12 @@ impl Level for Pte {
         entry
     }
 
+    fn clear_range(&mut self, from: u64, past: u64) {
+        if from == 0 && 0 < past {
+            *self = Pte::Empty;
+        }
+    }
+
     fn next_from(&self, page: u64) -> Option<u64> {
         if page == 0 && !self.is_empty() {
             Some(0)
@@ -134,6 +140,10 @@ impl Table for RadixTable {
             return None;
         }
         Some((page, self.top.take(page)))
+    }
+
+    fn clear_range(&mut self, from: u64, past: u64) {
+        self.top.clear_range(from, past);
     }
 
     fn next_from(&self, page: u64) -> Option<u64> {

@@ -1,6 +1,6 @@
 //! A program that uses the crates as a library: it gives a kernel a few lines, and another one with
-//! a swap area some more, and prints each reply with how many frames are free then. An auditor judges
-//! replies that another program may have given.
+//! a swap area some more, and prints each reply with how many frames are free then. An auditor
+//! judges replies that another program may have given.
 //!
 //! What is proved: `ask` answers a line with the text of a legal reply to what the line commands,
 //! the kernel stands for the state that this leaves, and each refusal comes only where it is due.

@@ -99,6 +99,35 @@ fn a_run_reads_on_over_holes(rt: HostRuntime) -> Result<(), AllocError> {
     Ok(())
 }
 
+/// Whether, of pages that four last tables have, just those of a range go that begins and ends
+/// within such tables.
+fn loses_a_range<T: Table>(table: &mut T) -> Result<bool, AllocError> {
+    for page in 500..1600 {
+        table.set(page, AWAY)?;
+    }
+    table.clear_range(510, 1030);
+    for page in 500..1600 {
+        let stays = page < 510 || 1030 <= page;
+        if (table.get(page) == AWAY) != stays {
+            return Ok(false);
+        }
+    }
+    Ok(true)
+}
+
+#[test]
+fn a_range_goes(rt: HostRuntime) -> Result<(), AllocError> {
+    let mut radix = RadixTable::new(rt.alloc())?;
+    assert!(rt; loses_a_range(&mut radix)?);
+    // The second of the last tables has gone.
+    assert!(rt; radix.held() == 6);
+    radix.clear_range(0, PAGES);
+    assert!(rt; radix.held() == 1);
+    let mut map = MapTable::new(rt.alloc())?;
+    assert!(rt; loses_a_range(&mut map)?);
+    Ok(())
+}
+
 /// Whether process 4 has entries at page 16 and page 20, and process 5 has none; the first is taken
 /// out.
 fn are_found(tables: &mut Tables<PageTable>) -> bool {

@@ -86,13 +86,13 @@ impl Bytes {
             self.items.extend_from_slice(piece)?;
             return Ok(());
         }
-        self.append_slow(piece)
+        self.append_growing(piece)
     }
 
     /// The same, where the room is to grow.
     #[cold]
     #[inline(never)]
-    fn append_slow(&mut self, piece: &[u8]) -> Result<(), AllocError>
+    fn append_growing(&mut self, piece: &[u8]) -> Result<(), AllocError>
         ensures ok { OnOk result (self.new ≡ self.old ++ piece.now) }
         ensures err { OnErr result (self.new ≡ self.old) }
     {

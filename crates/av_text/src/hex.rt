@@ -184,7 +184,7 @@ pub fn add_hex(text: &mut Bytes, n: u64) -> Result<(), AllocError>
         rest /= 256;
         at -= 2;
     }
-    while 16 <= rest {
+    if 16 <= rest {
         digits[at] = table_digit((rest % 16) as u8);
         rest /= 16;
         at -= 1;

@@ -241,7 +241,7 @@ pub fn add_decimal(text: &mut Bytes, n: u64) -> Result<(), AllocError>
 }
 
 /// The two digits of each number below 100, one after another.
-static TENS: [u8; 200] = *b"\
+static TWO_DIGITS: [u8; 200] = *b"\
     0001020304050607080910111213141516171819\
     2021222324252627282930313233343536373839\
     4041424344454647484950515253545556575859\
@@ -250,13 +250,13 @@ static TENS: [u8; 200] = *b"\
 
 /// The two digits of a number below 100.
 #[inline(always)]
-fn ten_pair(n: u32) -> (u8, u8)
+fn two_digits(n: u32) -> (u8, u8)
     requires { n < 100 }
     ensures tens { result.0 ≡ 48 + n / 10 }
     ensures ones { result.1 ≡ 48 + n % 10 }
 {
     let at = 2 * n as usize;
-    (TENS[at], TENS[at + 1])
+    (TWO_DIGITS[at], TWO_DIGITS[at + 1])
 }
 
 /// Adds a number of at most four digits, as most are. A text of known length is copied without a
@@ -270,14 +270,14 @@ fn add_short(text: &mut Bytes, n: u32) -> Result<(), AllocError>
         return text.append(&[b'0' + n as u8]);
     }
     if n < 100 {
-        let (tens, ones) = ten_pair(n);
+        let (tens, ones) = two_digits(n);
         return text.append(&[tens, ones]);
     }
-    let (tens, ones) = ten_pair(n % 100);
+    let (tens, ones) = two_digits(n % 100);
     if n < 1000 {
         return text.append(&[b'0' + (n / 100) as u8, tens, ones]);
     }
-    let (thousands, hundreds) = ten_pair(n / 100);
+    let (thousands, hundreds) = two_digits(n / 100);
     text.append(&[thousands, hundreds, tens, ones])
 }
 

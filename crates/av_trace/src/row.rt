@@ -100,6 +100,7 @@ impl Rows {
     }
 
     /// Adds a row at the end. Without memory all stays.
+    #[inline(always)]
     pub fn push(&mut self, row: Row) -> Result<(), AllocError>
         ensures ok { OnOk result (self.new ≡ self.old ++ row ∷ []) }
         ensures err { OnErr result (self.new ≡ self.old) }

@@ -9,4 +9,4 @@ pub mod IndexBound
 pub mod Marks
 pub mod Left
 pub mod LeftRuns
-pub mod Locked
+pub mod Counted

@@ -7,11 +7,20 @@ use Rattle.av_vma.specs.declared.area.Area.{Area}
 abbrev pub area_of : List (Option Area) → ℕ → Option Area
 area_of areas number = slice_index_or areas number None
 
+-- whether an area has this flag, if there is one
+abbrev pub has_flag : (Area → Bool) → Option Area → Bool
+has_flag flag None = false
+has_flag flag (Some area) = flag area
+
 -- whether the pages of an area are locked, if there is one
 abbrev pub is_locked : Option Area → Bool
-is_locked None = false
-is_locked (Some area) = area.flags.locked
+is_locked area = has_flag (λ a. a.flags.locked) area
 
--- so many areas are locked
-abbrev pub AreLocked : List (Option Area) → ℕ → Type 0
-AreLocked areas count = count ≡ how_many is_locked areas
+-- whether the pages of an area may be merged, if there is one
+abbrev pub is_mergeable : Option Area → Bool
+is_mergeable area = has_flag (λ a. a.flags.mergeable) area
+
+-- so many areas are locked, and so many are mergeable
+pub record AreCounted (areas : List (Option Area)) (locked mergeable : ℕ) : Type 0 where
+  pub locked_ones : locked ≡ how_many is_locked areas
+  pub mergeable_ones : mergeable ≡ how_many is_mergeable areas

@@ -2,7 +2,7 @@
 
 ghost use Rattle.std.specs.Prelude.{◌≡◌, ◌+◌, ◌-◌, ◌<◌, ◌≤◌, ℕ, Some, None, IfOk, OnErr, IsSome};
 ghost use Rattle.std.specs.Prelude.{true, false, if◌then◌else◌, MatchBool};
-ghost use Rattle.av_vma.specs.Areas.{area_of, is_locked};
+ghost use Rattle.av_vma.specs.Areas.{area_of, is_locked, is_mergeable};
 ghost use Rattle.av_base.specs.Words.{with_at};
 
 use crate::area::Area;
@@ -19,18 +19,20 @@ pub struct Areas {
     slab: Slab<Area>,
     /// How many of them are locked.
     locked: usize,
+    /// How many are mergeable.
+    mergeable: usize,
 }
 
 impl Model for Areas {
     ghost use Rattle.std.specs.Prelude.{List, Option};
-    ghost use Rattle.av_vma.specs.Areas.{AreLocked};
+    ghost use Rattle.av_vma.specs.Areas.{AreCounted};
     ghost use Rattle.av_vma.specs.declared.area.Area.{Area};
 
     ghost Value = { List (Option Area) };
 
     ghost view = { λ a. a.slab.slots };
 
-    ghost invariant = { λ a. AreLocked a.slab.slots a.locked };
+    ghost invariant = { λ a. AreCounted a.slab.slots a.locked a.mergeable };
 }
 
 impl Areas {
@@ -41,10 +43,12 @@ impl Areas {
         Areas {
             slab: Slab::new(alloc),
             locked: 0,
+            mergeable: 0,
         }
     }
 
     /// Puts `area` under a number that is not in use. Without memory all stays.
+    #[inline(always)]
     pub fn add(&mut self, area: Area) -> Result<AreaId, AllocError>
         ensures unused { IfOk result (λ id. area_of self.old id ≡ None) }
         ensures added { IfOk result (λ id. (number : ℕ) → area_of self.new number ≡ with_at id
@@ -52,7 +56,9 @@ impl Areas {
         ensures kept { OnErr result (self.new ≡ self.old) }
     {
         let id = self.slab.insert(area)?;
-        self.locked = locked_with(self.locked, &area, self.slab.len());
+        let count = self.slab.len();
+        self.locked = count_with(self.locked, area.flags.locked, count);
+        self.mergeable = count_with(self.mergeable, area.flags.mergeable, count);
         Ok(id as u64)
     }
 
@@ -74,6 +80,15 @@ impl Areas {
         self.locked > 0
     }
 
+    /// Whether any area is mergeable. It looks at none.
+    pub fn any_mergeable(&self) -> bool
+        ensures { MatchBool result
+            ((number : ℕ) × (is_mergeable (area_of self.now number) ≡ true))
+            ((number : ℕ) → is_mergeable (area_of self.now number) ≡ false) }
+    {
+        self.mergeable > 0
+    }
+
     /// Puts `area` in place of the one with this number, which is in use.
     pub fn change(&mut self, id: AreaId, area: Area)
         requires used { IsSome (area_of self.old id) }
@@ -81,9 +96,12 @@ impl Areas {
             number }
     {
         let place = &mut self.slab[id as usize];
-        let before = locked_without(self.locked, place);
+        let locked = count_without(self.locked, place.flags.locked);
+        let mergeable = count_without(self.mergeable, place.flags.mergeable);
         *place = area;
-        self.locked = locked_with(before, &area, self.slab.len());
+        let count = self.slab.len();
+        self.locked = count_with(locked, area.flags.locked, count);
+        self.mergeable = count_with(mergeable, area.flags.mergeable, count);
     }
 
     /// Takes out the area with this number, which is in use until now.
@@ -93,26 +111,23 @@ impl Areas {
             number }
     {
         let area = self.slab.remove(id as usize);
-        self.locked = locked_without(self.locked, &area);
+        self.locked = count_without(self.locked, area.flags.locked);
+        self.mergeable = count_without(self.mergeable, area.flags.mergeable);
     }
 }
 
-/// How many are locked of `count` areas, among them this one, where so many of the others are.
-fn locked_with(others: usize, area: &Area, count: usize) -> usize
-    requires { others + (if area.now.flags.locked then 1 else 0) ≤ count }
-    ensures { result ≡ others + (if area.now.flags.locked then 1 else 0) }
+/// How many of `count` areas have a flag: so many of the others, and this one where it is set.
+fn count_with(others: usize, is_set: bool, count: usize) -> usize
+    requires { others + (if is_set then 1 else 0) ≤ count }
+    ensures { result ≡ others + (if is_set then 1 else 0) }
 {
-    if area.flags.locked {
-        others + 1
-    } else {
-        others
-    }
+    if is_set { others + 1 } else { others }
 }
 
-/// How many are locked of the others, where so many are with this area.
-fn locked_without(all: usize, area: &Area) -> usize
-    requires { (if area.now.flags.locked then 1 else 0) ≤ all }
-    ensures { result ≡ all - (if area.now.flags.locked then 1 else 0) }
+/// How many of the others have a flag, where so many have it with this area.
+fn count_without(all: usize, is_set: bool) -> usize
+    requires { (if is_set then 1 else 0) ≤ all }
+    ensures { result ≡ all - (if is_set then 1 else 0) }
 {
-    if area.flags.locked { all - 1 } else { all }
+    if is_set { all - 1 } else { all }
 }

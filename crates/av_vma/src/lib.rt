@@ -3,7 +3,7 @@
 //!
 //! Proved: the index and the home of a page; exactly when two areas are joinable and when one may
 //! take the anon_vma of its neighbour; which area each number has after each call, and whether any
-//! is locked. The rules of areas on pages (`specs/Pages.antt`, `specs/Mremap.antt`) are met in
+//! is locked or mergeable. The rules of areas on pages (`specs/Pages.antt`, `specs/Mremap.antt`) are met in
 //! `av_merge`.
 #![tactic(auto)]
 

@@ -51,9 +51,9 @@ returns-in_err-size-clause-only g c = only-then _ _ _ c.loop-index.invariant.onl
 pub returns-in_default-clause-judges : goal.returns-in_default-clause-judges
 returns-in_default-clause-judges g c commands h =
     let inv = c.loop-index.invariant.legal commands h in
-    absurd (some-command commands c.loop-index.index c.loop-index.rest.now c.in_ok-size.size c.read_command.new.command inv.0
+    absurd (some-command commands c.loop-index.index c.loop-index.rest.now c.in_ok-size.size c.first_command.new.command inv.0
     (omega (arith, h.count, c.loop-index-test.true)) c.in_ok-size.ensures.first
-    (none-else c.read_command.new.command c.in_default.not-Some))
+    (none-else c.first_command.new.command c.in_default.not-Some))
 
 pub returns-in_default-clause-only : goal.returns-in_default-clause-only
 returns-in_default-clause-only g c = only-then _ _ _ c.loop-index.invariant.only c.read_unit.ensures.only
@@ -64,7 +64,7 @@ returns-in-Some-finding_at-clause-judges g c commands held =
     let legal = inv.legal commands held in
     let h = legal.1 in
     let takes = rw c.if-not-branch.false at c.in_ok-read_unit.ensures.taken in
-    let is = next-command commands c.loop-index.index c.loop-index.rest.now c.in_ok-size.size c.read_command.new.command c.in-Some.next legal.0
+    let is = next-command commands c.loop-index.index c.loop-index.rest.now c.in_ok-size.size c.first_command.new.command c.in-Some.next legal.0
     (omega (arith, held.count, c.loop-index-test.true)) c.in_ok-size.ensures.first c.in-Some.is in
     let verdict = c.in_ok-verdict.verdict in
     verdict-ends c.read_unit.new.extent.left c.read_unit.new.pending (g.P.Ports.view c.read_unit.new.ports) h takes is.1 c.judge.new.self verdict
@@ -87,7 +87,7 @@ loop-index-preserved g c =
       legal = λ commands held.
           let old = inv.legal commands held in
           let h = old.1 in
-          let is = next-command commands c.loop-index.index c.loop-index.rest.now c.in_ok-size.size c.read_command.new.command c.in-Some.next old.0
+          let is = next-command commands c.loop-index.index c.loop-index.rest.now c.in_ok-size.size c.first_command.new.command c.in-Some.next old.0
           (omega (arith, held.count, c.loop-index-test.true)) c.in_ok-size.ensures.first c.in-Some.is in (
             subst (λ l. AreLinesOf l (drop (c.loop-index.index + 1) commands)) (sym c.behind-rest.ensures) is.2,
             verdict-goes c.read_unit.new.extent.left c.read_unit.new.pending (g.P.Ports.view c.read_unit.new.ports) h takes is.1 c.judge.new.self verdict

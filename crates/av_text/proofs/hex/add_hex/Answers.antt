@@ -1,8 +1,9 @@
-use Rattle.std.proofs.Common.{◌++◌, ap, ◌∙◌, arith}
+use Rattle.std.proofs.Common.{◌++◌, ◌<◌, ap, ◌∙◌, arith}
 use Rattle.std.proofs.lemmas.Result.{on_ok_weaker}
-use Rattle.av_text.proofs.HexLaws.{more_room, room_for_two, written_next, written_two, written_last}
+use Rattle.av_text.proofs.HexLaws.{IsWritten, more_room, room_for_two, written_next, written_two, written_last}
 use Rattle.std.proofs.Common.{List, ℕ}
 use Rattle.av_text.proofs.hex.add_hex.Goals as goal
+use Rattle.av_text.proofs.hex.add_hex.Goals.{then-rest-ge16, else-rest-ge16}
 
 pub bounds-digits-at : goal.bounds-digits-at
 bounds-digits-at c = c.loop-rest.invariant.within
@@ -24,23 +25,20 @@ loop-rest-preserved c =
     written_two c.args.n c.loop-rest.rest c.loop-rest.at c.loop-rest.digits _ _ c.loop-rest-test.true (omega arith)
     room c.pair_in_table-high.ensures.high c.pair_in_table-high.ensures.low c.loop-rest.invariant
 
-pub bounds-digits-at-in-loop-rest-2 : goal.bounds-digits-at-in-loop-rest-2
-bounds-digits-at-in-loop-rest-2 c = c.loop-rest-2.invariant.within
-
-pub loop-rest-2-preserved : goal.loop-rest-2-preserved
-loop-rest-2-preserved c =
-    let room = more_room c.loop-rest-2.rest c.loop-rest-2.at c.loop-rest-2-test.true c.loop-rest-2.invariant.room in
-    written_next c.args.n c.loop-rest-2.rest c.loop-rest-2.at _ c.loop-rest-2.digits c.table_digit.result c.loop-rest-2-test.true (omega arith)
-    (omega arith) c.table_digit.ensures c.loop-rest-2.invariant
-
-pub bounds-digits-at-2 : goal.bounds-digits-at-2
-bounds-digits-at-2 c = c.loop-rest-2.invariant.within
-
-pub slice_bounds-append-count : goal.slice_bounds-append-count
-slice_bounds-append-count c = let within = c.loop-rest-2.invariant.within in omega arith
-
 pub returns : goal.returns
 returns c =
+    let w : IsWritten c.args.n c.if-rest-ge16.rest c.if-rest-ge16.at c.if-rest-ge16.digits =
+    elim c.if-rest-ge16.branch [
+      | then-rest-ge16 w ↦
+          let room = more_room c.loop-rest.rest c.loop-rest.at w.if-rest-ge16.true c.loop-rest.invariant.room in
+          rw (w.digits-is, w.at-is, w.rest-is) (written_next c.args.n c.loop-rest.rest c.loop-rest.at _ c.loop-rest.digits w.table_digit.result
+          w.if-rest-ge16.true (omega arith) (omega (arith, room)) w.table_digit.ensures c.loop-rest.invariant)
+      | else-rest-ge16 w ↦ rw (w.digits-is, w.at-is, w.rest-is) c.loop-rest.invariant
+    ] in
+    let small : c.if-rest-ge16.rest < 16 =
+    elim c.if-rest-ge16.branch [
+      | then-rest-ge16 w ↦ omega (arith, w.rest-is, c.loop-rest-test.false)
+      | else-rest-ge16 w ↦ omega (arith, w.rest-is, w.if-rest-ge16.false)
+    ] in
     on_ok_weaker c.append.result (λ e. e ∙ ap (λ (t : List ℕ). c.args.text.now ++ t)
-    (written_last c.args.n c.loop-rest-2.rest c.loop-rest-2.at c.loop-rest-2.digits c.table_digit-2.result c.loop-rest-2-test.false c.table_digit-2.ensures
-    c.loop-rest-2.invariant)) c.append.ensures.ok
+    (written_last c.args.n c.if-rest-ge16.rest c.if-rest-ge16.at c.if-rest-ge16.digits c.table_digit-2.result small c.table_digit-2.ensures w)) c.append.ensures.ok

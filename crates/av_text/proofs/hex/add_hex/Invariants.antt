@@ -6,9 +6,3 @@ invariant-loop-rest l = IsWritten l.n l.rest l.at l.digits
 
 abbrev pub decreases-loop-rest : goal.decreases-loop-rest
 decreases-loop-rest l = l.rest
-
-abbrev pub invariant-loop-rest-2 : goal.invariant-loop-rest-2
-invariant-loop-rest-2 l = IsWritten l.n l.rest l.at l.digits
-
-abbrev pub decreases-loop-rest-2 : goal.decreases-loop-rest-2
-decreases-loop-rest-2 l = l.rest

@@ -1,7 +1,7 @@
 use Rattle.std.proofs.Common.{◌<◌, length, subst, sym, ◌∙◌, ap}
 use Rattle.av_frames.specs.Store.{Store, shown}
 use Rattle.av_frames.specs.contracts.frames.Frames.{the_view}
-use Rattle.av_frames.proofs.Free.{seen_laid}
+use Rattle.av_frames.proofs.Shown.{seen_laid}
 use Rattle.av_frames.proofs.frames.Frames.write_at.Goals as goal
 
 pub returns : goal.returns

@@ -1,14 +1,24 @@
-use Rattle.std.proofs.Common.{ap, arith}
-use Rattle.av_vma.proofs.Locked.{changed-count, one, one-counts}
+use Rattle.std.proofs.Common.{Bool, arith}
+use Rattle.av_vma.specs.declared.area.Area.{Area}
+use Rattle.av_vma.proofs.Counted.{counts-in, gone-count}
 use Rattle.av_vma.proofs.areas.Areas.remove.Goals as goal
 
-pub locked_without-self-inside-requires : goal.locked_without-self-inside-requires
-locked_without-self-inside-requires c =
-    omega (arith, c.self.invariant, one-counts c.self.inside.slab.slots c.args.id, ap one c.remove-area.ensures.value)
+pub count_without-self-inside-requires : goal.count_without-self-inside-requires
+count_without-self-inside-requires c =
+    let there = counts-in (λ a. a.flags.locked) c.self.inside.slab.slots c.args.id c.remove-area.result c.remove-area.ensures.value in
+    omega (arith, c.self.invariant.locked_ones, there)
+
+pub count_without-self-inside-requires-2 : goal.count_without-self-inside-requires-2
+count_without-self-inside-requires-2 c =
+    let there = counts-in (λ a. a.flags.mergeable) c.self.inside.slab.slots c.args.id c.remove-area.result c.remove-area.ensures.value in
+    omega (arith, c.self.invariant.mergeable_ones, there)
 
 pub invariant_of-self : goal.invariant_of-self
 invariant_of-self c =
-    let old = c.self.inside.slab.slots in
     let gone = c.remove-area.ensures in
-    let moved = changed-count old c.remove-area.new.self.slots c.args.id gone.updates.others in
-    omega (arith, moved, one-counts old c.args.id, ap one gone.value, ap one gone.updates.changed, c.self.invariant, c.locked_without-self-inside.ensures)
+    let left = λ (flag : Area → Bool).
+    gone-count flag c.self.inside.slab.slots c.remove-area.new.self.slots c.args.id c.remove-area.result gone.updates.others gone.value gone.updates.changed in
+    record {
+      locked_ones = omega (arith, left (λ a. a.flags.locked), c.self.invariant.locked_ones, c.count_without-self-inside.ensures);
+      mergeable_ones = omega (arith, left (λ a. a.flags.mergeable), c.self.invariant.mergeable_ones, c.count_without-self-inside-2.ensures);
+    }
