@@ -42,6 +42,8 @@ SWAP_PAGES, SHARE = 262_144, 2
 ROOM = "/var/tmp"
 # the order in which the kernel fills swap areas: before those that have none
 PREFER, ORDER = 0x8000, 100
+# the file whose lock says that swap areas are somebody's
+SWAPS = "/proc/swaps"
 # pages of the buffers of a perf that must lose nothing
 BUFFER = "4096"
 # the event of a page that is written, by the names that it has and had
