@@ -1,12 +1,13 @@
-use Rattle.std.proofs.Common.{◌≡◌, ◌-◌}
+use Rattle.std.proofs.Common.{◌≡◌, ◌-◌, length}
 use Rattle.av_pagetable.specs.Entries.{entry_at}
 use Rattle.av_mem.specs.Steps.{KeepsRest}
-use Rattle.av_mremap.proofs.EntriesTables.{IsMoving}
-use Rattle.av_mremap.proofs.entries.move_entries.Given as goal
+use Rattle.av_mremap.proofs.EntriesTables.{IsCopying}
+use Rattle.av_mremap.proofs.entries.copy_entries.Given as goal
 
 abbrev pub invariant-loop-page : goal.invariant-loop-page
 invariant-loop-page l = record {
-  moving : IsMoving (entry_at l.initial.mem.tables) (entry_at l.mem.tables) l.process l.pages l.from l.to l.next;
+  long : length l.run ≡ 64;
+  copying : IsCopying (entry_at l.initial.mem.tables) (entry_at l.mem.tables) l.process l.pages l.from l.to l.next;
   stay : l.mem ≡ record (l.initial.mem) { tables = l.mem.tables };
   rest : KeepsRest l.initial.mem l.mem;
 }
