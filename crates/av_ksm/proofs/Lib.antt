@@ -9,6 +9,7 @@ pub mod MergingAsks
 pub mod MergingDone
 pub mod MergingViews
 pub mod MergingTurn
+pub mod OrderLaws
 pub mod ContentsLaws
 pub mod PagesLaws
 pub mod AtFirst

@@ -31,9 +31,9 @@ use std::alloc::{AllocError, Global};
 /// Lets pages with equal bytes share one frame, in the order of process and page. A note of each
 /// frame that is merged and of each page that joins one is added.
 ///
-/// It costs a step for each frame and each page with an entry, and for each candidate the reading
-/// of its bytes, and its walk where an area is locked. Without memory part of the pages may have
-/// had their turn.
+/// It costs a step for each frame and each page with an entry; for each frame of a candidate some
+/// comparisons of its bytes, and for each candidate its walk where an area is locked. Without
+/// memory part of the pages may have had their turn.
 pub fn merge_pages(mem: &mut Mem, alloc: Global, notes: &mut Notes) -> Result<(), AllocError>
     requires { HasBetween mem.old }
     ensures merges { OnOk result ((d : Device) (w : World) (r : Rmap) (l : Ledger)
@@ -57,10 +57,10 @@ fn contents_at_first(mem: &Mem, alloc: Global) -> Result<Contents, AllocError>
     ensures { IfOk result (λ c. (d : Device) (w : World) (r : Rmap) (l : Ledger)
         → KeepsBetween d mem.now w r l → IsAware d mem.now l [] c) }
 {
-    let mut contents = Contents::new(alloc);
+    let mut contents = Contents::new(alloc, mem.frames.count())?;
     for frame in 0..mem.frames.count() {
         if mem.is_merged(frame) {
-            contents.add(&mem.frames, frame, None)?;
+            contents.find_or_add(&mem.frames, frame, None)?;
         }
     }
     Ok(contents)
@@ -84,8 +84,9 @@ fn merge_page(
     let Some(own) = candidate(mem, key) else {
         return Ok(());
     };
-    let Some((frame, page)) = contents.find(&mem.frames, own) else {
-        return contents.add(&mem.frames, own, Some(key));
+    let like = contents.find_or_add(&mem.frames, own, Some(key))?;
+    let Some((frame, page)) = like else {
+        return Ok(());
     };
     if frame == own {
         return Ok(());
