@@ -15,3 +15,4 @@ pub mod PagesLaws
 pub mod AtFirst
 pub mod CommandLaws
 pub mod MergesLaws
+pub mod NoneMergeable
