@@ -570,7 +570,8 @@ class Coarse(unittest.TestCase):
             prot = pick.choice(("r--", "rw-", "---", ""))
             fine |= {page: prot for page in range(start, start + count)}
             at, length = f"{start * PAGE:x}", count * PAGE
-            lines.append(f"mmap 1 {length} {prot} fixed {at}" if prot else f"munmap 1 {at} {length}")
+            mmap, munmap = f"mmap 1 {length} {prot} fixed {at}", f"munmap 1 {at} {length}"
+            lines.append(mmap if prot else munmap)
         shown = {}
         for line in (it.line.split(" ") for it in coarse(
                 [Command(it, "ok", "", "") for it in lines], 4)[1:]):
