@@ -126,6 +126,8 @@ class Telling:
         self.drain_for(words)
         reply = self.kernel.answer(words, said)
         self.check_killed()
+        if self.swapping:
+            self.swapping.check_full(self.frames)
         was = self.frames.now if self.frames else {}
         try:
             notes = self.frames.take(words, reply[0], self.look()) if self.frames else []
