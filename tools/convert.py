@@ -9,7 +9,7 @@ from shared.saying import Refused, count_of, name_of, printable
 
 from faults import Fault
 from grain import GRAINS, coarse
-from labels import CALLER, FIRST_ONES
+from labels import CALLER, accesses_comment
 from memory import Command, Memory
 from peak import Peak
 from spaces import Space
@@ -28,8 +28,9 @@ class Options:
     """What the words of the command line ask for. `guess` is what a fault is that could be a read
     or a write, `touch` how many pages of a writable mapping are written, and `frames` how many
     the machine has: 0 means as many as are held at most. `are_first`: the faults are those of the
-    kernel, so mostly the first access to each page. `page` is what one page of the trace stands
-    for, where that is more than one of the program's.
+    kernel, so mostly the first access to each page; but where `too_few_below` says a number, they
+    were recorded in rounds, and are too few for machines of fewer frames. `page`
+    is what one page of the trace stands for, where that is more than one of the program's.
     """
 
     anonymous_only: bool = False
@@ -39,6 +40,11 @@ class Options:
     frames: int = 0
     are_first: bool = False
     page: str = ""
+    too_few_below: int = 0
+
+    def said(self) -> str:
+        """What the head of the trace says of its accesses."""
+        return accesses_comment(self.are_first, self.too_few_below)
 
 
 @dataclasses.dataclass(slots=True)
@@ -360,7 +366,7 @@ class Convert:
     def text(self, log: str, machine: Machine, with_origin: bool) -> str:
         """The trace. Its last line is a comment, so that one can see that it is whole."""
         lines = [f"# {self.program or log} as a trace, by tools/from-strace", comment_for(machine)]
-        lines += [f"# {FIRST_ONES}"] if self.options.are_first else []
+        lines += [f"# {self.options.said()}"] if self.options.said() else []
         page = self.options.page
         lines += [f"# One page of it is {page} of the program's."] if page else []
         lines += [f"swapon {area}" for area in range(len(machine.areas))]

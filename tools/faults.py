@@ -18,8 +18,11 @@ from strace import time_of
 HEAD, TAIL = "# faults, as perf script prints them", "# end"
 # the first line of accesses that were recorded with the log, so that they have its clock
 ON_CLOCK = "# accesses, on the clock of the log"
+# the line below it, of faults that were recorded in rounds: the number of frames below which they
+# are too few
+AGAIN = "# recorded in rounds: too few below "
 # who runs beside the program
-OTHERS = ("strace", "perf", "perf-exec")
+OTHERS = ("strace", "perf", "perf-exec", "avsim-join")
 # nanoseconds from the beginning of a call to the first touch of what it mapped, at the least
 AFTER = 10_000
 
@@ -162,6 +165,13 @@ def most_common(spans: list[tuple[int, int]]) -> tuple[int, int]:
 def is_on_clock(file: str) -> bool:
     """Whether the times of a file are those of the log."""
     return lines_of(file)[0] == ON_CLOCK
+
+
+def too_few_below(file: str) -> int:
+    """For how many frames faults that were recorded in rounds are enough; 0 for others."""
+    line = (*lines_of(file)[:2], "")[1]
+    number = line.removeprefix(AGAIN)
+    return int(number) if line.startswith(AGAIN) and number.isdigit() else 0
 
 
 def on_clock_of(threads: list, faults: list[Fault], file: str) -> tuple[int, int]:

@@ -50,12 +50,13 @@ def drain(pid: int) -> bool:
 
 @contextlib.contextmanager
 def alone(file: str, what: str) -> Iterator[None]:
-    """No other run of this tool does what there may be one of at a time, by a lock on a file."""
+    """No other run does what there may be one of at a time, by a lock on a file."""
     with open(file, "rb") as lock:
         try:
             fcntl.flock(lock, fcntl.LOCK_EX | fcntl.LOCK_NB)
         except OSError:
-            print(f"on-linux: waits for another run that {what}", file=sys.stderr)
+            tool = os.path.basename(sys.argv[0])
+            print(f"{tool}: waits for another run that {what}", file=sys.stderr, flush=True)
             fcntl.flock(lock, fcntl.LOCK_EX)
         yield
 

@@ -13,7 +13,7 @@ from typing import Any, Iterator
 from shared.saying import Refused, count_of, name_of, read
 
 from bits import asks_marks
-from labels import said_of_first_ones
+from labels import said_of_accesses
 
 REFERENCE = os.path.join(os.path.dirname(os.path.realpath(__file__)), "..", "docs", "REFERENCE.md")
 # what the letters of a form stand for; any other word behind a note's name is a cause
@@ -111,7 +111,7 @@ class Beside:
         """
         sys.stdout.flush()
         head = [it[2:] for it in self.text[:4096].split("\n") if it.startswith("# ")]
-        said = said_of_first_ones(head, has_gone_out)
+        said = said_of_accesses(head, has_gone_out)
         if said:
             print(f"{tool}: {said}", file=sys.stderr)
         if self.count < len(self.commands):

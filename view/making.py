@@ -9,7 +9,7 @@ import threading
 from shared.meter import Progress
 from shared.saying import Refused
 
-from labels import is_label, said_of_first_ones
+from labels import is_label, said_of_accesses
 from names import Names
 from told import BY_RANGE, MIDWAY, Told, page_of
 
@@ -346,7 +346,7 @@ def data_of(
             f"from line {wrong} on notes tell otherwise than `entry` or `slot` does: "
             "that is a fault, please tell"
         )
-    said.append(said_of_first_ones(head_of(run.commands), run.has_note("put")))
+    said.append(said_of_accesses(head_of(run.commands), run.has_note("put"), frames))
     if lost:
         said.append(f"from line {lost} on not all entries are known: they are drawn as ?")
     return {

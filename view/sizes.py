@@ -8,6 +8,7 @@ An access is a `read` or `write`. It is a fault where its reply has a note `zero
 file, written those that go there.
 """
 import argparse
+import concurrent.futures
 import html
 import os
 import re
@@ -19,10 +20,14 @@ from shared.saying import Refused
 
 import making
 from bits import asks_marks
-from labels import said_of_first_ones
+from labels import said_of_accesses
+from ranges import PAGE
 from sums import ALL, Counts, Sums
 from swapfile import MOST_FILES, MOST_FRAMES, MOST_PAGES, Machine, words_of
 
+WRITE = re.compile(r"write (\d+) ([0-9a-f]+) ((?:[0-9a-f]{2})+)")
+# stands between the lines of a reply
+WITHIN = "\0"
 # sizes of one picture at most
 MOST_SIZES = 64
 # the picture, and its space for the axes
@@ -67,19 +72,64 @@ def pages_written(lines: list[str]) -> int:
     return sum(len(it) // 8192 + 2 for it in texts)
 
 
-def size_of(program: str, frames: int, lines: list[str], areas: int) -> Size:
-    """The run with a number of frames."""
-    pages = min(pages_written(lines) + frames + 1, MOST_PAGES)
-    with tempfile.TemporaryDirectory() as room:
-        words = words_of(Machine(str(frames), [(pages, [])] * areas), room)
-        transcript, status, said = making.run_plainly(program, words, lines)
-    replies = making.replies_of(transcript)
-    if status or len(replies) != len(lines):
-        raise Refused(f"with {frames} frames avsim ended early, with status {status}: {said}")
-    counts = Counts(asks_marks("\n".join(lines)))
-    for line, (answer, *notes) in zip(lines, replies):
-        counts.take(line.split(" "), answer, [it.split(" ") for it in notes])
-    return Size(frames, counts.found()[ALL])
+class Line(NamedTuple):
+    """The words of a line; where it writes to one page, whose that is, and its number."""
+
+    words: list[str]
+    process: str = ""
+    page: int = -1
+
+
+def split(text: str) -> Line:
+    words, write = text.split(" "), WRITE.fullmatch(text)
+    if not write:
+        return Line(words)
+    at = int(write[2], 16)
+    first, last = at // PAGE, (at + len(write[3]) // 2 - 1) // PAGE
+    return Line(words, write[1], first) if first == last else Line(words)
+
+
+class Sizes:
+    """Runs a trace on machines of several sizes."""
+
+    def __init__(self, program: str, lines: list[str], areas: int):
+        self.program, self.texts, self.areas = program, lines, areas
+        self.lines = list(map(split, lines))
+        self.asks_marks = asks_marks("\n".join(lines))
+        self.pages = pages_written(lines)
+
+    def all(self, sizes: list[int]) -> list[Size]:
+        """The runs, as many side by side as there are processors for this program."""
+        with concurrent.futures.ThreadPoolExecutor(len(os.sched_getaffinity(0))) as pool:
+            return list(pool.map(self.size, sizes))
+
+    def size(self, frames: int) -> Size:
+        """The run with a number of frames."""
+        pages = min(self.pages + frames + 1, MOST_PAGES)
+        with tempfile.TemporaryDirectory() as room:
+            words = words_of(Machine(str(frames), [(pages, [])] * self.areas), room)
+            transcript, status, said = making.run_plainly(self.program, words, self.texts)
+        replies = transcript.removesuffix("\n").replace("\n ", WITHIN).split("\n")
+        if status or len(replies) != len(self.lines):
+            raise Refused(f"with {frames} frames avsim ended early, with status {status}: {said}")
+        return Size(frames, self.sums(replies))
+
+    def sums(self, replies: list[str]) -> Sums:
+        """What all replies sum up to. Most are hits: reads without a note, and writes to a page
+        that has its write bit. These are counted at once.
+        """
+        counts, hits = Counts(self.asks_marks), 0
+        bits = counts.bits.pages
+        for (words, process, page), reply in zip(self.lines, replies):
+            is_read = reply[:5] == "data " and WITHIN not in reply
+            if is_read or reply == "ok" and page in bits.get(process, ()):
+                hits += 1
+                continue
+            answer, *notes = reply.split(WITHIN)
+            counts.take(words, answer, [it.split(" ") for it in notes])
+        found = counts.found()[ALL]
+        found.accesses += hits
+        return found
 
 
 def table_of(sizes: list[Size]) -> list[str]:
@@ -174,9 +224,10 @@ def svg_of(title: str, sizes: list[Size], below: str) -> str:
 def write(words: argparse.Namespace, commands: list[making.Command], to: str) -> None:
     """Runs the sizes, tells them, and writes the picture."""
     lines, areas = lines_of(commands)
-    sizes = [size_of(words.program, it, lines, areas) for it in words.sizes]
+    sizes = Sizes(words.program, lines, areas).all(words.sizes)
     print("\n".join(table_of(sizes)))
-    said = said_of_first_ones(making.head_of(commands), any(it.sums.put for it in sizes))
+    has_gone_out = any(it.sums.put for it in sizes)
+    said = said_of_accesses(making.head_of(commands), has_gone_out, words.sizes[0])
     if said:
         print(said)
     name = "trace" if words.trace == "-" else os.path.basename(words.trace)

@@ -3,7 +3,7 @@ import itertools
 import textwrap
 
 import making
-from labels import said_of_first_ones
+from labels import said_of_accesses
 from told import ACTIVE, INACTIVE, Told
 
 # frames or slots that a line names at most
@@ -92,7 +92,7 @@ def side_by_side(run: making.Run, width: int, illegal: int = 0):
         ]
         for pair in row_pairs(textwrap.wrap(command.line, column, subsequent_indent="  "), right):
             yield "{:{column}} | {}".format(*pair, column=column).rstrip()
-    said = said_of_first_ones(making.head_of(run.commands), run.has_note("put"))
+    said = said_of_accesses(making.head_of(run.commands), run.has_note("put"))
     yield from textwrap.wrap(said, width - 2, initial_indent="# ", subsequent_indent="# ")
     if run.said:
         yield f"avsim: {run.said.removeprefix('avsim: ')}"

@@ -53,7 +53,7 @@ _avsim_tool() {
 }
 
 complete -o filenames -F _avsim avsim ./avsim
-for _avsim_name in tools/{compare-maps,from-strace,json,make-swap,on-linux,real-areas,record,sum,work-trace} \
+for _avsim_name in tools/{compare-maps,compare-smaps,from-strace,json,kernel-swaps,make-swap,on-linux,real-areas,record,sum,work-trace} \
   view/{run,lessons}; do
   complete -o filenames -F _avsim_tool "$_avsim_name" "./$_avsim_name"
 done
