@@ -15,8 +15,9 @@ import threading
 import time
 from typing import Iterator, NamedTuple
 
+from shared.saying import Refused
+
 from program import EarlyEnd, Judge, Live
-from program import Refused as NotRun
 from reasons import LINE_LIMIT, no_command, reason_of
 from reference import Reference
 from session import says_nothing
@@ -170,10 +171,10 @@ class Laboratory:
             self.back_to(same)
             self.state, self.commands = state, commands
             self.tell(min(shown, len(commands)))
-        except (EarlyEnd, NotRun) as why:
+        except (EarlyEnd, Refused) as why:
             self.state, self.commands = before
             self.forget()
-            with contextlib.suppress(EarlyEnd, NotRun):
+            with contextlib.suppress(EarlyEnd, Refused):
                 self.tell()
             raise because(f"{why}: {NOT_DONE}") from None
         self.version += 1
@@ -292,7 +293,7 @@ class Laboratory:
         asked = (it for it in given if not says_nothing(it) or len(it) > LINE_LIMIT)
         try:
             bad = self.judge.bad_of(asked)
-        except NotRun as why:
+        except Refused as why:
             raise because(why) from None
         rows = [(at, it) for at, it in enumerate(given, 1) if it in bad][:MOST_REFUSED]
         if rows:

@@ -13,17 +13,17 @@ def file_of(name: str) -> str:
         return it.read().rstrip("\n")
 
 
-def page_of(data: dict, nonce: str = "") -> str:
-    """The page. (Within a script no text may look like the script's end.) With a nonce it is one to
-    type into, whose own scripts alone may run.
+def page_of(data: dict, nonce: str = "", is_live: bool = False) -> str:
+    """The page, or one to type into. (Within a script no text may look like the script's end.)
+    Where a nonce is given, the scripts that have it may run.
     """
     text = json.dumps(data, separators=(",", ":"), ensure_ascii=True).replace("<", "\\u003c")
-    styles, scripts = STYLES + ["live.css"] * bool(nonce), SCRIPTS + ["live.js"] * bool(nonce)
+    styles, scripts = STYLES + ["live.css"] * is_live, SCRIPTS + ["live.js"] * is_live
     pieces = {
         "<title></title>": f"<title>avsim: {html.escape(data['title'])}</title>",
         "/*STYLE*/": "\n".join(map(file_of, styles)),
         "/*SCRIPT*/": "\n\n".join(map(file_of, scripts)),
-        "<!--TYPING-->\n": file_of("live.html") + "\n" if nonce else "",
+        "<!--TYPING-->\n": file_of("live.html") + "\n" if is_live else "",
         "<script>": f'<script nonce="{nonce}">' if nonce else "<script>",
         "/*DATA*/": text,
     }

@@ -5,6 +5,7 @@ is too long, or asks for what isn't there is refused, and nothing is done.
 
     GET  /WORD/             the page
     GET  /WORD/trace        the trace, as it is saved
+    GET  /WORD/lessons/     the lessons, and NAME.html each
     POST /WORD/do           does what its JSON says: `version` and `here` (the step shown), and
                             `do`, which is help or one of ACTIONS, with the words of that
 """
@@ -18,10 +19,12 @@ import threading
 from http.server import BaseHTTPRequestHandler, ThreadingHTTPServer
 from typing import Any, Callable, NamedTuple
 
+from shared.saying import Refused
+
 from program import EarlyEnd
-from program import Refused as NotRun
 
 from laboratory import Laboratory, Trouble
+from lesson import all_lessons, index_of, lesson_page
 from page import page_of
 
 # bytes of a request's body, seconds that a connection may say nothing, and connections at once
@@ -160,9 +163,31 @@ def done(lab: Laboratory, asked: Asked) -> dict:
         same, shown = ACTIONS[what](lab, asked, asked.number("here", len(lab.commands)))
     except Trouble as why:
         return {"refused": why.rows}
-    except (EarlyEnd, NotRun) as why:
+    except (EarlyEnd, Refused) as why:
         return {"refused": [[0, "", str(why)]]}
     return since(lab, same) | ({} if shown is None else {"show": shown})
+
+
+class Lessons:
+    """The pages of the lessons, which are made when they are asked for first."""
+
+    def __init__(self, program: str):
+        self.program, self.made = program, {}
+        # (stands in a page where the nonce of an answer goes)
+        self.place = secrets.token_urlsafe(16)
+
+    def page(self, name: str, nonce: str) -> str:
+        """A page by its name: a name that no lesson has leads to no file."""
+        lessons = all_lessons()
+        if name in ("", "index.html"):
+            return index_of(lessons)
+        at = next((at for at, it in enumerate(lessons) if it.name == name), -1)
+        if at < 0:
+            raise Wrong(404, "not here")
+        if name not in self.made:
+            following = lessons[at + 1 :]
+            self.made[name] = lesson_page(lessons[at], following, self.program, self.place)
+        return self.made[name].replace(self.place, nonce)
 
 
 class Server(ThreadingHTTPServer):
@@ -173,6 +198,7 @@ class Server(ThreadingHTTPServer):
     def __init__(self, laboratory: Laboratory):
         super().__init__(("127.0.0.1", 0), Handler)
         self.laboratory, self.lock = laboratory, threading.Lock()
+        self.lessons = Lessons(laboratory.run.program)
         # (the second word leads a browser to the first one, once: the words of a command line, by
         # which a browser is opened, are seen by all users of a machine)
         self.word, self.once = secrets.token_urlsafe(18), secrets.token_urlsafe(18)
@@ -229,6 +255,9 @@ class Handler(BaseHTTPRequestHandler):
         except Wrong as why:
             self.close_connection = True
             answer = Answer(TEXT, f"{why}\n".encode(), status=why.status)
+        except Refused as why:
+            # (a lesson isn't made)
+            answer = Answer(TEXT, f"{why}\n".encode(), status=500)
         self.send(answer)
 
     def one(self, name: str) -> str | None:
@@ -249,7 +278,7 @@ class Handler(BaseHTTPRequestHandler):
             raise Wrong(403, "not from this page")
         if self.one("Transfer-Encoding"):
             raise Wrong(411, "a body has a length")
-        found = re.fullmatch(r"/([A-Za-z0-9_-]+)/([a-z]*)", self.path)
+        found = re.fullmatch(r"/([A-Za-z0-9_-]+)/((?:lessons/)?[a-z0-9.-]*)", self.path)
         if found and not found[2] and self.server.is_once(found[1]):
             return "once"
         if not found or not hmac.compare_digest(found[1], self.server.word):
@@ -263,14 +292,17 @@ class Handler(BaseHTTPRequestHandler):
             return Answer(TEXT, b"", {"Location": f"/{self.server.word}/"}, 302)
         lab = self.server.laboratory
         with self.server.lock:
-            if what == "":
-                nonce = secrets.token_urlsafe(16)
-                policy = {"Content-Security-Policy": POLICY.format(nonce=nonce)}
-                data = {**since(lab, 0), "first": 1, "base": []}
-                return Answer(PAGE, page_of(data, nonce).encode(), policy)
             if what == "trace":
                 return Answer(TEXT, lab.text().encode("utf-8", "surrogateescape"))
-        raise Wrong(404, "not here")
+            nonce = secrets.token_urlsafe(16)
+            if what == "":
+                page = page_of({**since(lab, 0), "first": 1, "base": []}, nonce, is_live=True)
+            elif what.startswith("lessons/"):
+                page = self.server.lessons.page(what.removeprefix("lessons/"), nonce)
+            else:
+                raise Wrong(404, "not here")
+        policy = {"Content-Security-Policy": POLICY.format(nonce=nonce)}
+        return Answer(PAGE, page.encode(), policy)
 
     def post(self, what: str) -> Answer:
         if what != "do":
