@@ -212,6 +212,7 @@ async function openLink(text) {
   }
 }
 
+at("lessons").onclick = () => location.assign("lessons/");
 at("link").onclick = async () => {
   const text = await linkText();
   history.replaceState(null, "", text);
