@@ -6,6 +6,7 @@ itself: `ask` puts lines to one and gives their replies. Its state can be kept a
 which is how a page that is typed into goes back.
 """
 import contextlib
+import itertools
 import pickle
 from typing import Callable, Iterator
 
@@ -19,8 +20,8 @@ from names import Names
 from program import EarlyEnd, Live
 from told import Told
 
-# steps that one page has at most, and bytes
-MOST_STEPS, MOST_BYTES = 50_000, 90_000_000
+# steps that one page has at most, and bytes; commands that are asked at once
+MOST_STEPS, MOST_BYTES, AT_ONCE = 50_000, 90_000_000, 64
 
 Ask = Callable[[list[bytes]], list[list[str]]]
 
@@ -58,7 +59,7 @@ class Teller:
         for at, command in enumerate(commands):
             reply = ahead or ask([line_of(command)])[0]
             reply = [it.removeprefix(" ") for it in reply]
-            self.told.ops = []
+            self.begin_step()
             asked = making.reports(self.told, command.line.split(" "), reply)
             is_more = at + 1 < len(commands) and goes_on()
             given = [it.encode() for it in asked]
@@ -67,6 +68,10 @@ class Teller:
             yield self.step(command, reply, list(zip(asked, map("\n".join, answers))))
             if not is_more:
                 return
+
+    def begin_step(self) -> None:
+        """(The operations of a step are a list of its own.)"""
+        self.told.ops = []
 
     def step(self, command: Command, reply: list[str], answers: list[tuple[str, str]]) -> dict:
         """A step as it stands in a page. Of reports and what they answer."""
@@ -103,6 +108,17 @@ class Teller:
         return found
 
 
+def planned(run: Run) -> Iterator[tuple[Command, list[str], list[str]]]:
+    """The commands of a run with their replies, and the reports to put behind each. (Since these
+    go by replies, many can be asked at once where those are known.)
+    """
+    told = Told()
+    for command, reply in zip(run.commands, run.replies):
+        asked = making.reports(told, command.line.split(" "), reply)
+        told.ops.clear()
+        yield command, reply, asked
+
+
 @contextlib.contextmanager
 def live_of(run: Run) -> Iterator[Live]:
     """Another run of the same program, which is asked."""
@@ -117,21 +133,35 @@ def live_of(run: Run) -> Iterator[Live]:
 
 def follow(run: Run, teller: Teller) -> Iterator[dict]:
     """The steps of a run, as a teller tells them."""
-    progress, commands = Progress("view"), run.commands[: len(run)]
+    progress, plan, done = Progress("view"), planned(run), 0
     try:
         with live_of(run) as live:
-            for at, step in enumerate(teller.steps(commands, live.answers)):
-                if step["r"] != run.replies[at][: making.MOST_ROWS]:
-                    raise Refused(
-                        f"line {step['n']} is answered otherwise with reports before it: "
-                        "that is a fault of avsim, please tell"
-                    )
-                progress.say(f"{at + 1} of {len(run)} commands")
-                yield step
+            while some := list(itertools.islice(plan, AT_ONCE)):
+                for step in steps_at_once(some, live.answers, teller):
+                    done += 1
+                    progress.say(f"{done} of {len(run)} commands")
+                    yield step
     except EarlyEnd as why:
         raise Refused(str(why)) from None
     finally:
         progress.end()
+
+
+def steps_at_once(
+    some: list[tuple[Command, list[str], list[str]]], ask: Ask, teller: Teller
+) -> Iterator[dict]:
+    """The steps of some commands of a plan."""
+    lines = [it for command, _, asked in some for it in (line_of(command), *map(str.encode, asked))]
+    answers = iter(ask(lines))
+    for command, reply, asked in some:
+        if [it.removeprefix(" ") for it in next(answers)] != reply:
+            raise Refused(
+                f"line {command.number} is answered otherwise with reports before it: "
+                "that is a fault of avsim, please tell"
+            )
+        teller.begin_step()
+        teller.told.tell(command.line.split(" "), reply)
+        yield teller.step(command, reply, [(it, "\n".join(next(answers))) for it in asked])
 
 
 def window_of(wanted: tuple[int, int] | None, count: int) -> tuple[int, int]:
