@@ -13,7 +13,10 @@ QUIET = ("--headless", "--no-sandbox", "--disable-gpu", "--hide-scrollbars", "--
 # seconds that an answer takes at most, on a machine under load
 PATIENCE = 120
 # what the virtual keys of those that are pressed are
-KEYS = {"Tab": 9, "Enter": 13, "ArrowRight": 39}
+KEYS = {
+    **{"Tab": 9, "Enter": 13, "Escape": 27, "ArrowUp": 38, "ArrowRight": 39, "Delete": 46},
+    **{"y": 89, "z": 90, "F2": 113},
+}
 
 
 def chromium() -> str | None:
@@ -89,7 +92,10 @@ class Browser:
     def open(self, file: str, behind: str = "") -> None:
         """Opens a file anew, and waits till it is loaded."""
         self.opened += 1
-        wanted = f"file://{os.path.abspath(file)}?{self.opened}"
+        self.visit(f"file://{os.path.abspath(file)}?{self.opened}", behind)
+
+    def visit(self, wanted: str, behind: str = "") -> None:
+        """Goes to an address, and waits till the page is loaded."""
         self.tell("Page.navigate", url=f"{wanted}{behind}")
         while not self.is_loaded(wanted):
             time.sleep(0.02)
@@ -112,7 +118,7 @@ class Browser:
         return found["result"].get("value")
 
     def press(self, key: str, modifiers: int = 0) -> None:
-        """A key goes down and up, as from a keyboard; modifier 8 is shift."""
+        """A key goes down and up, as from a keyboard; modifier 2 is control, and 8 shift."""
         words = {"key": key, "code": key, "windowsVirtualKeyCode": KEYS[key]}
         words["modifiers"] = modifiers
         text = {"text": "\r"} if key == "Enter" else {}

@@ -156,16 +156,20 @@ class Live:
     def answers(self, lines: list[bytes]) -> list[list[str]]:
         """The replies to commands, each a list of lines. Lines that say nothing aren't for here."""
         data = b"".join(it + b"\n" for it in (*lines, b"stat"))
-        # a program whose replies nobody reads waits: so much is written while these are read
-        writer = threading.Thread(target=self.write, args=(data,))
-        writer.run() if len(data) <= SMALL else writer.start()
+        writer = None
+        if len(data) <= SMALL:
+            self.write(data)
+        else:
+            # a program whose replies nobody reads waits: so much is written while these are read
+            writer = threading.Thread(target=self.write, args=(data,))
+            writer.start()
         try:
             return self.read(len(lines))
         except BaseException:
             self.ran.kill()
             raise
         finally:
-            if writer.is_alive():
+            if writer:
                 writer.join()
 
     def write(self, data: bytes) -> None:

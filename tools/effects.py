@@ -10,7 +10,7 @@ from typing import TYPE_CHECKING, NamedTuple
 
 from kernel import Kernel
 from ranges import PAGE, Range, Ranges
-from rows import ADDED, ENTRIES, FORCED, JOINS_MORE, KEPT_SLOT, LOCKED_READ, MOVED_MERGED
+from rows import ADDED, DROPPED_LOCKED, ENTRIES, FORCED, JOINS_MORE, KEPT_SLOT, MOVED_MERGED
 from rows import UNLOCKED, UNMERGED, WRITABLE, Line, Row, careful, row_of
 
 
@@ -72,11 +72,11 @@ def keeps_slot(telling: Telling, line: LineBefore, linux: list[str], model: list
     return kept <= sum(line.at // PAGE * PAGE <= int(it, 16) < end for it in came)
 
 
-def drops_locked(line: LineBefore, linux: list[str], model: list[str]) -> bool:
+def drops_locked(telling: Telling, line: LineBefore, linux: list[str], model: list[str]) -> bool:
     """Whether the kernel did all, and dropped the slots of locked pages, too."""
-    is_locked = line.name == "mlock" or line.has("lo")
-    more = len(notes_of(linux, "drop")) > len(notes_of(model, "drop"))
-    return is_locked and more and places_of(linux, SERVED) == places_of(model, SERVED)
+    more = len(notes_of(linux, "drop")) - len(notes_of(model, "drop"))
+    is_served = places_of(linux, SERVED) == places_of(model, SERVED)
+    return is_served and 0 < more <= telling.came_locked[line.number]
 
 
 def row_for(telling: Telling, shown: Shown) -> Row | None:
@@ -107,8 +107,8 @@ def row_of_notes(telling: Telling, line: LineBefore, shown: Shown) -> Row | None
             return MOVED_MERGED if line.name == "mremap" else UNMERGED
         case "write" | "mlock" if keeps_slot(telling, line, linux, model):
             return KEPT_SLOT
-        case "read" | "mlock" if drops_locked(line, linux, model):
-            return LOCKED_READ
+        case "read" | "write" | "mlock" if drops_locked(telling, line, linux, model):
+            return DROPPED_LOCKED
         case "write" | "mlock" if len(notes_of(linux, "copy")) > len(notes_of(model, "copy")):
             return FORCED if not telling.drains or telling.counts["not drained"] else None
         case "merge" if line.number in telling.joined_more:

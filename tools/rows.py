@@ -259,11 +259,11 @@ UNLOCKED = Row("mlock, munlock", "`dontunmap` of locked pages")
 # ---- rows that notes alone show, where a kernel's own transcript is judged
 FORCED = Row("read, write", "write to a frame that a fork left to several")
 KEPT_SLOT = Row("A page comes back", "the slot is dropped")
-LOCKED_READ = Row("A page comes back", "a read of a locked page")
+DROPPED_LOCKED = Row("A page comes back", "a page that is locked")
 JOINS_MORE = Row("merge", "what is looked at")
 UNMERGED = Row("merge", "`unmergeable`")
 MOVED_MERGED = Row("merge", "a page that `mremap` moves")
-NOTED = {FORCED, KEPT_SLOT, LOCKED_READ, JOINS_MORE, UNMERGED, MOVED_MERGED}
+NOTED = {FORCED, KEPT_SLOT, DROPPED_LOCKED, JOINS_MORE, UNMERGED, MOVED_MERGED}
 # all of them
 ROWS = {*CAREFULLY["mmap"], *CAREFULLY["mremap"], *CAREFULLY["mlock"]} | {
     KEYS, ACCOUNTING, LIMITED, ENTRIES, GROWTH, UNMOVED, WRITABLE, ADDED, UNLOCKED

@@ -34,6 +34,7 @@ PAGES, PATIENCE = 1024, 20
 UNREADABLE = "no process can read one of its frames, which so can't be kept as seen"
 NOTHING = "there is no frame to send out"
 OTHER_AREA = "pages went to another swap area"
+OTHERS_FILL = "pages of others fill the machine's swap, so that any read may drop a slot"
 
 
 def libc_call(name: str, *of: object) -> None:
@@ -70,6 +71,13 @@ def area(folder: str | None = None) -> Iterator[str]:
 def turn_off(name: bytes) -> None:
     with unbroken():
         libc_call("swapoff", name)
+
+
+def swap_of_machine() -> tuple[int, int]:
+    """How much swap is free, and how much there is, over all areas."""
+    with open("/proc/meminfo", encoding="ascii") as it:
+        said = dict(line.split(":") for line in it)
+    return int(said["SwapFree"].split()[0]), int(said["SwapTotal"].split()[0])
 
 
 class Swapping:
@@ -136,6 +144,13 @@ class Swapping:
             raise Cut(BY_ITSELF)
         self.check_area(out.values())
         return out
+
+    def check_full(self, frames: Frames) -> None:
+        """Whether swap counts as full for others' pages."""
+        free, all_ = swap_of_machine()
+        own = len(frames.slots() | set(frames.cached))
+        if 2 * free < all_ and 2 * (PAGES - 1 - own) >= PAGES - 1:
+            raise Cut(OTHERS_FILL)
 
     def check_area(self, slots: Iterable[int]) -> None:
         """Whether it is the file where pages went. (Others may swap, too, and fill it.)"""

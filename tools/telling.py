@@ -15,7 +15,7 @@ from proc import Area, row_of
 from ranges import PAGE, up
 from shift import LOW, TOP, NotAsked
 from stubs import Gone
-from swapping import Swapping
+from swapping import Swapping, locked_frames
 
 # commands that change areas
 CHANGES = ("fork", *CALLS)
@@ -77,6 +77,8 @@ class Telling:
         self.merging: Merging | None = None
         # lines at which ksmd merged what the definitions don't look at
         self.joined_more: set[int] = set()
+        # how many pages of locked frames came in at a line at which a slot was dropped
+        self.came_locked: collections.Counter[int] = collections.Counter()
         # whether the CPUs' lists are drained before an access that may copy, and whether a child
         # gets the entries of the page of zeros that the kernel didn't give it
         self.drains = self.mends = True
@@ -126,6 +128,8 @@ class Telling:
         self.drain_for(words)
         reply = self.kernel.answer(words, said)
         self.check_killed()
+        if self.swapping:
+            self.swapping.check_full(self.frames)
         was = self.frames.now if self.frames else {}
         try:
             notes = self.frames.take(words, reply[0], self.look()) if self.frames else []
@@ -135,9 +139,19 @@ class Telling:
             self.is_unsure = True
             raise
         self.told.append(Told(self.line, words, reply + notes, False, before))
+        if any(it.startswith("drop ") for it in notes):
+            self.count_locked(notes)
         if words[0] == "fork" and reply == ["ok"] and self.frames and self.mends:
             self.mend(was.get(words[1], {}), words[2])
         self.ask(words, reply[0], was)
+
+    def count_locked(self, notes: list[str]) -> None:
+        """Of the frames that entries came to name how many are of a locked page, here or in another
+        process.
+        """
+        locked = {f"{self.frames.numbers[it]}" for it in locked_frames(self)}
+        came = [it.split(" ")[3] for it in notes if it.startswith("map ")]
+        self.came_locked[self.line] += sum(it in locked for it in came)
 
     def before(self, words: list[str]) -> list[Area]:
         """The areas of a process, as they are."""

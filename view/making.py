@@ -1,20 +1,14 @@
-"""Runs avsim on a trace with reports between its lines, and makes the page's data of it."""
+"""Runs avsim on a trace, and says which reports tell the rest of what a command changed."""
 import collections
 import os
-import queue
 import re
 import subprocess
-import threading
 
-from shared.meter import Progress
 from shared.saying import Refused
 
-from labels import is_label, said_of_accesses
-from names import Names
+from labels import is_label
 from told import BY_RANGE, MIDWAY, Told, page_of
 
-# steps that one page has at most, and bytes
-MOST_STEPS, MOST_BYTES = 50_000, 90_000_000
 # rows of a reply that a page shows at most
 MOST_ROWS = 64
 # reports that are asked behind one command at most
@@ -143,84 +137,6 @@ def reports(told: Told, words: list[str], reply: list[str]) -> list[str]:
     return [*asked[:MOST_ASKED], "stat"]
 
 
-class Asking(threading.Thread):
-    """Puts reports between the lines, and hands on what is answered, step by step.
-
-    The reports depend on replies, so the trace was run once to see them. This thread writes the
-    lines to a second run; whoever iterates reads its answers.
-    """
-
-    def __init__(self, run: Run):
-        super().__init__(daemon=True)
-        self.run_, self.asked, self.error = run, queue.Queue(maxsize=4096), None
-        try:
-            self.avsim = subprocess.Popen(
-                [run.program, "run", *run.words],
-                stdin=subprocess.PIPE,
-                stdout=subprocess.PIPE,
-                stderr=subprocess.DEVNULL,
-            )
-        except OSError as error:
-            raise cannot_run(run.program, error) from None
-
-    def run(self):
-        told = Told()
-        try:
-            for command, reply in zip(self.run_.commands, self.run_.replies):
-                asked = reports(told, command.line.split(" "), reply)
-                told.ops.clear()
-                self.asked.put(asked)
-                text = "\n".join([command.line, *asked, ""])
-                self.avsim.stdin.write(text.encode(errors="surrogateescape"))
-        except Exception as error:  # pylint: disable=broad-exception-caught
-            # (the reader sees that answers are missing)
-            self.error = error
-        finally:
-            self.close_input()
-            self.asked.put(None)
-
-    def close_input(self):
-        try:
-            self.avsim.stdin.close()
-        except OSError:
-            # (what couldn't be written is lost with the program that didn't read it)
-            pass
-
-    def replies(self):
-        """The replies of the second run, one after the other."""
-        rest = ""
-        while block := self.avsim.stdout.read1(1 << 18):
-            # (a reply is whole when the next one's first byte is there)
-            parts = re.split(r"\n(?! )", rest + block.decode(errors="replace"))
-            *whole, rest = parts
-            if not rest and whole:
-                rest = whole.pop() + "\n"
-            for it in whole:
-                yield it
-        if rest:
-            yield rest.removesuffix("\n")
-
-    def steps(self):
-        """Each command with its reply, and the reports behind it with what they answer."""
-        self.start()
-        given = self.replies()
-        try:
-            for command, reply in zip(self.run_.commands, self.run_.replies):
-                asked = self.asked.get()
-                answer = next(given, "")
-                if self.error and not isinstance(self.error, OSError):
-                    raise self.error
-                if asked is None or answer.replace("\n ", "\n") != "\n".join(reply):
-                    raise Refused(
-                        f"line {command.number} is answered otherwise with reports before it: "
-                        "that is a fault of avsim, please tell"
-                    )
-                yield command, reply, [(it, next(given, "err")) for it in asked]
-        finally:
-            self.avsim.kill()
-            self.avsim.wait()
-
-
 def take(told: Told, ask: str, answer: str) -> bool:
     """Takes in what a report answers; False where something else was told."""
     kind, *of = ask.split(" ")
@@ -255,29 +171,6 @@ def step_of(command: Command, reply: list[str], ops: list[list]) -> dict:
     return step
 
 
-def follow(run: Run, progress: Progress, names: Names):
-    """Each command with its reply, and what is known behind it. (The operations of `told` are
-    those of this step, until the next one.)
-    """
-    told = Told()
-    for at, (command, reply, answers) in enumerate(Asking(run).steps(), 1):
-        words = command.line.split(" ")
-        told.ops = []
-        told.tell(words, reply)
-        slots = set(told.touched)
-        same = all([take(told, ask, answer) for ask, answer in answers])
-        slots -= {":".join(ask.split(" ")[1:]) for ask, _ in answers if ask.startswith("slot ")}
-        for slot in sorted(slots):
-            told.answer_slot(slot, "?")
-        if words[0] == "swapoff" and reply[0] == "ok":
-            for slot in [it for it in told.counts if it.startswith(f"{words[1]}:")]:
-                told.answer_slot(slot, "")
-        told.tell_of_areas()
-        told.ops += names.take(command.comment, words, reply)
-        progress.say(f"{at} of {len(run)} commands")
-        yield command, reply, told, same
-
-
 def told_at(run: Run):
     """What is told up to each command, and whether that is more than before it. (For a terminal,
     where nothing is asked.)
@@ -300,62 +193,3 @@ def used_in(stat: str) -> int:
     """The frames that are in use, by what `stat` says."""
     numbers = dict(it.split("=") for it in stat.split())
     return int(numbers.get("frames", 0)) - int(numbers.get("free", 0))
-
-
-def window_of(wanted: tuple[int, int] | None, count: int) -> tuple[int, int]:
-    """The steps that a page shows, from 1: those that are wanted, else the last ones."""
-    first, last = wanted or (max(1, count - MOST_STEPS + 1), count)
-    if first > max(count, 1):
-        raise Refused(f"--steps begins at command {first}, and the run has {count}")
-    last = min(last, count)
-    if last - first + 1 > MOST_STEPS:
-        raise Refused(f"--steps names more than {MOST_STEPS} commands")
-    return first, last
-
-
-def data_of(
-    title: str, frames: int, run: Run, wanted: tuple[int, int] | None, illegal: int = 0
-) -> dict:
-    """What the page shows, as it stands in it. `illegal` is the number of the reply that isn't
-    legal in a transcript that was judged; 0 for none.
-    """
-    progress, steps, base, said, size = Progress("view"), [], [], [run.said], 0
-    first, last = window_of(wanted, len(run))
-    wrong = lost = most = 0
-    names = Names()
-    for at, (command, reply, told, same) in enumerate(follow(run, progress, names), 1):
-        most = max(most, used_in(told.numbers))
-        wrong, lost = wrong or (not same and command.number), lost or told.lost and command.number
-        if at == first - 1:
-            base = told.all_ops() + names.all_ops(set(told.tables))
-        if at < first:
-            continue
-        steps.append(step_of(command, reply, told.ops) | ({"i": 1} if at == illegal else {}))
-        size += 200 + sum(map(len, reply[:MOST_ROWS])) + sum(len(str(it)) for it in told.ops)
-        if at == last or size > MOST_BYTES:
-            break
-    progress.end()
-    last = first + len(steps) - 1
-    if len(steps) < len(run):
-        said.append(
-            f"the page has commands {first} to {last} of {len(run)}: "
-            "--steps FROM-TO names others"
-        )
-    if wrong:
-        said.append(
-            f"from line {wrong} on notes tell otherwise than `entry` or `slot` does: "
-            "that is a fault, please tell"
-        )
-    said.append(said_of_accesses(head_of(run.commands), run.has_note("put"), frames))
-    if lost:
-        said.append(f"from line {lost} on not all entries are known: they are drawn as ?")
-    return {
-        "title": title,
-        "frames": frames,
-        "most": most,
-        "first": first,
-        "total": len(run),
-        "said": "; ".join(it for it in said if it),
-        "base": base,
-        "steps": steps,
-    }

@@ -299,9 +299,13 @@ function hashed() {
   }
 }
 
-at("title").textContent = `${data.title}, ${many(data.frames, "frame")}`;
-at("most").textContent = `${data.most.toLocaleString("en")} in use at most`;
-at("slider").max = last;
+function showTitle() {
+  at("title").textContent = `${data.title}, ${many(data.frames, "frame")}`;
+  at("most").textContent = `${data.most.toLocaleString("en")} in use at most`;
+  at("slider").max = last;
+}
+
+showTitle();
 at("slider").addEventListener("input", () => go(Number(at("slider").value)));
 at("first").onclick = () => go(0);
 at("back").onclick = () => { play(false); back(); };

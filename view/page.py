@@ -5,7 +5,7 @@ import os
 import re
 
 HERE = os.path.dirname(os.path.realpath(__file__))
-SCRIPTS = ("state.js", "spaces.js", "frames.js", "page.js")
+STYLES, SCRIPTS = ["page.css"], ["state.js", "spaces.js", "frames.js", "page.js"]
 
 
 def file_of(name: str) -> str:
@@ -13,13 +13,18 @@ def file_of(name: str) -> str:
         return it.read().rstrip("\n")
 
 
-def page_of(data: dict) -> str:
-    """The page. (Within a script no text may look like the script's end.)"""
+def page_of(data: dict, nonce: str = "", is_live: bool = False) -> str:
+    """The page, or one to type into. (Within a script no text may look like the script's end.)
+    Where a nonce is given, the scripts that have it may run.
+    """
     text = json.dumps(data, separators=(",", ":"), ensure_ascii=True).replace("<", "\\u003c")
+    styles, scripts = STYLES + ["live.css"] * is_live, SCRIPTS + ["live.js"] * is_live
     pieces = {
         "<title></title>": f"<title>avsim: {html.escape(data['title'])}</title>",
-        "/*STYLE*/": file_of("page.css"),
-        "/*SCRIPT*/": "\n\n".join(map(file_of, SCRIPTS)),
+        "/*STYLE*/": "\n".join(map(file_of, styles)),
+        "/*SCRIPT*/": "\n\n".join(map(file_of, scripts)),
+        "<!--TYPING-->\n": file_of("live.html") + "\n" if is_live else "",
+        "<script>": f'<script nonce="{nonce}">' if nonce else "<script>",
         "/*DATA*/": text,
     }
     places = "|".join(map(re.escape, pieces))

@@ -3,7 +3,8 @@
 // The page's script is this file, spaces.js, frames.js and page.js, one behind the other.
 const at = id => document.getElementById(id);
 const data = JSON.parse(at("data").textContent);
-const last = data.steps.length;
+// (a page that is typed into gets others)
+let last = data.steps.length;
 // a process and a page, as one number
 const PROCESS = 2 ** 36;
 const keyOf = (process, page) => process * PROCESS + page;

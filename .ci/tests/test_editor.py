@@ -119,6 +119,7 @@ class Completion(unittest.TestCase):
         for words, wanted in (
             (["./avsim", "t"], ["talk", "test"]),
             (["./avsim", "re"], ["replay"]),
+            (["./avsim", "page", "examples/first."], FIRST),
             (["./avsim", "work", "-"], ["--help"]),
             (["./avsim", "audit", "-"], ["--help"]),
             (["./avsim", "check", "-"], ["--help"]),

@@ -26,14 +26,15 @@ _avsim() {
   local begun=${COMP_WORDS[COMP_CWORD]} first=${COMP_WORDS[1]} at=$COMP_CWORD
   COMPREPLY=()
   case $at:$first:$begun in
-    1:*) _avsim_words "run replay work audit talk why check help test build --help --version" \
+    1:*) _avsim_words "run replay work audit talk page why check help test build --help --version" \
       "$begun" ;;
     2:test:*) _avsim_words --quick "$begun" ;;
     2:help:*) _avsim_words "$_avsim_commands" "$begun" ;;
-    2:check:-* | 2:replay:-* | 2:run:* | 2:work:* | 2:audit:* | 2:talk:* | 2:why:*)
+    2:check:-* | 2:replay:-* | 2:run:* | 2:work:* | 2:audit:* | 2:talk:* | 2:why:* | 2:page:-*)
       _avsim_words --help "$begun" ;;
     2:replay:* | [23]:check:* | [5-9]:check:* | 1[0-2]:check:*) _avsim_files "$begun" ;;
-    [3-9]:run:* | 10:run:* | [3-9]:audit:* | 10:audit:* | [3-9]:talk:* | 10:talk:*)
+    [2-9]:page:* | 1[01]:page:* | [3-9]:run:* | 10:run:* | [3-9]:audit:* | 10:audit:* | \
+      [3-9]:talk:* | 10:talk:*)
       _avsim_files "$begun" ;;
     [5-9]:work:* | 1[0-2]:work:*) _avsim_files "$begun" ;;
   esac

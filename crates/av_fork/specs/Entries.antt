@@ -33,10 +33,6 @@ entry_goes_over (Some area) = not area.flags.dont_fork && not area.flags.wipe_on
 abbrev pub left_in : (ℕ → Option Area) → (ℕ → Pte) → ℕ → Pte
 left_in areas table page = if entry_goes_over (areas page) then table page else Empty
 
--- or without those of a range of pages
-abbrev pub without_range : ℕ → ℕ → (ℕ → Pte) → ℕ → Pte
-without_range from past table page = if within from (past - from) page then Empty else table page
-
 -- the child has inherited each entry of the parent that goes over: nothing is taken, nothing
 -- becomes free, and the items stay, so a merged frame gets entries and no item
 pub record HasForkedEntries (d : Device) (old new : Mem) (pages : Process) (l : Ledger) (p q : ℕ)

@@ -4,7 +4,7 @@ ghost use Rattle.std.specs.Prelude.{◌≡◌, ℕ, ◌*◌, ◌<◌, ◌≤◌,
 ghost use Rattle.av_base.specs.Limits.{most_processes, top_page};
 ghost use Rattle.av_base.specs.Words.{with_at};
 ghost use Rattle.av_base.specs.declared.slot.Slot.{Slot};
-ghost use Rattle.av_fork.specs.Entries.{entry_goes_over, left_in, without_range, FlagsAre};
+ghost use Rattle.av_fork.specs.Entries.{entry_goes_over, left_in, FlagsAre};
 ghost use Rattle.av_fork.specs.Entries.{HasForkedEntries};
 ghost use Rattle.av_pagetable.specs.Entries.{entry_at, has};
 ghost use Rattle.av_pagetable.specs.Table.{page_bound};
@@ -71,7 +71,7 @@ fn leave_out(mem: &mut Mem, parent: u16, child: u16)
         if goes {
             continue;
         }
-        take_out(mem, child, page, past);
+        mem.tables.clear_range(child, page, past);
     }
 }
 
@@ -90,18 +90,5 @@ fn run_from(spaces: &Spaces, process: u16, page: u64) -> (bool, u64)
         }
         // A page that isn't mapped has no entry.
         None => (false, page + 1),
-    }
-}
-
-/// Takes the entries of a range of a process's pages out of its table.
-fn take_out(mem: &mut Mem, process: u16, from: u64, past: u64)
-    ensures taken { entry_at mem.new.tables ≡ with_at process
-        (without_range from past (entry_at mem.old.tables process)) (entry_at mem.old.tables) }
-    ensures processes { has mem.new.tables ≡ has mem.old.tables }
-    ensures rest { mem.new ≡ record mem.old { tables = mem.new.tables } }
-{
-    let mut next = from;
-    while let Some((page, _)) = mem.tables.take_first(process, next, past) {
-        next = page + 1;
     }
 }

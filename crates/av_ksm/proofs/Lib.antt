@@ -9,8 +9,10 @@ pub mod MergingAsks
 pub mod MergingDone
 pub mod MergingViews
 pub mod MergingTurn
+pub mod OrderLaws
 pub mod ContentsLaws
 pub mod PagesLaws
 pub mod AtFirst
 pub mod CommandLaws
 pub mod MergesLaws
+pub mod NoneMergeable

@@ -98,13 +98,14 @@ module _ (d : Device) (old : Mem) (w : World) (r : Rmap) (l : Ledger) (earlier :
 
       module _ (f : ℕ) (page : Option Key) (at : like ≡ Some (f, page)) (below : f < frame_count old) where
         -- it is known itself
-        pub turned-again : (notes : List Note) → f ≡ own → HasTurned d old old w r l earlier key c notes notes
-        turned-again notes same =
+        pub turned-again : (c' : Contents) → AreKept (frame_count old) (view old).bytes aware.known c' → (notes : List Note) → f ≡ own
+            → HasTurned d old old w r l earlier key c' notes notes
+        turned-again c' kept notes same =
             let t = takes (Some (f, page)) at in
             let none : turn_notes l key own f ≡ [] = turn-none l key own f (ap (λ n. n == own) same ∙ same-itself own) in
-            turned-by old c notes notes own is [] (t.0 ∙ none) (noted-none d old w r l notes h) (record {
+            turned-by old c' notes notes own is [] (t.0 ∙ none) (noted-none d old w r l notes h) (record {
               known = aware.known;
-              kept = aware.kept;
+              kept = kept;
               knows = subst (λ ns. Knows (setting_by d old) (view old).bytes (after_notes l ns) (earlier ++ own ∷ []) aware.known) none (t.1 below);
             })
 
@@ -123,14 +124,15 @@ module _ (d : Device) (old : Mem) (w : World) (r : Rmap) (l : Ledger) (earlier :
         pub turned-other : (f == own) ≡ false → HasOther l key own f
         turned-other other = let x = candidate-own w l key own is in record { seen = x.0; own_is = x.1; other = other }
 
-        pub turned-joins : (new : Mem) (before now : List Note) → (view new).bytes ≡ (view old).bytes → KeepsParts old new
-            → HasNoted d old new w r l (turn_notes l key own f) before now → HasTurned d old new w r l earlier key c before now
-        turned-joins new before now bytes parts noted =
+        pub turned-joins : (c' : Contents) → AreKept (frame_count old) (view old).bytes aware.known c' → (new : Mem) (before now : List Note)
+            → (view new).bytes ≡ (view old).bytes → KeepsParts old new → HasNoted d old new w r l (turn_notes l key own f) before now
+            → HasTurned d old new w r l earlier key c' before now
+        turned-joins c' kept new before now bytes parts noted =
             let t = takes (Some (f, page)) at in
-            turned-by new c before now own is (turn_notes l key own f) t.0 noted (record {
+            turned-by new c' before now own is (turn_notes l key own f) t.0 noted (record {
               known = aware.known;
-              kept = subst (λ n. AreKept n (view new).bytes aware.known c) (sym parts.count)
-                  (subst (λ held. AreKept (frame_count old) held aware.known c) (sym bytes) aware.kept);
+              kept = subst (λ n. AreKept n (view new).bytes aware.known c') (sym parts.count)
+                  (subst (λ held. AreKept (frame_count old) held aware.known c') (sym bytes) kept);
               knows = subst (λ held. Knows (setting_by d new) held (after_notes l (turn_notes l key own f)) (earlier ++ own ∷ []) aware.known)
                   (sym bytes)
                   (subst (λ m. Knows m (view old).bytes (after_notes l (turn_notes l key own f)) (earlier ++ own ∷ []) aware.known)

@@ -1,53 +1,53 @@
--- What frames hold, by a hash of it.
-use Rattle.std.specs.HashMap.{get}
-use Rattle.std.specs.Int.{from_le_bytes, rotate_left, w64}
+-- What frames hold, in the order of their bytes.
+use Rattle.std.specs.Cmp.Lexicographic.{slice_cmp}
 use Rattle.std.specs.List.{range_with_len}
-use Rattle.std.specs.Prelude.{◌≡◌, ◌+◌, ◌*◌, ◌/◌, ◌%◌, ◌^◌, ◌<◌, ℕ, zero, suc, ◌==◌, bit_xor, All}
-use Rattle.std.specs.Prelude.{List, [], ◌∷◌, filter, map, nat_eq, slice_index, Option, Some, None}
-use Rattle.std.specs.declared.vec.Vec.{Vec}
-use Rattle.std.specs.declared.alloc.Global.{Global}
+use Rattle.std.specs.Ordering.{nat_cmp}
+use Rattle.std.specs.Prelude.{◌≡◌, ◌<◌, ◌≤◌, ℕ, false, IsSome, List, length, map, None, Option}
+use Rattle.std.specs.Prelude.{Result, Ok, Err, slice_index, slice_index_or, All, EachIndex}
+use Rattle.std.specs.declared.cmp.Ordering.{Ordering}
+use Rattle.std.specs.declared.cmp.Ordering.TheVariants.{Less, Equal, Greater}
 use Rattle.av_base.specs.Page.{page_size}
-use Rattle.av_plain.specs.Merge.{FrameBytes}
-use Rattle.av_ksm.specs.Known.{Known}
+use Rattle.av_plain.specs.Merge.{FrameBytes, hold_same}
+use Rattle.av_ksm.specs.Known.{Known, first_like}
 use Rattle.av_ksm.specs.declared.contents.Contents.{Contents}
-use Rattle.av_ksm.specs.declared.contents.TheConstants.{MULTIPLIER, ROTATION}
 
 -- the bytes of a frame, in order
 unfoldable pub bytes_in : FrameBytes → ℕ → List ℕ
 bytes_in held f = map (held f) (range_with_len 0 page_size)
 
--- the eight bytes from a place on, the lowest first
-abbrev pub word_at : List ℕ → ℕ → ℕ
-word_at bytes at = from_le_bytes w64 (slice_index bytes at ∷ slice_index bytes (at + 1)
-    ∷ slice_index bytes (at + 2) ∷ slice_index bytes (at + 3) ∷ slice_index bytes (at + 4)
-    ∷ slice_index bytes (at + 5) ∷ slice_index bytes (at + 6) ∷ slice_index bytes (at + 7) ∷ [])
+-- the order of two frames by their bytes
+abbrev pub cmp_frames : FrameBytes → ℕ → ℕ → Ordering
+cmp_frames held f g = slice_cmp nat_cmp (bytes_in held f) (bytes_in held g)
 
--- a hash with one more word in it
-abbrev pub mix : ℕ → ℕ → ℕ
-mix hash word = bit_xor (rotate_left w64 hash ROTATION) word * MULTIPLIER % 2 ^ 64
+-- each frame of a row is below those behind it
+abbrev pub AreRising : FrameBytes → List ℕ → Type 0
+AreRising held row = (i j : ℕ) → i < j → j < length row
+    → cmp_frames held (slice_index row i) (slice_index row j) ≡ Less
 
--- the hash of the first n words
-unfoldable pub hash_words : List ℕ → ℕ → ℕ
-hash_words bytes zero = 0
-hash_words bytes (suc n) = mix (hash_words bytes n) (word_at bytes (8 * n))
+-- the place in a row of one that holds the same as f; or else where f would stand
+abbrev pub IsPlace : FrameBytes → List ℕ → ℕ → Result ℕ ℕ → Type 0
+IsPlace held row f (Ok i) = (i < length row) × (cmp_frames held (slice_index row i) f ≡ Equal)
+IsPlace held row f (Err i) = (i ≤ length row)
+    × ((k : ℕ) → k < i → cmp_frames held (slice_index row k) f ≡ Less)
+    × ((k : ℕ) → i ≤ k → k < length row → cmp_frames held (slice_index row k) f ≡ Greater)
 
--- the hash of what a frame holds
-unfoldable pub hash_of : FrameBytes → ℕ → ℕ
-hash_of held f = hash_words (bytes_in held f) (page_size / 8)
+-- what is noted of a frame
+abbrev pub noted : Contents → ℕ → Option Known
+noted c f = slice_index_or c.like.items f None
 
--- what is kept under a hash
-abbrev pub items_in : Option (Vec Known Global) → List Known
-items_in None = []
-items_in (Some v) = v.items
-
-abbrev pub under : Contents → ℕ → List Known
-under c hash = items_in (get nat_eq c.by_hash hash)
-
--- so much is known, the earliest first: each is one of n frames, kept under the hash of what it
--- holds
+-- of n frames, so much is known, the earliest first
 pub record AreKept (n : ℕ) (held : FrameBytes) (known : List Known) (c : Contents) : Type 0 where
+  pub long : length c.like.items ≡ n
+  -- what is noted is so
+  pub first : (f : ℕ) → IsSome (noted c f) → noted c f ≡ first_like held known f
   pub below : All (λ x. x.0 < n) known
-  pub hashed : (hash : ℕ) → under c hash ≡ filter (λ x. hash_of held x.0 == hash) known
+  -- the row rises, and has frames of which something is noted
+  pub row_below : EachIndex c.row.items (λ i. slice_index c.row.items i < n)
+  pub rising : AreRising held c.row.items
+  pub row_noted : EachIndex c.row.items (λ i. IsSome (noted c (slice_index c.row.items i)))
+  -- what holds the same as none of them holds the same as none that is known
+  pub whole : (f : ℕ) → EachIndex c.row.items (λ i. hold_same held (slice_index c.row.items i) f ≡ false)
+      → first_like held known f ≡ None
 
 -- something is
 abbrev pub HasKept : ℕ → FrameBytes → Contents → Type 0

@@ -1,142 +1,140 @@
-//! What frames hold, by a hash of it.
+//! What frames hold, in the order of their bytes.
 
-ghost use Rattle.std.specs.Prelude.{◌≡◌, ◌<◌, ◌≤◌, ◌+◌, ◌/◌, ◌++◌, ℕ, List, [], ◌∷◌, All, IfSome};
-ghost use Rattle.std.specs.Prelude.{OnOk, length};
+ghost use Rattle.std.specs.Prelude.{◌≡◌, ◌<◌, ◌++◌, ◌∷◌, [], ℕ, false, List, IfOk, IfSome, IsSome};
+ghost use Rattle.std.specs.Prelude.{OnOk, EachIndex, slice_index};
+ghost use Rattle.std.specs.Cmp.Lexicographic.{slice_cmp};
+ghost use Rattle.std.specs.Ordering.{nat_cmp};
 ghost use Rattle.av_frames.specs.Store.{shown};
-ghost use Rattle.av_plain.specs.Merge.{FrameBytes, hold_same};
-ghost use Rattle.av_ksm.specs.Contents.{hash_of, hash_words, mix, word_at, AreKept, HasKept};
+ghost use Rattle.av_plain.specs.Merge.{FrameBytes};
+ghost use Rattle.av_ksm.specs.Contents.{cmp_frames, AreKept, AreRising, HasKept, IsPlace};
 ghost use Rattle.av_ksm.specs.Known.{Known, first_like};
 
 use av_frames::Frames;
 use std::alloc::{AllocError, Global};
-use std::collections::HashMap;
+use std::cmp::Ordering;
 
-// Odd, so that hashes of two pages that differ in one word differ.
-const MULTIPLIER: u64 = 0x9e37_79b9_7f4a_7c15;
+// How many bytes are compared at once.
+const PIECE: usize = 256;
 
-// The high bits come to where they tell more.
-const ROTATION: u32 = 29;
-
-/// Known frames by a hash of what each holds, so that one that holds the same as another is found
-/// without a look at the rest. Each stands with the page that has it, or with none.
+/// Known frames by what they hold, so that one that holds the same as another is found without a
+/// look at most of the rest. Each stands with the page that has it, or with none.
 #[derive(Drop)]
 pub struct Contents {
-    // In each list the earliest comes first.
-    by_hash: HashMap<u64, Vec<(u32, Option<(u16, u64)>)>>,
+    /// For each frame the first known one that holds the same, where that was asked for.
+    like: Vec<Option<(u32, Option<(u16, u64)>)>>,
+    /// The first known one of each content, in the order of their bytes. There are at most 16,384:
+    /// an insert moves 64 KiB at most.
+    row: Vec<u32>,
 }
 
 impl Contents {
-    /// Nothing is known.
-    pub fn new(alloc: Global) -> Contents
-        ensures { (n : ℕ) (held : FrameBytes) → AreKept n held [] result }
+    /// Of so many frames none is known.
+    pub fn new(alloc: Global, count: u32) -> Result<Contents, AllocError>
+        ensures { IfOk result (λ c. (held : FrameBytes) → AreKept count held [] c) }
     {
-        Contents {
-            by_hash: HashMap::new(alloc),
-        }
+        Ok(Contents {
+            like: vec![in alloc; None; count as usize]?,
+            row: Vec::new(alloc),
+        })
     }
 
-    /// The first known frame that holds the same as this one. It costs a look at the bytes of each
-    /// that has the same hash.
-    pub fn find(&self, frames: &Frames, frame: u32) -> Option<(u32, Option<(u16, u64)>)>
-        requires in_range { frame < (shown frames.now).count }
-        requires kept { HasKept (shown frames.now).count (shown frames.now).bytes self.now }
-        ensures first { (known : List Known)
-            → AreKept (shown frames.now).count (shown frames.now).bytes known self.now
-            → result ≡ first_like (shown frames.now).bytes known frame }
-        ensures in_range { IfSome result (λ x. x.0 < (shown frames.now).count) }
-    {
-        let known = self.by_hash.get(&hash_of(frames, frame))?;
-        first_like(known, frames, frame)
-    }
-
-    /// One frame more is known.
-    pub fn add(
+    /// The first known frame that holds the same as this one. Where there is none, this one is
+    /// known from now on. It costs a comparison of bytes for each doubling of what is known, once
+    /// for each frame.
+    pub fn find_or_add(
         &mut self,
         frames: &Frames,
         frame: u32,
         page: Option<(u16, u64)>,
-    ) -> Result<(), AllocError>
+    ) -> Result<Option<(u32, Option<(u16, u64)>)>, AllocError>
         requires in_range { frame < (shown frames.now).count }
-        ensures { OnOk result ((known : List Known)
+        requires kept { HasKept (shown frames.now).count (shown frames.now).bytes self.old }
+        ensures first { IfOk result (λ o. (known : List Known)
+            → AreKept (shown frames.now).count (shown frames.now).bytes known self.old
+            → o ≡ first_like (shown frames.now).bytes known frame) }
+        ensures in_range { IfOk result (λ o. IfSome o (λ x. x.0 < (shown frames.now).count)) }
+        ensures kept { OnOk result ((known : List Known)
             → AreKept (shown frames.now).count (shown frames.now).bytes known self.old
             → AreKept (shown frames.now).count (shown frames.now).bytes
             (known ++ (frame, page) ∷ []) self.new) }
+        ensures found { IfOk result (λ o. IsSome o → (known : List Known)
+            → AreKept (shown frames.now).count (shown frames.now).bytes known self.old
+            → AreKept (shown frames.now).count (shown frames.now).bytes known self.new) }
     {
-        let hash = hash_of(frames, frame);
-        let known = self.by_hash.entry(hash)?.or_default();
-        known.push((frame, page))?;
-        Ok(())
-    }
-}
-
-/// The first of some known frames that holds the same as this one.
-fn first_like(
-    known: &[(u32, Option<(u16, u64)>)],
-    frames: &Frames,
-    frame: u32,
-) -> Option<(u32, Option<(u16, u64)>)>
-    requires in_range { frame < (shown frames.now).count }
-    requires below { All (λ x. x.0 < (shown frames.now).count) known.now }
-    ensures first { result ≡ first_like (shown frames.now).bytes known.now frame }
-    ensures in_range { IfSome result (λ x. x.0 < (shown frames.now).count) }
-{
-    for other in known {
-        if hold_same(frames, other.0, frame) {
-            return Some(*other);
+        let noted = self.like[frame as usize];
+        if noted.is_some() {
+            return Ok(noted);
+        }
+        match place(&self.row, frames, frame) {
+            Ok(at) => {
+                let known = self.like[self.row[at] as usize];
+                self.like[frame as usize] = known;
+                Ok(known)
+            }
+            Err(at) => {
+                self.row.insert(at, frame)?;
+                self.like[frame as usize] = Some((frame, page));
+                Ok(None)
+            }
         }
     }
-    None
 }
 
-/// Whether two frames hold the same.
-fn hold_same(frames: &Frames, frame: u32, other: u32) -> bool
-    requires { (frame < (shown frames.now).count) × (other < (shown frames.now).count) }
-    ensures { result ≡ hold_same (shown frames.now).bytes frame other }
+/// Where in a row that rises by bytes one stands that holds the same as this frame; or else where
+/// this would stand.
+fn place(row: &[u32], frames: &Frames, frame: u32) -> Result<usize, usize>
+    requires in_range { frame < (shown frames.now).count }
+    requires below { EachIndex row.now (λ i. slice_index row.now i < (shown frames.now).count) }
+    requires rising { AreRising (shown frames.now).bytes row.now }
+    ensures { IsPlace (shown frames.now).bytes row.now frame result }
 {
-    frames.bytes(frame) == frames.bytes(other)
-}
-
-/// A hash of what a frame holds.
-fn hash_of(frames: &Frames, frame: u32) -> u64
-    requires { frame < (shown frames.now).count }
-    ensures { result ≡ hash_of (shown frames.now).bytes frame }
-{
-    hash_words(frames.bytes(frame))
-}
-
-/// A hash of bytes, eight at a time.
-fn hash_words(bytes: &[u8]) -> u64
-    ensures { result ≡ hash_words bytes.now (length bytes.now / 8) }
-{
-    let mut hash = 0;
-    for number in 0..bytes.len() / 8 {
-        hash = mix(hash, word_at(bytes, 8 * number));
+    let (mut from, mut past) = (0, row.len());
+    while from < past {
+        let middle = from + (past - from) / 2;
+        match cmp_frames(frames, row[middle], frame) {
+            Ordering::Less => from = middle + 1,
+            Ordering::Equal => return Ok(middle),
+            Ordering::Greater => past = middle,
+        }
     }
-    hash
+    Err(from)
 }
 
-/// A hash with one more word in it.
-#[inline]
-fn mix(hash: u64, word: u64) -> u64
-    ensures { result ≡ mix hash word }
+/// The order of two frames by their bytes.
+fn cmp_frames(frames: &Frames, frame: u32, other: u32) -> Ordering
+    requires { (frame < (shown frames.now).count) × (other < (shown frames.now).count) }
+    ensures { result ≡ cmp_frames (shown frames.now).bytes frame other }
 {
-    (hash.rotate_left(ROTATION) ^ word).wrapping_mul(MULTIPLIER)
+    compare(frames.bytes(frame), frames.bytes(other))
 }
 
-/// The eight bytes from a place on, as one number.
-#[inline]
-fn word_at(bytes: &[u8], at: usize) -> u64
-    requires { at + 8 ≤ length bytes.now }
-    ensures { result ≡ word_at bytes.now at }
+/// The order of two lists of bytes, by the first that differ. Those in front that are the same are
+/// passed in pieces.
+fn compare(a: &[u8], b: &[u8]) -> Ordering
+    ensures { result ≡ slice_cmp nat_cmp a.now b.now }
 {
-    u64::from_le_bytes([
-        bytes[at],
-        bytes[at + 1],
-        bytes[at + 2],
-        bytes[at + 3],
-        bytes[at + 4],
-        bytes[at + 5],
-        bytes[at + 6],
-        bytes[at + 7],
-    ])
+    let (mut left, mut right) = (a, b);
+    while let (Some((x, xs)), Some((y, ys))) = (
+        left.split_first_chunk::<PIECE>(),
+        right.split_first_chunk::<PIECE>(),
+    ) {
+        if differ(x, y) {
+            break;
+        }
+        left = xs;
+        right = ys;
+    }
+    left.cmp(&right)
+}
+
+/// Whether two pieces may differ: if not, they are the same. No branch lies between the bytes, so
+/// that many are compared at once.
+fn differ(x: &[u8; PIECE], y: &[u8; PIECE]) -> bool
+    ensures { result ≡ false → x.now ≡ y.now }
+{
+    let mut differences = 0;
+    for i in 0..PIECE {
+        differences |= x[i] ^ y[i];
+    }
+    differences != 0
 }

@@ -2,8 +2,8 @@
 //!
 //! `merge` is the command: the pages have their turn in the order of process and page. One that may
 //! be merged (`candidate`) joins a merged frame that holds the same as its own, or else that of an
-//! earlier candidate, which is merged then. What frames hold is found by a hash of it (`Contents`),
-//! and compared before a page joins.
+//! earlier candidate, which is merged then. What frames hold is found in the order of their bytes
+//! (`Contents`).
 //!
 //! Proved: for every state that the memory system stands for, the notes of `merge` are exactly
 //! those of the definitions, by what the frames hold, and it stands for what they leave
@@ -11,8 +11,7 @@
 //! `join` lets a page join it, whose own frame is free then where that was its last entry. That all
 //! stands after each has laws of views alone (`frames_are_shared`, `pages_join`); and what is to be
 //! known of what frames hold, so that it says at each candidate what it joins, is a law, too
-//! (`candidates_take_their_turn`). Without memory part of a merge may be done. Not proved: that few
-//! frames that hold something else have one hash; each such frame costs a look at its bytes.
+//! (`candidates_take_their_turn`). Without memory part of a merge may be done.
 #![tactic(auto)]
 
 mod candidates;

@@ -31,9 +31,9 @@ use std::alloc::{AllocError, Global};
 /// Lets pages with equal bytes share one frame, in the order of process and page. A note of each
 /// frame that is merged and of each page that joins one is added.
 ///
-/// It costs a step for each frame and each page with an entry, and for each candidate the reading
-/// of its bytes, and its walk where an area is locked. Without memory part of the pages may have
-/// had their turn.
+/// Where no area is mergeable it costs nothing. Else it costs a step for each frame and each page
+/// with an entry, the reading of the bytes of each candidate's frame once, and each candidate's walk
+/// where an area is locked. Without memory part of the pages may have had their turn.
 pub fn merge_pages(mem: &mut Mem, alloc: Global, notes: &mut Notes) -> Result<(), AllocError>
     requires { HasBetween mem.old }
     ensures merges { OnOk result ((d : Device) (w : World) (r : Rmap) (l : Ledger)
@@ -42,6 +42,9 @@ pub fn merge_pages(mem: &mut Mem, alloc: Global, notes: &mut Notes) -> Result<()
         notes.old notes.new) }
     ensures count { frame_count mem.new ≡ frame_count mem.old }
 {
+    if !mem.spaces.by_number().any_mergeable() {
+        return Ok(());
+    }
     let mut contents = contents_at_first(mem, alloc)?;
     let mut from = (0, 0);
     while let Some(key) = next_page(mem, from) {
@@ -57,10 +60,10 @@ fn contents_at_first(mem: &Mem, alloc: Global) -> Result<Contents, AllocError>
     ensures { IfOk result (λ c. (d : Device) (w : World) (r : Rmap) (l : Ledger)
         → KeepsBetween d mem.now w r l → IsAware d mem.now l [] c) }
 {
-    let mut contents = Contents::new(alloc);
+    let mut contents = Contents::new(alloc, mem.frames.count())?;
     for frame in 0..mem.frames.count() {
         if mem.is_merged(frame) {
-            contents.add(&mem.frames, frame, None)?;
+            contents.find_or_add(&mem.frames, frame, None)?;
         }
     }
     Ok(contents)
@@ -84,8 +87,9 @@ fn merge_page(
     let Some(own) = candidate(mem, key) else {
         return Ok(());
     };
-    let Some((frame, page)) = contents.find(&mem.frames, own) else {
-        return contents.add(&mem.frames, own, Some(key));
+    let like = contents.find_or_add(&mem.frames, own, Some(key))?;
+    let Some((frame, page)) = like else {
+        return Ok(());
     };
     if frame == own {
         return Ok(());

@@ -1,53 +1,105 @@
--- The entries of a range of pages go to another one, the least page first.
-use Rattle.std.proofs.Common.{◌≡◌, ◌⊎◌, inl, inr, ℕ, ◌+◌, ◌-◌, ◌<◌, ◌≤◌, Bool, true, false, cond, ◌&&◌, refl, sym, ap, ◌∙◌, arith, ◌==◌}
+-- The entries of a range of pages are given to another one, run by run, and then taken out.
+use Rattle.std.proofs.Common.{◌≡◌, ◌⊎◌, inl, inr, ℕ, ◌+◌, ◌-◌, ◌<◌, ◌≤◌, Bool, true, false, cond, ◌&&◌, List, get_or, refl, sym, ap, ◌∙◌, arith, ◌==◌}
 use Rattle.std.proofs.lemmas.Bool.Decides.{nat_tests}
-use Rattle.av_base.specs.Words.{within}
+use Rattle.av_base.specs.Words.{with_at, within}
 use Rattle.av_vma.proofs.Mremap.{in_range, is_in_range, out_of_range}
 use Rattle.av_pagetable.specs.Entries.{with_entry}
-use Rattle.av_pagetable.specs.Table.{IsFirst}
+use Rattle.av_pagetable.specs.Table.{without_range}
 use Rattle.av_pagetable.specs.declared.pte.Pte.{Pte}
 use Rattle.av_pagetable.specs.declared.pte.Pte.TheVariants.{Empty}
-use Rattle.av_mremap.specs.Entries.{moved_entries}
+use Rattle.av_mremap.specs.Entries.{copied_entries, moved_entries, with_run}
 
--- ---- what is on a page after a move
+-- ---- what is on a page after a copy
 
-module _ {X : Type 0} (nothing : X) (p n from to : ℕ) (f : ℕ → ℕ → X) where
+module _ {X : Type 0} (p n from to : ℕ) (f : ℕ → ℕ → X) where
   abbrev then : ℕ → ℕ → X
-  then = moved_entries nothing p n from to f
+  then = copied_entries p n from to f
 
   pub on_other : (q o : ℕ) → (q == p) ≡ false → then q o ≡ f q o
-  on_other q o e = λ i. cond (e i && within to n o) (f p (from + (o - to))) (cond (e i && within from n o) nothing (f q o))
+  on_other q o e = λ i. cond (e i && within to n o) (f p (from + (o - to))) (f q o)
 
-  -- the page is of the range to which the entries go, of that from which they came, or of neither
+  -- the page is of the range to which the entries go, or not
   pub on_new : (q o : ℕ) → (q == p) ≡ true → within to n o ≡ true → then q o ≡ f p (from + (o - to))
-  on_new q o e h = λ i. cond (e i && h i) (f p (from + (o - to))) (cond (e i && within from n o) nothing (f q o))
+  on_new q o e h = λ i. cond (e i && h i) (f p (from + (o - to))) (f q o)
 
-  pub on_old : (q o : ℕ) → (q == p) ≡ true → within to n o ≡ false → within from n o ≡ true → then q o ≡ nothing
-  on_old q o e h k = λ i. cond (e i && h i) (f p (from + (o - to))) (cond (e i && k i) nothing (f q o))
+  pub on_rest : (q o : ℕ) → (q == p) ≡ true → within to n o ≡ false → then q o ≡ f q o
+  on_rest q o e h = λ i. cond (e i && h i) (f p (from + (o - to))) (f q o)
 
-  pub on_rest : (q o : ℕ) → (q == p) ≡ true → within to n o ≡ false → within from n o ≡ false → then q o ≡ f q o
-  on_rest q o e h k = λ i. cond (e i && h i) (f p (from + (o - to))) (cond (e i && k i) nothing (f q o))
-
--- ---- the move, entry by entry
-
--- the entries below a page have moved
-pub record IsMoving (old now : ℕ → ℕ → Pte) (p n from to next : ℕ) : Type 0 where
-  pub low : from ≤ next
-  pub high : next ≤ from + n
-  pub moved : now ≡ moved_entries Empty p (next - from) from to old
+equal : (a b : ℕ) → (a == b) ≡ true → a ≡ b
+equal a b h = grind (arith, nat_tests, h)
 
 itself : (n : ℕ) → (n == n) ≡ true
 itself n = grind (arith, nat_tests)
 
+-- ---- a run is written, entry by entry
+
+module _ (p from : ℕ) (run : List Pte) (old : ℕ → ℕ → Pte) where
+  abbrev first : ℕ → ℕ → ℕ → Pte
+  first k = with_run p from k run old
+
+  none-within : (o : ℕ) → within from 0 o ≡ false
+  none-within o = grind (arith, nat_tests)
+
+  pub none_written : old ≡ first 0
+  none_written = λ i q o. by q o (q == p) i
+    where
+      by : (q o : ℕ) (a : Bool) → old q o ≡ cond (a && within from 0 o) (get_or run (o - from) Empty) (old q o)
+      by q o true = sym (ap (λ b. cond b (get_or run (o - from) Empty) (old q o)) (none-within o))
+      by q o false = refl
+
+  one-within : (k o : ℕ) → (o == from + k) ≡ true → within from (k + 1) o ≡ true
+  one-within k o h = grind (arith, nat_tests, h)
+
+  same-within : (k o : ℕ) → (o == from + k) ≡ false → within from k o ≡ within from (k + 1) o
+  same-within k o h = grind (arith, nat_tests, h)
+
+  not-within : (k o : ℕ) → (o == from + k) ≡ true → within from k o ≡ false
+  not-within k o h = grind (arith, nat_tests, h)
+
+  place : (k o : ℕ) → (o == from + k) ≡ true → k ≡ o - from
+  place k o h = grind (arith, nat_tests, h)
+
+  -- the next entry
+  pub one_written : (k : ℕ) (now : ℕ → ℕ → Pte) → now ≡ first k → with_entry p (from + k) (get_or run k Empty) now ≡ first (k + 1)
+  one_written k now is = ap (with_entry p (from + k) (get_or run k Empty)) is ∙ (λ i q o. by q o (q == p) (o == from + k) refl i)
+    where
+      by : (q o : ℕ) (a b : Bool) → (o == from + k) ≡ b → cond (a && b) (get_or run k Empty) (cond (a && within from k o) (get_or run (o - from) Empty) (old q o))
+          ≡ cond (a && within from (k + 1) o) (get_or run (o - from) Empty) (old q o)
+      by q o true true h = ap (λ n. get_or run n Empty) (place k o h)
+          ∙ sym (ap (λ b. cond b (get_or run (o - from) Empty) (old q o)) (one-within k o h))
+      by q o true false h = ap (λ b. cond b (get_or run (o - from) Empty) (old q o)) (same-within k o h)
+      by q o false b h = refl
+
+  -- where there is none, the page has none
+  pub none_more : (k : ℕ) → get_or run k Empty ≡ Empty → old p (from + k) ≡ Empty → first k ≡ first (k + 1)
+  none_more k none bare = λ i q o. by q o (q == p) (o == from + k) refl refl i
+    where
+      by : (q o : ℕ) (a b : Bool) → (q == p) ≡ a → (o == from + k) ≡ b → cond (a && within from k o) (get_or run (o - from) Empty) (old q o)
+          ≡ cond (a && within from (k + 1) o) (get_or run (o - from) Empty) (old q o)
+      by q o true true e h = ap (λ b. cond b (get_or run (o - from) Empty) (old q o)) (not-within k o h)
+          ∙ ap (λ q. old q o) (equal q p e) ∙ ap (old p) (equal o (from + k) h) ∙ bare ∙ sym none
+          ∙ ap (λ n. get_or run n Empty) (place k o h)
+          ∙ sym (ap (λ b. cond b (get_or run (o - from) Empty) (old q o)) (one-within k o h))
+      by q o true false e h = ap (λ b. cond b (get_or run (o - from) Empty) (old q o)) (same-within k o h)
+      by q o false b e h = refl
+
+-- ---- the copy, run by run
+
+-- the entries below a page are copied
+pub record IsCopying (old now : ℕ → ℕ → Pte) (p n from to next : ℕ) : Type 0 where
+  pub low : from ≤ next
+  pub high : next ≤ from + n
+  pub copied : now ≡ copied_entries p (next - from) from to old
+
 module _ (old : ℕ → ℕ → Pte) (p n from to : ℕ) (apart : (to + n ≤ from) ⊎ (from + n ≤ to))
     (bare : (o : ℕ) → within to n o ≡ true → old p o ≡ Empty) where
   abbrev after_some : ℕ → ℕ → ℕ → Pte
-  after_some k = moved_entries Empty p k from to old
+  after_some k = copied_entries p k from to old
 
-  not_both : (k o : ℕ) → k ≤ n → within to k o ≡ true → within from k o ≡ false
-  not_both k o few h = out_of_range from k o (λ low high. let t = in_range to k o h in by t.0 t.1 low high apart)
+  not_both : (o : ℕ) → within to n o ≡ true → within from n o ≡ true → ⊥
+  not_both o h j = let t = in_range to n o h in let f = in_range from n o j in by t.0 t.1 f.0 f.1 apart
     where
-      by : to ≤ o → o < to + k → from ≤ o → o < from + k → (to + n ≤ from) ⊎ (from + n ≤ to) → ⊥
+      by : to ≤ o → o < to + n → from ≤ o → o < from + n → (to + n ≤ from) ⊎ (from + n ≤ to) → ⊥
       by a b c d (inl e) = omega arith
       by a b c d (inr e) = omega arith
 
@@ -56,11 +108,8 @@ module _ (old : ℕ → ℕ → Pte) (p n from to : ℕ) (apart : (to + n ≤ fr
 
   of_p : (q o : ℕ) → (q == p) ≡ true → old q o ≡ old p o
   of_p q o e = ap (λ x. old x o) (equal q p e)
-    where
-      equal : (a b : ℕ) → (a == b) ≡ true → a ≡ b
-      equal a b h = grind (arith, nat_tests, h)
 
-  -- pages without an entry may move or stay
+  -- pages without an entry may be copied or not
   skip : (k m : ℕ) → k ≤ m → m ≤ n → ((o : ℕ) → from + k ≤ o → o < from + m → old p o ≡ Empty) → (q o : ℕ) → after_some k q o ≡ after_some m q o
   skip k m less few none q o = by (q == p) refl
     where
@@ -72,70 +121,46 @@ module _ (old : ℕ → ℕ → Pte) (p n from to : ℕ) (apart : (to + n ≤ fr
           not_below : within to k o ≡ false → to ≤ o → to + k ≤ o
           not_below h low = grind (arith, nat_tests, h, low)
 
-      old_none : within from k o ≡ false → within from m o ≡ true → old p o ≡ Empty
-      old_none j j' = let t = in_range from m o j' in let low = t.0 in none o (not_below j low) t.1
-        where
-          not_below : within from k o ≡ false → from ≤ o → from + k ≤ o
-          not_below h low = grind (arith, nat_tests, h, low)
-
-      narrower : within from m o ≡ false → within from k o ≡ false
-      narrower h = grind (arith, nat_tests, h, less)
-
-      here : (a a' b b' : Bool) → (q == p) ≡ true → within to k o ≡ a → within to m o ≡ a' → within from k o ≡ b → within from m o ≡ b'
-          → after_some k q o ≡ after_some m q o
-      here true a' b b' e i i' j j' = on_new Empty p k from to old q o e i ∙ sym (on_new Empty p m from to old q o e (wider to k m o less i))
-      here false true b b' e i i' j j' =
-          on_rest Empty p k from to old q o e i (narrower (not_both m o few i'))
-          ∙ of_p q o e ∙ bare o (wider to m n o few i') ∙ sym (new_none i i')
-          ∙ sym (on_new Empty p m from to old q o e i')
-      here false false true b' e i i' j j' = on_old Empty p k from to old q o e i j
-          ∙ sym (on_old Empty p m from to old q o e i' (wider from k m o less j))
-      here false false false true e i i' j j' = on_rest Empty p k from to old q o e i j ∙ of_p q o e ∙ old_none j j'
-          ∙ sym (on_old Empty p m from to old q o e i' j')
-      here false false false false e i i' j j' = on_rest Empty p k from to old q o e i j ∙ sym (on_rest Empty p m from to old q o e i' j')
+      here : (a a' : Bool) → (q == p) ≡ true → within to k o ≡ a → within to m o ≡ a' → after_some k q o ≡ after_some m q o
+      here true a' e i i' = on_new p k from to old q o e i ∙ sym (on_new p m from to old q o e (wider to k m o less i))
+      here false true e i i' = on_rest p k from to old q o e i ∙ of_p q o e ∙ bare o (wider to m n o few i') ∙ sym (new_none i i')
+          ∙ sym (on_new p m from to old q o e i')
+      here false false e i i' = on_rest p k from to old q o e i ∙ sym (on_rest p m from to old q o e i')
 
       by : (b : Bool) → (q == p) ≡ b → after_some k q o ≡ after_some m q o
-      by true e = here (within to k o) (within to m o) (within from k o) (within from m o) e refl refl refl refl
-      by false e = on_other Empty p k from to old q o e ∙ sym (on_other Empty p m from to old q o e)
+      by true e = here (within to k o) (within to m o) e refl refl
+      by false e = on_other p k from to old q o e ∙ sym (on_other p m from to old q o e)
 
-  -- one page more
-  step : (k : ℕ) → k < n → (q o : ℕ)
-      → with_entry p (to + k) (old p (from + k)) (with_entry p (from + k) Empty (after_some k)) q o ≡ after_some (k + 1) q o
-  step k few q o = by (q == p) (o == to + k) (o == from + k) refl refl refl
+  -- a run more
+  step : (k len : ℕ) (run : List Pte) → k + len ≤ n → ((i : ℕ) → i < len → get_or run i Empty ≡ old p (from + k + i)) → (q o : ℕ)
+      → with_run p (to + k) len run (after_some k) q o ≡ after_some (k + len) q o
+  step k len run few are q o = by (q == p) (within (to + k) len o) refl refl
     where
-      back : (o == to + k) ≡ true → from + k ≡ from + (o - to)
-      back h = grind (arith, nat_tests, h)
+      inside : within (to + k) len o ≡ true → within to (k + len) o ≡ true
+      inside h = grind (arith, nat_tests, h)
 
-      is_new : (o == to + k) ≡ true → within to (k + 1) o ≡ true
-      is_new h = grind (arith, nat_tests, h)
+      below : within (to + k) len o ≡ false → within to k o ≡ false → within to (k + len) o ≡ false
+      below h j = grind (arith, nat_tests, h, j)
 
-      is_old : (o == from + k) ≡ true → within from (k + 1) o ≡ true
-      is_old h = grind (arith, nat_tests, h)
+      given : within (to + k) len o ≡ true → get_or run (o - (to + k)) Empty ≡ old p (from + (o - to))
+      given h = let t = in_range (to + k) len o h in let low = t.0 in let high = t.1 in
+          are (o - (to + k)) (omega (arith, low, high))
+          ∙ ap (old p) (let at : from + k + (o - (to + k)) ≡ from + (o - to) = omega (arith, low) in at)
 
-      not_new : (o == from + k) ≡ true → within to (k + 1) o ≡ false
-      not_new h = out_of_range to (k + 1) o (λ low high. absurd (clash apart (same h) low high))
-        where
-          same : (o == from + k) ≡ true → o ≡ from + k
-          same h = grind (arith, nat_tests, h)
+      rest : (b : Bool) → within to k o ≡ b → (q == p) ≡ true → within (to + k) len o ≡ false → after_some k q o ≡ after_some (k + len) q o
+      rest true j e h = on_new p k from to old q o e j ∙ sym (on_new p (k + len) from to old q o e (wider to k (k + len) o (omega arith) j))
+      rest false j e h = on_rest p k from to old q o e j ∙ sym (on_rest p (k + len) from to old q o e (below h j))
 
-          clash : (to + n ≤ from) ⊎ (from + n ≤ to) → o ≡ from + k → to ≤ o → o < to + (k + 1) → ⊥
-          clash (inl e) s a b = omega arith
-          clash (inr e) s a b = omega arith
-
-      rest : (a : ℕ) → (o == a + k) ≡ false → within a k o ≡ within a (k + 1) o
-      rest a h = grind (arith, nat_tests, h)
-
-      by : (x y z : Bool) → (q == p) ≡ x → (o == to + k) ≡ y → (o == from + k) ≡ z
-          → cond (x && y) (old p (from + k)) (cond (x && z) Empty (after_some k q o)) ≡ after_some (k + 1) q o
-      by true true z e i j = ap (old p) (back i) ∙ sym (on_new Empty p (k + 1) from to old q o e (is_new i))
-      by true false true e i j = sym (on_old Empty p (k + 1) from to old q o e (not_new j) (is_old j))
-      by true false false e i j = λ t. cond (q == p && rest to i t) (old p (from + (o - to))) (cond (q == p && rest from j t) Empty (old q o))
-      by false y z e i j = on_other Empty p k from to old q o e ∙ sym (on_other Empty p (k + 1) from to old q o e)
+      by : (a b : Bool) → (q == p) ≡ a → within (to + k) len o ≡ b
+          → cond (a && b) (get_or run (o - (to + k)) Empty) (after_some k q o) ≡ after_some (k + len) q o
+      by true true e h = given h ∙ sym (on_new p (k + len) from to old q o e (inside h))
+      by true false e h = rest (within to k o) refl e h
+      by false b e h = on_other p k from to old q o e ∙ sym (on_other p (k + len) from to old q o e)
 
   -- ---- the pass
 
-  pub none_yet : IsMoving old old p n from to from
-  none_yet = record { low = omega arith; high = omega arith; moved = λ i q o. same q o i }
+  pub none_yet : IsCopying old old p n from to from
+  none_yet = record { low = omega arith; high = omega arith; copied = λ i q o. same q o i }
     where
       empty : (a o : ℕ) → within a (from - from) o ≡ false
       empty a o = grind (arith, nat_tests)
@@ -144,80 +169,115 @@ module _ (old : ℕ → ℕ → Pte) (p n from to : ℕ) (apart : (to + n ≤ fr
       same q o = by (q == p) refl
         where
           by : (b : Bool) → (q == p) ≡ b → old q o ≡ after_some (from - from) q o
-          by true e = sym (on_rest Empty p (from - from) from to old q o e (empty to o) (empty from o))
-          by false e = sym (on_other Empty p (from - from) from to old q o e)
+          by true e = sym (on_rest p (from - from) from to old q o e (empty to o))
+          by false e = sym (on_other p (from - from) from to old q o e)
 
-  module _ (now : ℕ → ℕ → Pte) (next : ℕ) (m : IsMoving old now p n from to next) where
-    -- an entry of the range from there on has not moved
-    left : (o : ℕ) → next ≤ o → o < from + n → now p o ≡ old p o
-    left o low high = ap (λ (f : ℕ → ℕ → Pte). f p o) m.moved
-        ∙ on_rest Empty p (next - from) from to old p o (itself p) (out_of_range to (next - from) o (λ a b. new_page a b apart))
-        (out_of_range from (next - from) o (λ a b. old_page a b))
+  module _ (now : ℕ → ℕ → Pte) (next : ℕ) (m : IsCopying old now p n from to next) where
+    -- a page that isn't of the new range up to there has the entry that it had
+    kept : (o : ℕ) → within to (next - from) o ≡ false → now p o ≡ old p o
+    kept o outside = ap (λ (f : ℕ → ℕ → Pte). f p o) m.copied ∙ on_rest p (next - from) from to old p o (itself p) outside
+
+    left : (o : ℕ) → from ≤ o → o < from + n → now p o ≡ old p o
+    left o low high = kept o (out_of_range to (next - from) o (λ a b. by a b apart))
       where
-        new_page : to ≤ o → o < to + (next - from) → (to + n ≤ from) ⊎ (from + n ≤ to) → ⊥
-        new_page a b (inl e) = let l = m.low in let h = m.high in omega arith
-        new_page a b (inr e) = let l = m.low in let h = m.high in omega arith
+        by : to ≤ o → o < to + (next - from) → (to + n ≤ from) ⊎ (from + n ≤ to) → ⊥
+        by a b (inl e) = let l = m.low in let h = m.high in omega arith
+        by a b (inr e) = let l = m.low in let h = m.high in omega arith
 
-        old_page : from ≤ o → o < from + (next - from) → ⊥
-        old_page a b = let l = m.low in omega arith
-
-    -- where the range has none from there on, all have moved
-    pub all_moved : (past : ℕ) → past ≡ from + n → ((o : ℕ) → next ≤ o → o < past → now p o ≡ Empty) → now ≡ moved_entries Empty p n from to old
-    all_moved past ends none = m.moved ∙ (λ i q o. skip (next - from) n few (omega arith) empty q o i)
+    -- where the range has none from there on, all are copied
+    pub all_copied : (past : ℕ) → past ≡ from + n → ((o : ℕ) → next ≤ o → o < past → now p o ≡ Empty) → now ≡ copied_entries p n from to old
+    all_copied past ends none = m.copied ∙ (λ i q o. skip (next - from) n few (omega arith) empty q o i)
       where
         few : next - from ≤ n
         few = let h = m.high in omega arith
 
         empty : (o : ℕ) → from + (next - from) ≤ o → o < from + n → old p o ≡ Empty
-        empty o low high = let at : next ≤ o = let l = m.low in omega arith in
-            let less : o < past = omega arith in sym (left o at high) ∙ none o at less
-
-    -- one more moves
-    pub one_moved : (new : ℕ → ℕ → Pte) (past page target : ℕ) (e given : Pte) → past ≡ from + n → target ≡ page - from + to → given ≡ e
-        → IsFirst (now p) next past page → now p page ≡ e → new ≡ with_entry p target given (with_entry p page Empty now)
-        → IsMoving old new p n from to (page + 1)
-    one_moved new past page target e given ends there whole first is set = record {
-      low = let l = m.low in let f = first.from_there in omega arith;
-      high = let b = first.below in omega arith;
-      moved = set
-          ∙ (λ i. with_entry p (at i) (value i) (with_entry p (here i) Empty (before i)))
-          ∙ (λ i q o. step k few q o i)
-          ∙ ap after_some more;
-    }
-      where
-        k : ℕ
-        k = page - from
-
-        low : from ≤ page
-        low = let l = m.low in let f = first.from_there in omega arith
-
-        below : page < from + n
-        below = let b = first.below in omega arith
-
-        here : page ≡ from + (page - from)
-        here = let l = low in omega arith
-
-        at : target ≡ to + (page - from)
-        at = omega arith
-
-        few : page - from < n
-        few = let l = low in let b = below in omega arith
-
-        more : page - from + 1 ≡ page + 1 - from
-        more = let l = low in omega arith
-
-        value : given ≡ old p (from + (page - from))
-        value = whole ∙ sym is ∙ left page first.from_there below ∙ ap (old p) here
-
-        empty : (o : ℕ) → from + (next - from) ≤ o → o < from + (page - from) → old p o ≡ Empty
-        empty o a b =
-            let l = m.low in
-            let f = first.from_there in
-            let b' = below in
+        empty o low high = let l = m.low in
             let at : next ≤ o = omega arith in
-            let less : o < page = omega arith in
-            sym (left o at (omega arith)) ∙ first.least o at less
+            let less : o < past = omega arith in sym (left o (omega arith) high) ∙ none o at less
 
-        before : now ≡ after_some (page - from)
-        before = m.moved ∙ (λ i q o. skip (next - from) (page - from) (let f = first.from_there in omega arith)
-            (let h = few in omega arith) empty q o i)
+    -- a run that comes next
+    module _ (past page target len : ℕ) (ends : past ≡ from + n) (goes : target ≡ page - from + to) (up : next ≤ page) (under : page + len ≤ past)
+      where
+        -- its new pages have no entry yet
+        pub bare_still : (o : ℕ) → within target len o ≡ true → now p o ≡ Empty
+        bare_still o h = kept o (out_of_range to (next - from) o (λ a b. let t = inside.0 in omega arith))
+            ∙ bare o (is_in_range to n o (let t = inside.0 in omega arith) (let t = inside.1 in let l = m.low in omega arith))
+          where
+            inside : (target ≤ o) × (o < target + len)
+            inside = in_range target len o h
+
+        pub run_copied : (new : ℕ → ℕ → Pte) (run : List Pte) → ((q : ℕ) → next ≤ q → q < page → now p q ≡ Empty)
+            → ((i : ℕ) → i < len → get_or run i Empty ≡ now p (page + i)) → new ≡ with_run p target len run now
+            → IsCopying old new p n from to (page + len)
+        run_copied new run none are is = record {
+          low = let l = m.low in omega arith;
+          high = omega arith;
+          copied = is
+              ∙ (λ i. with_run p (at i) len run (before i))
+              ∙ (λ i q o. step (page - from) len run few given q o i)
+              ∙ ap after_some more;
+        }
+          where
+            low : from ≤ page
+            low = let l = m.low in omega arith
+
+            at : target ≡ to + (page - from)
+            at = omega arith
+
+            few : page - from + len ≤ n
+            few = let l = low in omega arith
+
+            more : page - from + len ≡ page + len - from
+            more = let l = low in omega arith
+
+            given : (i : ℕ) → i < len → get_or run i Empty ≡ old p (from + (page - from) + i)
+            given i below = let l = low in are i below ∙ left (page + i) (omega arith) (omega arith)
+                ∙ ap (old p) (let here : page + i ≡ from + (page - from) + i = omega arith in here)
+
+            empty : (o : ℕ) → from + (next - from) ≤ o → o < from + (page - from) → old p o ≡ Empty
+            empty o a b =
+                let l = m.low in
+                let f = low in
+                let at : next ≤ o = omega arith in
+                let less : o < page = omega arith in
+                sym (left o (omega arith) (omega arith)) ∙ none o at less
+
+            before : now ≡ after_some (page - from)
+            before = m.copied ∙ (λ i q o. skip (next - from) (page - from) (omega arith)
+                (let h = few in omega arith) empty q o i)
+
+  -- ---- and then the first range loses them
+  pub taken_out : (now new : ℕ → ℕ → Pte) → now ≡ after_some n → new ≡ with_at p (without_range from (from + n) (now p)) now
+      → new ≡ moved_entries Empty p n from to old
+  taken_out now new is takes = takes ∙ (λ i. with_at p (without_range from (from + n) (is i p)) (is i))
+      ∙ (λ i q o. by q o (q == p) (within to n o) (within from n o) refl refl refl i)
+    where
+      long : (from + n) - from ≡ n
+      long = omega arith
+
+      by : (q o : ℕ) (a b c : Bool) → (q == p) ≡ a → within to n o ≡ b → within from n o ≡ c
+          → with_at p (without_range from (from + n) (after_some n p)) (after_some n) q o ≡ moved_entries Empty p n from to old q o
+      by q o a b c e h j = ap (λ m. cond {A = ℕ → Pte} (q == p) (λ o. cond (within from m o) Empty (after_some n p o)) (after_some n q) o) long
+          ∙ cases a b c e h j
+        where
+          cases : (a b c : Bool) → (q == p) ≡ a → within to n o ≡ b → within from n o ≡ c
+              → cond {A = ℕ → Pte} (q == p) (λ o. cond (within from n o) Empty (after_some n p o)) (after_some n q) o
+              ≡ moved_entries Empty p n from to old q o
+          cases true true true e h j = absurd (not_both o h j)
+          cases true true false e h j =
+              (λ i. cond {A = ℕ → Pte} (e i) (λ o. cond (within from n o) Empty (after_some n p o)) (after_some n q) o)
+              ∙ ap (λ b. cond b Empty (after_some n p o)) j ∙ on_new p n from to old p o (itself p) h
+              ∙ sym (λ i. cond (e i && h i) (old p (from + (o - to))) (cond (e i && within from n o) Empty (old q o)))
+          cases true false true e h j =
+              (λ i. cond {A = ℕ → Pte} (e i) (λ o. cond (within from n o) Empty (after_some n p o)) (after_some n q) o)
+              ∙ ap (λ b. cond b Empty (after_some n p o)) j
+              ∙ sym (λ i. cond (e i && h i) (old p (from + (o - to))) (cond (e i && j i) Empty (old q o)))
+          cases true false false e h j =
+              (λ i. cond {A = ℕ → Pte} (e i) (λ o. cond (within from n o) Empty (after_some n p o)) (after_some n q) o)
+              ∙ ap (λ b. cond b Empty (after_some n p o)) j ∙ on_rest p n from to old p o (itself p) h ∙ sym (of_p q o e)
+              ∙ sym (λ i. cond (e i && h i) (old p (from + (o - to))) (cond (e i && j i) Empty (old q o)))
+          cases false b c e h j =
+              (λ i. cond {A = ℕ → Pte} (e i) (λ o. cond (within from n o) Empty (after_some n p o)) (after_some n q) o)
+              ∙ on_other p n from to old q o e
+              ∙ sym (λ i. cond (e i && within to n o) (old p (from + (o - to))) (cond (e i && within from n o) Empty (old q o)))

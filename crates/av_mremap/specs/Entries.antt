@@ -1,6 +1,9 @@
 -- What becomes of the entries of a range of pages.
 use Rattle.std.specs.Prelude.{◌≡◌, ℕ, ◌+◌, ◌-◌, ◌&&◌, ◌++◌, ◌==◌, if◌then◌else◌, List, None}
+use Rattle.std.specs.Prelude.{slice_index_or}
 use Rattle.av_base.specs.Words.{within}
+use Rattle.av_pagetable.specs.declared.pte.Pte.{Pte}
+use Rattle.av_pagetable.specs.declared.pte.Pte.TheVariants.{Empty}
 use Rattle.av_trace.specs.declared.note.Note.{Note}
 use Rattle.av_plain.specs.Choice.{Chooses, ChoosesAll}
 use Rattle.av_plain.specs.Device.{Device}
@@ -18,6 +21,16 @@ moved_entries nothing p n from to f q page =
     if q == p && within to n page then f p (from + (page - to))
     else if q == p && within from n page then nothing
     else f q page
+
+-- the same, but all is left where it was
+abbrev pub copied_entries : {X : Type 0} → ℕ → ℕ → ℕ → ℕ → (ℕ → ℕ → X) → ℕ → ℕ → X
+copied_entries p n from to f q page =
+    if q == p && within to n page then f p (from + (page - to)) else f q page
+
+-- the first n entries of a run are on as many pages in a row, from one on
+abbrev pub with_run : ℕ → ℕ → ℕ → List Pte → (ℕ → ℕ → Pte) → ℕ → ℕ → Pte
+with_run p from n run f q page =
+    if q == p && within from n page then slice_index_or run (page - from) Empty else f q page
 
 -- the entries have moved: nothing is taken, nothing becomes free, and the items stay
 pub record HasMovedEntries (d : Device) (old new : Mem) (l : Ledger) (p n from to : ℕ)

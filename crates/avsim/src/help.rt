@@ -26,7 +26,7 @@ Description
   says whether they are legal.
 
   The script avsim, which starts this program, has other words: build, test,
-  replay, talk, why, check and help.
+  replay, talk, page, why, check and help.
 
 Command line
   SEED                   0 to 18446744073709551615; each number is a load

@@ -33,13 +33,13 @@ loop-page-preserved c =
     let i = c.loop-page.invariant in
     let first = c.in-Some.ensures in
     let run = c.run_from-goes.ensures in
-    let taken = c.take_out.ensures in
+    let cleared = c.clear_range.ensures in
     record {
-      left = taken.taken ∙ left-out (pages_of a.mem.now.spaces.processes a.parent) a.child c.loop-page.next (entry_at a.mem.now.tables)
+      left = cleared.clears ∙ left-out (pages_of a.mem.now.spaces.processes a.parent) a.child c.loop-page.next (entry_at a.mem.now.tables)
           (entry_at c.loop-page.mem.tables) i.left c.in-Some.page c.run_from-goes.result.1 first.from_there run.further first.least
           (λ o low high. ap (λ (m : Mem). entry_goes_over (pages_of m.spaces.processes a.parent o)) (sym i.rest) ∙ run.alike o low high ∙ c.if-goes.false);
-      processes = taken.processes ∙ i.processes;
-      rest = taken.rest ∙ ap (λ (m : Mem). record m { tables = c.take_out.new.mem.tables }) i.rest;
+      processes = cleared.processes ∙ i.processes;
+      rest = ap (λ (m : Mem). record m { tables = c.clear_range.new.self }) i.rest;
     }
 
 pub returns-clause-left : goal.returns-clause-left

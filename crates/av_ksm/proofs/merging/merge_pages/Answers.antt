@@ -1,7 +1,10 @@
-use Rattle.std.proofs.Common.{◌^◌, refl, ◌∙◌, arith}
+use Rattle.std.proofs.Common.{◌^◌, List, Option, refl, sym, ap, ◌∙◌, arith}
+use Rattle.av_vma.specs.Areas.{area_of, is_mergeable}
+use Rattle.av_vma.specs.declared.area.Area.{Area}
 use Rattle.av_plain.specs.Areas.{rmap_after_all}
 use Rattle.av_plain.specs.Event.{after_notes, note_events}
 use Rattle.av_ksm.proofs.MergesLaws.{passed-all, passed-between, passed-none, passed-one}
+use Rattle.av_ksm.proofs.NoneMergeable.{noted-unmergeable}
 use Rattle.av_ksm.proofs.PagesLaws.{less-left}
 use Rattle.av_ksm.proofs.merging.merge_pages.Goals as goal
 
@@ -56,3 +59,9 @@ returns-clause-merges c = λ d w r l h.
     passed-all d old k.mem w r l k.from k.contents c.args.notes.now k.notes p
     (c.in_default.ensures.next d w (rmap_after_all l (note_events p.added) r) (after_notes l p.added)
     (passed-between d old k.mem w r l k.from k.contents c.args.notes.now k.notes p))
+
+pub returns-then-not-any_mergeable-clause-merges : goal.returns-then-not-any_mergeable-clause-merges
+returns-then-not-any_mergeable-clause-merges c = λ d w r l h.
+    let none = c.if-not-any_mergeable.ensures in
+    noted-unmergeable d c.args.mem.now w r l h c.by_number.ensures.numbered
+    (λ number. ap (λ (areas : List (Option Area)). is_mergeable (area_of areas number)) (sym c.by_number.ensures.areas) ∙ none number) c.args.notes.now
