@@ -203,8 +203,8 @@ class Kernel:
 
     @contextlib.contextmanager
     def hole_at_top(self, process: Stub, asked: Call) -> Iterator[None]:
-        """Lets a call that goes on above TOP find a hole there, as it does in the model. (Those that
-        aren't named get no further than TOP.)
+        """Lets a call that goes on above TOP find a hole there, as it does in the model. (Those
+        that aren't named get no further than TOP.)
         """
         number, address, length = asked[:3]
         base = self.shift.base
