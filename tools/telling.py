@@ -146,12 +146,14 @@ class Telling:
         self.ask(words, reply[0], was)
 
     def count_locked(self, notes: list[str]) -> None:
-        """Of the frames that entries came to name how many are of a locked page, here or in another
-        process.
+        """Of the pages that came in how many are locked, or have a frame that is in another process.
         """
         locked = {f"{self.frames.numbers[it]}" for it in locked_frames(self)}
-        came = [it.split(" ")[3] for it in notes if it.startswith("map ")]
-        self.came_locked[self.line] += sum(it in locked for it in came)
+        for number, at, frame in (it.split(" ")[1:] for it in notes if it.startswith("map ")):
+            areas = self.kernel.areas(self.kernel.live[number], "smaps")
+            own = (it for it in areas if it.start <= int(at, 16) < it.end)
+            is_locked = frame in locked or any("lo" in it.flags for it in own)
+            self.came_locked[self.line] += is_locked
 
     def before(self, words: list[str]) -> list[Area]:
         """The areas of a process, as they are."""
