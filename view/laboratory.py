@@ -25,7 +25,7 @@ from small import lines_for, without_blanks
 from swapfile import MOST_FRAMES, PAGE, Machine, Unfit, asked_by, comment_for, told_of, words_of
 
 from making import Command, commands_of
-from teller import Teller, line_of
+from teller import Teller, line_of, planned, steps_at_once
 
 # commands between two marks, commands of a page, lines that are refused by name, states to undo
 APART, MOST_COMMANDS, MOST_REFUSED, MOST_PAST = 64, 20_000, 20, 200
@@ -109,12 +109,13 @@ class Laboratory:
 
     def __init__(self, program: str, words: list[str], title: str, patience: float = PATIENCE):
         self.reference, self.judge = Reference(), Judge(program)
-        self.run = Runner(program, patience)
+        # (the second is asked for replies alone)
+        self.run, self.ahead = Runner(program, patience), Runner(program, patience)
         # (copies of the files that are named, and files that a trace asks for)
         self.room, self.made = tempfile.mkdtemp(prefix="avsim-page-"), 0
         files = [copied(it, f"{self.room}/named{at}.img") for at, it in enumerate(words[1:])]
         self.state, self.commands = State([], [words[0], *files], title), []
-        self.version = 0
+        self.version, self.replies = 0, []
         # states, each with the step that was shown when it was left
         self.past: list[tuple[State, int]] = []
         self.future: list[tuple[State, int]] = []
@@ -122,6 +123,7 @@ class Laboratory:
 
     def close(self) -> None:
         self.run.close()
+        self.ahead.close()
         shutil.rmtree(self.room, ignore_errors=True)
 
     # what is told
@@ -145,15 +147,53 @@ class Laboratory:
     def tell(self, to: int = 0, budget: float = BUDGET) -> None:
         """Tells on: to this command, and as much more as there is time for."""
         until = time.monotonic() + budget
-        if not self.run.is_there():
-            done = self.commands[: len(self.steps)]
-            self.run.begin(self.state.words, list(map(line_of, done)))
+        self.begin_run()
         rest = self.commands[len(self.steps) :]
         goes_on = lambda: len(self.steps) + 1 < to or time.monotonic() < until
         for step in self.teller.steps(rest, self.run.ask, goes_on):
-            self.steps.append(step)
-            if len(self.steps) % APART == 0:
-                self.marks[len(self.steps)] = self.teller.kept()
+            self.add(step)
+
+    def begin_run(self) -> None:
+        """The run has done what is told."""
+        if not self.run.is_there():
+            done = self.commands[: len(self.steps)]
+            self.run.begin(self.state.words, list(map(line_of, done)))
+
+    def add(self, step: dict) -> None:
+        self.steps.append(step)
+        if len(self.steps) % APART == 0:
+            self.marks[len(self.steps)] = self.teller.kept()
+
+    def tell_rest(self) -> None:
+        """Tells on, for as long as there is time. Of many commands the replies are asked before, so
+        that their reports can be asked at once: that spares a wait for each.
+        """
+        until = time.monotonic() + BUDGET
+        if len(self.commands) - len(self.steps) <= APART:
+            self.tell()
+            return
+        self.find_replies()
+        self.begin_run()
+        while len(self.steps) < len(self.commands) and time.monotonic() < until:
+            self.tell_at_once()
+
+    def find_replies(self) -> None:
+        """The replies to all commands, of a run that is asked for nothing else."""
+        if self.replies:
+            return
+        self.ahead.begin(self.state.words, [])
+        found = self.ahead.ask(list(map(line_of, self.commands)))
+        self.replies = [[it.removeprefix(" ") for it in reply] for reply in found]
+        self.ahead.end()
+
+    def tell_at_once(self) -> None:
+        """Tells the commands up to the next mark."""
+        at = len(self.steps)
+        to = at - at % APART + APART
+        before = Teller.of(self.teller.kept()).told
+        plan = planned(before, zip(self.commands[at:to], self.replies[at:to]))
+        for step in steps_at_once(list(plan), self.run.ask, self.teller):
+            self.add(step)
 
     # changes: each gives the first step that may be another
 
@@ -169,10 +209,11 @@ class Laboratory:
                 same = 0
                 self.forget()
             self.back_to(same)
-            self.state, self.commands = state, commands
+            self.state, self.commands, self.replies = state, commands, []
             self.tell(min(shown, len(commands)))
         except (EarlyEnd, Refused) as why:
             self.state, self.commands = before
+            self.replies = []
             self.forget()
             with contextlib.suppress(EarlyEnd, Refused):
                 self.tell()

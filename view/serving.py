@@ -115,7 +115,7 @@ def open_trace(lab: Laboratory, asked: Asked, here: int) -> Done:
 
 def more(lab: Laboratory, asked: Asked, _: int) -> Done:
     same = min(asked.number("at", len(lab.commands)), len(lab.steps))
-    lab.tell()
+    lab.tell_rest()
     return same, None
 
 

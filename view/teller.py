@@ -8,7 +8,7 @@ which is how a page that is typed into goes back.
 import contextlib
 import itertools
 import pickle
-from typing import Callable, Iterator
+from typing import Callable, Iterable, Iterator
 
 from shared.meter import Progress
 from shared.saying import Refused
@@ -24,6 +24,7 @@ from told import Told
 MOST_STEPS, MOST_BYTES, AT_ONCE = 50_000, 90_000_000, 64
 
 Ask = Callable[[list[bytes]], list[list[str]]]
+Planned = tuple[Command, list[str], list[str]]
 
 
 def line_of(command: Command) -> bytes:
@@ -108,12 +109,11 @@ class Teller:
         return found
 
 
-def planned(run: Run) -> Iterator[tuple[Command, list[str], list[str]]]:
-    """The commands of a run with their replies, and the reports to put behind each. (Since these
-    go by replies, many can be asked at once where those are known.)
+def planned(told: Told, done: Iterable[tuple[Command, list[str]]]) -> Iterator[Planned]:
+    """Commands with their replies, and the reports to put behind each, where so much is told before
+    them. (Since these go by replies, many can be asked at once where those are known.)
     """
-    told = Told()
-    for command, reply in zip(run.commands, run.replies):
+    for command, reply in done:
         asked = making.reports(told, command.line.split(" "), reply)
         told.ops.clear()
         yield command, reply, asked
@@ -133,7 +133,8 @@ def live_of(run: Run) -> Iterator[Live]:
 
 def follow(run: Run, teller: Teller) -> Iterator[dict]:
     """The steps of a run, as a teller tells them."""
-    progress, plan, done = Progress("view"), planned(run), 0
+    progress, done = Progress("view"), 0
+    plan = planned(Told(), zip(run.commands, run.replies))
     try:
         with live_of(run) as live:
             while some := list(itertools.islice(plan, AT_ONCE)):
@@ -147,9 +148,7 @@ def follow(run: Run, teller: Teller) -> Iterator[dict]:
         progress.end()
 
 
-def steps_at_once(
-    some: list[tuple[Command, list[str], list[str]]], ask: Ask, teller: Teller
-) -> Iterator[dict]:
+def steps_at_once(some: list[Planned], ask: Ask, teller: Teller) -> Iterator[dict]:
     """The steps of some commands of a plan."""
     lines = [it for command, _, asked in some for it in (line_of(command), *map(str.encode, asked))]
     answers = iter(ask(lines))
