@@ -1,6 +1,6 @@
 -- Worked examples for steps: what a command leaves that is refused, forks that give nothing, and
 -- anon_vmas that aren't idle. Each is right but for one thing.
-use Rattle.std.specs.Prelude.{List, [], ◌∷◌, Some, None}
+use Rattle.std.specs.Prelude.{List, [], ◌∷◌, Some}
 use Rattle.av_base.specs.Words.{with_at}
 use Rattle.av_trace.specs.declared.command.Command.TheVariants.{Areas as AsksAreas, Spawn}
 use Rattle.av_trace.specs.declared.reply.Answer.{Answer}
@@ -8,7 +8,7 @@ use Rattle.av_trace.specs.declared.reply.Answer.TheVariants.{AreaList, Refused}
 use Rattle.av_trace.specs.declared.reply.Errno.TheVariants.{Eexist}
 use Rattle.av_vma.specs.Pages.{pages_in}
 use Rattle.av_vma.specs.declared.area.Area.{Area}
-use Rattle.av_plain.specs.Areas.{Anons, Rmap, no_anons, no_areas}
+use Rattle.av_plain.specs.Areas.{Rmap, no_anons, no_areas}
 use Rattle.av_plain.specs.Transcript.{IsStep, State, at_first}
 use Rattle.av_plain.specs.World.{no_pages}
 use Rattle.av_laws.specs.Areas.{area, areas_of, rmap_with}

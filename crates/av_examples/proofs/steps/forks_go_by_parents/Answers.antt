@@ -1,5 +1,5 @@
-use Rattle.std.specs.Prelude.{◌≡◌, ◌<◌, ℕ, List, [], ◌∷◌, Option, Some, None, is_some, map}
-use Rattle.std.proofs.Common.{arith, ap, cond, Bool, true, false, subst, sym, refl}
+use Rattle.std.specs.Prelude.{◌≡◌, ◌<◌, ℕ, List, [], ◌∷◌, Some, None, is_some, map}
+use Rattle.std.proofs.Common.{arith, ap, cond, Bool, true, false, sym, refl}
 use Rattle.std.proofs.lemmas.Bool.{false≢true}
 use Rattle.std.proofs.lemmas.Bool.Decides.{nat_tests}
 use Rattle.av_vma.specs.Fork.{areas_to_fork}
