@@ -6,6 +6,7 @@ pub mod Locks
 pub mod Merging
 pub mod Sound
 pub mod Stands
+pub mod Steps
 pub mod Texts
 pub mod Views
 pub mod Words

@@ -1,7 +1,7 @@
 //! Worked examples of the definitions of `av_plain` and of texts, beside those of `av_laws`. Each
 //! stands for a wrong version of a definition, which breaks it. They are by topic: texts, merging,
 //! frames that age and move, locks, flags, areas, loads, the history of a device, views of a
-//! kernel, what stands for a state, what is true at all times, and the words of laws.
+//! kernel, what stands for a state, what is true at all times, steps, and the words of laws.
 //!
 //! No function does anything. Each one's contract is proved of the definitions alone.
 #![tactic(auto)]
@@ -15,6 +15,7 @@ mod locks;
 mod merging;
 mod sound;
 mod stands;
+mod steps;
 mod texts;
 mod views;
 mod words;
@@ -28,6 +29,7 @@ pub use locks::{locks_are_of_pages, pinned_frames_count_once};
 pub use merging::{pages_are_candidates, pages_join_in_turn};
 pub use sound::merged_frames_and_chains_are_sound;
 pub use stands::{changed_parts_do_not_stand, slots_are_listed_as_they_are};
+pub use steps::{forks_go_by_parents, steps_leave_one_state};
 pub use texts::{
     answers_have_words, commands_have_lines, notes_have_words, reads_have_a_length,
     replies_are_lines, rows_have_words,
