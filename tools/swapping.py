@@ -105,6 +105,7 @@ class Swapping:
         locked = locked_frames(telling)
         kept = {frames.numbers[it]: "locked" for it in locked}
         kept = {frames.numbers[it]: "ksm" for it in mapped if frames.is_merged(it)} | kept
+        self.age_unmapped(telling, {frames.numbers[it] for it in mapped})
         for frame in sorted(mapped):
             touch(telling, frame)
         by_number = {number: frame for frame, number in frames.numbers.items()}
@@ -160,6 +161,14 @@ class Swapping:
         self.kind = max(kinds, default=-1)
 
     # ---- what is told of it
+
+    def age_unmapped(self, telling: Telling, mapped: set[int]) -> None:
+        """Where the swap cache alone has an active frame, all age: a reclaim comes to it then."""
+        frames = telling.frames
+        if set(frames.active) - mapped:
+            ages = [f"age {it}" for it in frames.active[::-1]]
+            telling.add(["age", f"{len(ages)}"], ["ok", *ages], True)
+            frames.active, frames.inactive = [], frames.active + frames.inactive
 
     def tell_ages(self, telling: Telling, order: list[int], kept: dict[int, str]) -> None:
         """All frames are kept, and age. (They were read, so that each counts as seen.) Those that
