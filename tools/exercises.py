@@ -143,13 +143,16 @@ def behind(steps: list[Step], name: str) -> list[Step]:
 
 
 def is_done(steps: list[Step]) -> bool:
-    """Whether each line does something: none is refused, none is a pass that finds nothing, and
-    none says again what the one before it said.
+    """Whether each line does something: none is refused, none is a pass that finds nothing, none
+    says again what the one before it said, and no write stores again what it stored before.
     """
     lines = [it.command for it in steps]
     return not any(
-        UNDONE.match(it.answer) or is_idle(it) or it.command == last
-        for it, last in zip(steps, ["", *lines])
+        UNDONE.match(it.answer)
+        or is_idle(it)
+        or it.command in lines[max(0, at - 1) : at]
+        or it.has("write") and not it.notes and it.command in lines[:at]
+        for at, it in enumerate(steps)
     )
 
 

@@ -44,6 +44,9 @@ class Promises(unittest.TestCase):
             good,
         ):
             self.assertFalse(exercises.is_done([good, bad]), bad)
+        again, look = Step(good.command, "ok", []), Step("entry 1 20000", "frame 0 seen", [])
+        self.assertTrue(exercises.is_done([good, look]))
+        self.assertFalse(exercises.is_done([good, look, again]))
 
     def test_three_copies(self):
         fork = Step("fork 1 2", "ok", [])
