@@ -104,7 +104,8 @@ class Marker:
         """
         if reply == self.own[at]:
             return True
-        return not self.commands[at].text.startswith(b"areas ") and self.is_legal(at, reply)
+        is_shown = self.commands[at].text.startswith(b"areas ")
+        return not is_shown and self.is_legal(at, reply)
 
     def is_legal(self, at: int, reply: Reply) -> bool:
         """Whether the auditor takes a reply behind the program's own before it."""

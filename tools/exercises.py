@@ -107,7 +107,7 @@ class Draft:
             getattr(self, name)(*self.any_page())
         elif name in ("entry", "rmap"):
             self.ask(name, *self.any_page())
-        elif name in ("areas", "maps"):
+        elif name == "areas":
             self.say(name, self.any_page()[0])
         elif name in ("merge", "compact"):
             self.say(name)
