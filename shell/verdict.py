@@ -100,7 +100,7 @@ def copies_of(files: list[str], room: str) -> Iterator[str]:
 # ---- the program
 
 
-def tell(words: list[str], given: Iterable[bytes], out: BinaryIO) -> Told:
+def tell(words: list[str], given: Iterable[bytes], out: BinaryIO | int) -> Told:
     """Runs the program on what it is given, and has it write there."""
     with tempfile.TemporaryFile() as said:
         ran = start(words, stdin=subprocess.PIPE, stdout=out, stderr=said)
@@ -123,20 +123,23 @@ class Machine:
     def audit(self, trace: BinaryIO, transcript: BinaryIO) -> Told:
         """Judges a transcript, and writes what the program writes of it."""
         with tempfile.TemporaryFile() as out:
-            told = tell([self.program, "audit", *self.words], joined(trace, transcript), out)
+            told = self.judge(joined(trace, transcript), out)
             print(b"".join(bytes_in(out)).decode(errors="replace"), end="", flush=True)
         print(told.said, end="", file=sys.stderr, flush=True)
         if told.status < 0:
             raise Refused(why_ended(*told))
         return told
 
-    def answer(self, trace: BinaryIO, end: int, out: BinaryIO) -> str:
-        """Answers a trace up to there, and gives why the run ended early, if it did."""
+    def judge(self, given: Iterable[bytes], out: BinaryIO | int = subprocess.DEVNULL) -> Told:
+        """Judges a transcript behind its trace and the mark."""
+        return tell([self.program, "audit", *self.words], given, out)
+
+    def answer(self, trace: BinaryIO, end: int, out: BinaryIO) -> Told:
+        """Answers a trace up to there."""
         frames, *files = self.words
         with tempfile.TemporaryDirectory() as room:
             words = [self.program, "run", frames, *copies_of(files, room)]
-            told = tell(words, bytes_in(trace, end), out)
-        return why_ended(told.status, told.said) if told.status else ""
+            return tell(words, bytes_in(trace, end), out)
 
 
 # ---- what is shown
@@ -211,7 +214,8 @@ def explain(number: int, files: list[BinaryIO], names: list[str], machine: Machi
     trace, transcript = files
     command = command_at(number, trace)
     with tempfile.TemporaryFile() as answers:
-        why = machine.answer(trace, command.end, answers) if command else ""
+        told = machine.answer(trace, command.end, answers) if command else Told(0, "")
+        why = why_ended(*told) if told.status else ""
         found = found_at(number, transcript, answers)
     print(f"{fault_of(found, number, command, names)}.")
     for lines in sections_of(found, command, names, why):

@@ -21,10 +21,10 @@ class Own:
     def __init__(self, answers: bytes):
         self.answers, self.end = answers, 0
 
-    def answer(self, _trace: io.BytesIO, end: int, out: io.BytesIO) -> str:
+    def answer(self, _trace: io.BytesIO, end: int, out: io.BytesIO) -> Told:
         self.end = end
         out.write(self.answers)
-        return ""
+        return Told(0, "")
 
 
 class Cut(unittest.TestCase):

@@ -25,12 +25,16 @@ _avsim_commands="spawn fork exit mmap munmap mprotect mremap madvise mlock munlo
 _avsim() {
   local begun=${COMP_WORDS[COMP_CWORD]} first=${COMP_WORDS[1]} at=$COMP_CWORD
   COMPREPLY=()
+  if [ "$first:${COMP_WORDS[2]}" = check:--marks ] && [ "$at" -gt 2 ]; then
+    at=$((at - 1))
+  fi
   case $at:$first:$begun in
     1:*) _avsim_words "run replay work audit talk page why check help test build --help --version" \
       "$begun" ;;
     2:test:*) _avsim_words --quick "$begun" ;;
     2:help:*) _avsim_words "$_avsim_commands" "$begun" ;;
-    2:check:-* | 2:replay:-* | 2:run:* | 2:work:* | 2:audit:* | 2:talk:* | 2:why:* | 2:page:-*)
+    2:check:-*) _avsim_words "--help --marks" "$begun" ;;
+    2:replay:-* | 2:run:* | 2:work:* | 2:audit:* | 2:talk:* | 2:why:* | 2:page:-*)
       _avsim_words --help "$begun" ;;
     2:replay:* | [23]:check:* | [5-9]:check:* | 1[0-2]:check:*) _avsim_files "$begun" ;;
     [2-9]:page:* | 1[01]:page:* | [3-9]:run:* | 10:run:* | [3-9]:audit:* | 10:audit:* | \
@@ -54,7 +58,7 @@ _avsim_tool() {
 }
 
 complete -o filenames -F _avsim avsim ./avsim
-for _avsim_name in tools/{compare-maps,compare-smaps,from-strace,json,kernel-swaps,make-swap,on-linux,real-areas,record,sum,work-trace} \
+for _avsim_name in tools/{compare-maps,compare-smaps,from-strace,json,kernel-swaps,make-swap,on-linux,real-areas,record,sum,work-trace,exercise} \
   view/{run,lessons}; do
   complete -o filenames -F _avsim_tool "$_avsim_name" "./$_avsim_name"
 done
