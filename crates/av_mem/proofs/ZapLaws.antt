@@ -20,7 +20,7 @@ use Rattle.av_mem.specs.Entries.{HasAll, HasEntries, HasLedgerBy, LetsGo, Table,
 use Rattle.av_mem.specs.Mem.{HasLedger, plain, view}
 use Rattle.av_mem.specs.Steps.{KeepsParts}
 use Rattle.av_mem.specs.Zap.{HasZapped}
-use Rattle.av_mem.proofs.LetGoLaws.{more-go, pass-go}
+use Rattle.av_mem.proofs.LetGoLaws.{more-go, none-yet, pass-go, rest-none}
 use Rattle.av_mem.proofs.PagesGone.{still-there}
 
 -- they have gone from the tables as well
@@ -140,3 +140,31 @@ module _ (d : Device) (old now new : Mem) (first : Ledger) (p : ℕ) (before not
       cleared : (view new).table ≡ without_pages p 0 past (view old).table
       cleared = (λ i q page. plain (clears i q page)) ∙ (λ i q page. by q page (q == p) (within 0 past page) refl refl i)
           ∙ ap (without_pages p 0 past) tables
+
+-- a range without an entry loses none
+pub range-bare : (d : Device) (k : Mem) (l : Ledger) (p from past : ℕ) (notes : List Note) → HasLedger d k l
+    → ((q : ℕ) → from ≤ q → q < past → entry_at k.tables p q ≡ Empty)
+    → HasZapped d k k l (zaps_of l (keys_in l p from (past - from))) notes notes
+range-bare d k l p from past notes h none = range-gone d k k k l p notes notes refl refl from past goes (λ i q o. by q o (q == p) refl i)
+  where
+    goes : LetsGo d k k (view k).table l p from (past - from) notes notes
+    goes =
+        let start : from - from ≡ 0 = omega arith in
+        let all : (from - from) + (past - from) ≡ past - from = omega arith in
+        subst (λ n. LetsGo d k k (view k).table l p from n notes notes) all
+        (goes-on d k k l p from from notes notes h (rest-none k).parts (omega arith)
+        (subst (λ n. LetsGo d k k (view k).table l p from n notes notes) (sym start) (none-yet d k (view k).table l p from notes h)) refl (past - from)
+        (λ q low high. none q low (omega (arith, low, high))))
+
+    inside : (q o : ℕ) → (q == p) ≡ true → (b : Bool) → within from (past - from) o ≡ b
+        → entry_at k.tables q o ≡ cond b Empty (entry_at k.tables p o)
+    inside q o at true is =
+        let low : from ≤ o = grind (arith, nat_tests, is) in
+        let high : o < past = grind (arith, nat_tests, is) in
+        ap (λ q. entry_at k.tables q o) (equal q p at) ∙ none o low high
+    inside q o at false is = ap (λ q. entry_at k.tables q o) (equal q p at)
+
+    by : (q o : ℕ) (a : Bool) → (q == p) ≡ a
+        → entry_at k.tables q o ≡ cond {A = ℕ → Pte} a (without_range from past (entry_at k.tables p)) (entry_at k.tables q) o
+    by q o true at = inside q o at (within from (past - from) o) refl
+    by q o false at = refl

@@ -1,7 +1,9 @@
 //! How the entries of a range of pages go: each frame that no other entry names becomes free, and
 //! each slot that nothing uses any more is dropped.
 
-ghost use Rattle.std.specs.Prelude.{◌≡◌, ℕ, ◌-◌, length, OnOk};
+ghost use Rattle.std.specs.Prelude.{◌≡◌, ℕ, ◌-◌, ◌<◌, ◌≤◌, false, length, OnOk};
+ghost use Rattle.av_pagetable.specs.Entries.{entry_at};
+ghost use Rattle.av_pagetable.specs.declared.pte.Pte.TheVariants as Pte;
 ghost use Rattle.av_plain.specs.Device.{Device};
 ghost use Rattle.av_plain.specs.Ledger.{Ledger};
 ghost use Rattle.av_plain.specs.Zap.{keys_in, keys_of_process, zaps_of};
@@ -50,9 +52,27 @@ pub fn zap_range(
         (zaps_of l (keys_in l process from (past - from))) notes.old notes.new) }
     ensures rest { KeepsRest mem.old mem.new }
 {
+    if !has_entry(mem, process, from, past) {
+        return Ok(());
+    }
     let_go_range(mem, process, from, past, notes)?;
     mem.tables.clear_range(process, from, past);
     Ok(())
+}
+
+/// Whether a page of a process from `from` to below `past` has an entry.
+fn has_entry(mem: &Mem, process: u16, from: u64, past: u64) -> bool
+    ensures { result ≡ false → (page : ℕ) → from ≤ page → page < past
+        → entry_at mem.now.tables process page ≡ Pte.Empty }
+{
+    // A move that loses no page asks for an empty range.
+    if past <= from {
+        return false;
+    }
+    match mem.tables.next_from(process, from) {
+        Some(page) => page < past,
+        None => false,
+    }
 }
 
 /// Lets the entries of a process's pages from `from` to below `past` go, by rising page, while the

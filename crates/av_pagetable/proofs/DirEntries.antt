@@ -1,7 +1,7 @@
 -- The entries of a directory: after a change of one part, and the first from a page on.
 use Rattle.std.proofs.Common.{◌≡◌, ◌≢◌, ℕ, ◌+◌, ◌*◌, ◌/◌, ◌%◌, ◌<◌, ◌≤◌, List, [], ◌∷◌, length, slice_set, get_or, refl, sym, ap, subst, ◌∙◌, arith, inl, inr, cond, true, false, Bool, ◌==◌, Option, Some, None, MatchOption, Result, Ok, Err, MatchResult, MatchBool}
 use Rattle.std.specs.Prelude.{nat_lt, nat_eq, option_map}
-use Rattle.std.specs.List.{AllWithin, HoldsAt, insert, remove}
+use Rattle.std.specs.List.{AllWithin, HoldsAt, insert}
 use Rattle.std.specs.Map.{lookup}
 use Rattle.std.proofs.lemmas.Bool.{cases_eq, cases_lt}
 use Rattle.std.proofs.lemmas.Bool.Decides.{nat_tests}
@@ -13,7 +13,7 @@ use Rattle.av_pagetable.specs.declared.pte.Pte.{Pte}
 use Rattle.av_pagetable.specs.declared.pte.Pte.TheVariants.{Empty}
 use Rattle.av_pagetable.specs.Table.{IsFirst, HasSome}
 use Rattle.av_pagetable.specs.Dir.{no_entry, part_of, in_part, entries, entries_at, AreParts, IsFirstIn}
-use Rattle.av_pagetable.proofs.DirParts.{found, set_here, set_others, remove_here, remove_others, insert_here, insert_others, gap}
+use Rattle.av_pagetable.proofs.DirParts.{found, set_here, set_others, insert_here, insert_others, gap}
 
 test_true : (q k : ℕ) → q ≡ k → (q == k) ≡ true
 test_true q k h = grind (arith, nat_tests)
@@ -142,17 +142,6 @@ module _ {C : Type 0} (at : C → ℕ → Pte) (span : ℕ) (parts : List (ℕ �
             ∙ now ∙ ap (in_part at) (sym there))
         | inr ne ↦ ap (in_part at) (same_part parts (slice_set parts k (p.0, c)) n (set_others at span parts good k p within is (p.0, c) refl n ne))
       ]
-
-  -- a part that has lost its last entry is taken out
-  pub dropped : (page : ℕ) (c : C) → p.0 ≡ page / span → at c ≡ with_at (page % span) Empty (at p.1) → ((q : ℕ) → at c q ≡ Empty) →
-      entries at span (remove parts k) ≡ with_at page Empty (entries at span parts)
-  dropped page c here now none =
-      join (λ j. in_part at (part_of parts j)) (λ j. in_part at (part_of (remove parts k) j)) span page Empty
-      (λ j r other. ap (λ o. in_part at o r)
-      (same_part parts (remove parts k) j (remove_others at span parts good k p within is j (λ e. other (e ∙ here)))))
-      (λ r. subst (λ n. in_part at (part_of (remove parts k) n) r ≡ with_at (page % span) Empty (in_part at (part_of parts n)) r) here
-      (ap (λ o. in_part at o r) (no_part (remove parts k) p.0 (remove_here at span parts good k p within is))
-      ∙ sym (none r) ∙ (λ i. now i r) ∙ ap (λ o. with_at (page % span) Empty (in_part at o) r) (sym there)))
 
   -- the first entry from a page of the part on, where the part has it
   pub first_here : (page q : ℕ) → 0 < span → p.0 ≡ page / span → IsFirst (at p.1) (page % span) span q →

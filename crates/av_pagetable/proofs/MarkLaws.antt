@@ -1,13 +1,12 @@
 -- A frame with a mark stays unseen.
-use Rattle.std.proofs.Common.{◌≡◌, ℕ, ◌-◌, Bool, true, false, cond, not, ◌&&◌, ◌==◌, List, Option, Some, None, Result, Ok, Err, MatchResult, refl, sym, ap, ◌∙◌}
+use Rattle.std.proofs.Common.{◌≡◌, ℕ, ◌-◌, Bool, true, false, cond, not, ◌&&◌, ◌==◌, List, Result, Ok, Err, MatchResult, refl, sym, ap, ◌∙◌}
 use Rattle.std.proofs.lemmas.Bool.{false≢true}
-use Rattle.std.specs.Prelude.{MatchOption, ◌<◌, ◌≤◌}
 use Rattle.av_base.specs.Words.{with_at, within}
 use Rattle.av_pagetable.specs.declared.pte.Pte.{Pte}
 use Rattle.av_pagetable.specs.declared.pte.Pte.TheVariants.{Empty, Zero, Here, Away}
 use Rattle.av_pagetable.specs.Entries.{with_entry}
 use Rattle.av_pagetable.specs.Seen.{AreUnseen, is_marked, names_seen}
-use Rattle.av_pagetable.specs.Table.{IsFirst, child_entry, read_only, without_range}
+use Rattle.av_pagetable.specs.Table.{child_entry, read_only, without_range}
 
 -- ---- entries
 
@@ -82,18 +81,3 @@ module _ (old : ℕ → ℕ → Pte) (marks : List Bool) (unseen : AreUnseen old
 
   pub unseen-same : (new : ℕ → ℕ → Pte) → new ≡ old → AreUnseen new marks
   unseen-same new is f marked q o = ap (λ (t : ℕ → ℕ → Pte). names_seen f (t q o)) is ∙ unseen f marked q o
-
-  -- an entry goes
-  pub unseen-gone : (new : ℕ → ℕ → Pte) (p page : ℕ) → new ≡ with_entry p page Empty old → AreUnseen new marks
-  unseen-gone new p page is f marked q o =
-      ap (λ (t : ℕ → ℕ → Pte). names_seen f (t q o)) is ∙ by (q == p && o == page)
-    where
-      by : (b : Bool) → names_seen f (cond b Empty (old q o)) ≡ false
-      by true = refl
-      by false = unseen f marked q o
-
-  pub unseen-first_taken : (r : Option (ℕ × Pte)) (new : ℕ → ℕ → Pte) (p from to : ℕ)
-      → MatchOption r (((q : ℕ) → from ≤ q → q < to → old p q ≡ Empty) × (new ≡ old))
-      (λ e. IsFirst (old p) from to e.0 × (old p e.0 ≡ e.1) × (new ≡ with_entry p e.0 Empty old)) → AreUnseen new marks
-  unseen-first_taken None new p from to taken = unseen-same new taken.1
-  unseen-first_taken (Some e) new p from to taken = unseen-gone new p e.0 taken.2

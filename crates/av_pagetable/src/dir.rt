@@ -124,22 +124,6 @@ impl<C: Level> Level for Dir<C> {
         part.1.change_near(page % span, entry)
     }
 
-    #[inline]
-    fn take(&mut self, page: u64) -> Pte {
-        let span = C::span();
-        match self.place(page / span) {
-            Ok(place) => {
-                let part = self.parts.at_mut(place);
-                let entry = part.1.take(page % span);
-                if part.1.is_empty() {
-                    self.parts.remove(self.alloc, place);
-                }
-                entry
-            }
-            Err(_) => Pte::Empty,
-        }
-    }
-
     fn clear_range(&mut self, from: u64, past: u64) {
         let span = C::span();
         let (first, last) = (from / span, past / span);

@@ -74,13 +74,6 @@ pub trait Level: Drop {
             (at self.new ≡ with_at page entry (at self.old))
             (at self.new ≡ at self.old) };
 
-    /// Takes out an entry that is there, and gives back what no longer holds any.
-    fn take(&mut self, page: u64) -> Pte
-        requires fits { span ≤ page_bound }
-        requires there { at self.old page ≡ Pte.Empty → ⊥ }
-        ensures gives { result ≡ at self.old page }
-        ensures takes { at self.new ≡ with_at page Pte.Empty (at self.old) };
-
     /// Takes out the entries of the pages from `from` on and below `past`, and gives back what no
     /// longer holds any.
     fn clear_range(&mut self, from: u64, past: u64)

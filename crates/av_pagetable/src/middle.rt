@@ -78,11 +78,6 @@ impl Level for Middle {
     }
 
     #[inline(always)]
-    fn take(&mut self, page: u64) -> Pte {
-        self.tables.take(page)
-    }
-
-    #[inline(always)]
     fn clear_range(&mut self, from: u64, past: u64) {
         self.tables.clear_range(from, past);
     }

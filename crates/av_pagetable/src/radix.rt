@@ -55,12 +55,6 @@ impl Level for Pte {
         true
     }
 
-    fn take(&mut self, _page: u64) -> Pte {
-        let entry = *self;
-        *self = Pte::Empty;
-        entry
-    }
-
     fn clear_range(&mut self, from: u64, past: u64) {
         if from == 0 && 0 < past {
             *self = Pte::Empty;
@@ -132,14 +126,6 @@ impl Table for RadixTable {
         if !self.top.change_near(page, entry) {
             self.find_and_change(page, entry);
         }
-    }
-
-    fn take_first(&mut self, from: u64, to: u64) -> Option<(u64, Pte)> {
-        let page = self.top.next_from(from)?;
-        if page >= to {
-            return None;
-        }
-        Some((page, self.top.take(page)))
     }
 
     fn clear_range(&mut self, from: u64, past: u64) {

@@ -27,9 +27,13 @@ fn is_changed(table: &mut RadixTable, page: u64) -> Result<bool, AllocError> {
 
 /// Whether the first entry of a range is this one; it is taken out.
 fn is_first(table: &mut RadixTable, from: u64, to: u64, wanted: Option<u64>) -> bool {
-    match table.take_first(from, to) {
-        Some((page, entry)) => wanted == Some(page) && entry == AWAY,
-        None => wanted.is_none(),
+    match table.next_from(from) {
+        Some(page) if page < to => {
+            let is_away = table.get(page) == AWAY;
+            table.clear_range(page, page + 1);
+            wanted == Some(page) && is_away
+        }
+        _ => wanted.is_none(),
     }
 }
 
@@ -131,11 +135,12 @@ fn a_range_goes(rt: HostRuntime) -> Result<(), AllocError> {
 /// Whether process 4 has entries at page 16 and page 20, and process 5 has none; the first is taken
 /// out.
 fn are_found(tables: &mut Tables<PageTable>) -> bool {
-    tables.get(4, 20) == AWAY
+    let are_there = tables.get(4, 20) == AWAY
         && tables.get(5, 20) == Pte::Empty
         && tables.next_from(4, 17) == Some(20)
-        && tables.take_first(4, 0, 20) == Some((16, Pte::Zero))
-        && tables.take_first(4, 0, 20) == None
+        && tables.next_from(4, 0) == Some(16);
+    tables.clear_range(4, 0, 20);
+    are_there && tables.next_from(4, 0) == Some(20)
 }
 
 #[test]
