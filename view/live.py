@@ -85,6 +85,8 @@ def page(program: str, words: list[str]) -> int:
     """Serves the page until its terminal ends, or control-C."""
     for number in (signal.SIGTERM, signal.SIGHUP):
         signal.signal(number, end_by)
+    # (a shell that starts this in the background has control-C ignored)
+    signal.signal(signal.SIGINT, signal.default_int_handler)
     try:
         lab = laboratory_of(program, words_of(words))
     except Trouble as why:
