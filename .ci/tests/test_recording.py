@@ -48,9 +48,11 @@ class InRoom(unittest.TestCase):
 
 # as a program: tells what is to be undone, and waits
 KEEPS = """
-import sys, time
+import signal, sys, time
 sys.path.insert(0, sys.argv[1])
 import shared
+# (a shell that starts the tests in the background has control-C ignored)
+signal.signal(signal.SIGINT, signal.default_int_handler)
 from keeper import Keeper
 with Keeper() as keeper:
     for at, it in enumerate(sys.argv[2:]):
