@@ -1,4 +1,4 @@
--- The free frames in their order, as a queue in which some that aren't free have their places still.
+-- The free frames in their order, as a queue in which some that aren't free still have places.
 use Rattle.std.specs.Prelude.{◌≡◌, ℕ, ◌+◌, ◌^◌, ◌<◌, ◌≤◌, Bool, true, false, ◌==◌}
 use Rattle.std.specs.Prelude.{if◌then◌else◌, List, length, slice_index_or, filter}
 use Rattle.av_base.specs.Words.{how_many}
@@ -31,7 +31,8 @@ listed places queue = filter (λ f. is_free (place_of places f)) queue
 
 -- queue and places fit together: each frame is out or stands once in the queue, which has room for
 -- all, and the places left are counted
-pub record IsListed (queue : List ℕ) (queue_room : ℕ) (places : List Place) (left : ℕ) : Type 0 where
+pub record IsListed (queue : List ℕ) (queue_room : ℕ) (places : List Place)
+    (left : ℕ) : Type 0 where
   pub few : length places < 2 ^ 32
   pub room : length places ≤ queue_room
   pub total : length queue + how_many is_out places ≡ length places
