@@ -6,7 +6,7 @@ use Rattle.std.specs.List.{range_with_len}
 use Rattle.av_base.specs.declared.slot.Slot.{Slot}
 use Rattle.av_base.specs.Words.{with_at, is_in, without}
 use Rattle.av_base.proofs.Without.{count-without}
-use Rattle.av_frames.specs.Store.{Store, Shown, shown, fresh, relocated, with_bytes, with_maps, with_home, with_dirty, with_slot}
+use Rattle.av_frames.specs.Store.{Store, Shown, shown, fresh, relocated, with_bytes, with_maps, with_locks, with_home, with_dirty, with_slot}
 use Rattle.av_frames.proofs.Free.{none_in, not_in}
 
 -- the bytes of frames by functions, after one is replaced
@@ -33,7 +33,7 @@ zeros (suc n) (suc i) = zeros n i
 
 -- ---- frames that are all free
 
-same_value : {X : Type 0} (n i : ℕ) (x : X) → get_or (replicate n x) i x ≡ x
+pub same_value : {X : Type 0} (n i : ℕ) (x : X) → get_or (replicate n x) i x ≡ x
 same_value zero i x = refl
 same_value (suc n) zero x = refl
 same_value (suc n) (suc i) x = same_value n i x
@@ -42,6 +42,7 @@ pub seen_fresh : (n : ℕ) → shown (record {
   free = range_with_len 0 n;
   bytes = replicate n (replicate {A = ℕ} 4096 0);
   maps = replicate {A = ℕ} n 0;
+  locks = replicate {A = ℕ} n 0;
   homes = replicate n None;
   dirty = replicate n false;
   slots = replicate n None;
@@ -51,6 +52,7 @@ seen_fresh n = λ k. record {
   free = range_with_len 0 n;
   bytes = λ f i. page_of f i k;
   maps = λ f. same_value n f 0 k;
+  locks = λ f. same_value n f 0 k;
   home = λ f. same_value n f None k;
   dirty = λ f. same_value n f false k;
   slot = λ f. same_value n f None k;
@@ -75,16 +77,18 @@ absent_without f g fs h = not_in f (without g fs) (count-without g f fs ∙ ap (
 
 -- ---- what is kept goes to another frame, field by field
 
-pub relocates : (from to maps : ℕ) (home : Option (ℕ × ℕ)) (dirty : Bool) (slot : Option Slot) (s0 s1 s2 s3 s4 s5 s6 s7 s8 : Shown)
+pub relocates : (from to maps locks : ℕ) (home : Option (ℕ × ℕ)) (dirty : Bool) (slot : Option Slot) (s0 s1 s2 s3 s4 s5 s6 s7 s8 s9 s10 : Shown)
     → s1 ≡ record s0 { free = without to s0.free } → s2 ≡ with_bytes to (s1.bytes from) s1
     → home ≡ s2.home from → s3 ≡ with_home to home s2
     → dirty ≡ s3.dirty from → s4 ≡ with_dirty to dirty s3
     → maps ≡ s4.maps from → s5 ≡ with_maps to maps s4 → s6 ≡ with_maps from 0 s5
-    → slot ≡ s6.slot from → s7 ≡ with_slot to slot s6 → s8 ≡ with_slot from None s7
-    → s8 ≡ record (relocated from to s0) { free = without to s0.free }
-relocates from to maps home dirty slot s0 s1 s2 s3 s4 s5 s6 s7 s8 e1 e2 h e3 d e4 m e5 e6 l e7 e8 =
-    e8 ∙ ap (with_slot from None) (e7 ∙ ap (λ x. with_slot to x s6) l ∙ ap (λ (s : Shown). with_slot to (s.slot from) s)
+    → locks ≡ s6.locks from → s7 ≡ with_locks to locks s6 → s8 ≡ with_locks from 0 s7
+    → slot ≡ s8.slot from → s9 ≡ with_slot to slot s8 → s10 ≡ with_slot from None s9
+    → s10 ≡ record (relocated from to s0) { free = without to s0.free }
+relocates from to maps locks home dirty slot s0 s1 s2 s3 s4 s5 s6 s7 s8 s9 s10 e1 e2 h e3 d e4 m e5 e6 k e7 e8 l e9 e10 =
+    e10 ∙ ap (with_slot from None) (e9 ∙ ap (λ x. with_slot to x s8) l ∙ ap (λ (s : Shown). with_slot to (s.slot from) s)
+    (e8 ∙ ap (with_locks from 0) (e7 ∙ ap (λ x. with_locks to x s6) k ∙ ap (λ (s : Shown). with_locks to (s.locks from) s)
     (e6 ∙ ap (with_maps from 0) (e5 ∙ ap (λ x. with_maps to x s4) m ∙ ap (λ (s : Shown). with_maps to (s.maps from) s)
     (e4 ∙ ap (λ x. with_dirty to x s3) d ∙ ap (λ (s : Shown). with_dirty to (s.dirty from) s)
     (e3 ∙ ap (λ x. with_home to x s2) h ∙ ap (λ (s : Shown). with_home to (s.home from) s)
-    (e2 ∙ ap (λ (s : Shown). with_bytes to (s.bytes from) s) e1))))))
+    (e2 ∙ ap (λ (s : Shown). with_bytes to (s.bytes from) s) e1))))))))

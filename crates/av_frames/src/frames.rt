@@ -1,17 +1,18 @@
 //! The frames: their bytes, and what is kept of each.
 
 ghost use Rattle.std.specs.Prelude.{◌≡◌, ℕ, ◌+◌, ◌<◌, ◌≤◌, ◌^◌, ◌-◌, ◌∷◌, ◌==◌, [], length};
-ghost use Rattle.std.specs.Prelude.{slice_index, MatchOption, IfOk, true, false, replicate, is_some};
+ghost use Rattle.std.specs.Prelude.{slice_index, MatchOption, IfOk, true, false, replicate};
+ghost use Rattle.std.specs.Prelude.{◌&&◌, is_some, nat_lt};
 ghost use Rattle.av_frames.specs.Store.{shown, first_of, fresh, overlaid, with_bytes, with_maps};
-ghost use Rattle.av_frames.specs.Store.{with_home, with_dirty, with_slot, relocated};
+ghost use Rattle.av_frames.specs.Store.{with_locks, with_home, with_dirty, with_slot, relocated};
 ghost use Rattle.av_frames.specs.Store.{free_in_order};
 ghost use Rattle.av_base.specs.Page.{page_size};
 ghost use Rattle.av_base.specs.Words.{how_many, is_in, without};
 ghost use Rattle.std.specs.List.{range_with_len};
 
 use crate::free_list::FreeList;
+use crate::locks::Locks;
 use crate::pages::Pages;
-use crate::slots::Slots;
 use av_base::Slot;
 use std::alloc::{AllocError, Global};
 use std::marker::Model;
@@ -24,7 +25,8 @@ pub struct Frames {
     maps: Vec<u64>,
     homes: Vec<Option<(u64, u64)>>,
     dirty: Vec<bool>,
-    slots: Slots,
+    /// How many entries of locked pages name each, and its slot.
+    locks: Locks,
 }
 
 impl Model for Frames {
@@ -36,13 +38,14 @@ impl Model for Frames {
       free = a.free.items;
       bytes = a.bytes;
       maps = a.maps.items;
+      locks = a.locks.locks;
       homes = a.homes.items;
       dirty = a.dirty.items;
-      slots = a.slots;
+      slots = a.locks.slots;
     } };
 
     ghost invariant = { λ a. IsWhole a.free a.bytes a.maps.items a.homes.items a.dirty.items
-        a.slots };
+        a.locks };
 }
 
 impl Frames {
@@ -57,7 +60,7 @@ impl Frames {
             maps: fill(alloc, 0, len)?,
             homes: fill(alloc, None, len)?,
             dirty: fill(alloc, false, len)?,
-            slots: Slots::new(alloc, count)?,
+            locks: Locks::new(alloc, count)?,
         })
     }
 
@@ -89,7 +92,8 @@ impl Frames {
     }
 
     /// Moves what is kept of a frame that isn't free to one that is: bytes, how many entries name
-    /// it, home, slot, and whether it is dirty. The frame is free instead, in front of the others.
+    /// it, and how many of locked pages do, home, slot, and whether it is dirty. The frame is free
+    /// instead, in front of the others.
     /// It costs the copy of a page, whatever the number of free frames.
     pub fn relocate(&mut self, from: u32, to: u32)
         requires in_range { (from < (shown self.old).count) × (to < (shown self.old).count) }
@@ -103,6 +107,8 @@ impl Frames {
         self.set_dirty(to, self.dirty(from));
         self.set_maps(to, self.maps(from));
         self.set_maps(from, 0);
+        self.set_locks(to, self.locks(from));
+        self.set_locks(from, 0);
         self.set_slot(to, self.slot(from));
         self.set_slot(from, None);
         self.give(from);
@@ -167,6 +173,66 @@ impl Frames {
         self.set_maps(frame, 0);
     }
 
+    fn locks(&self, frame: u32) -> u64
+        requires { frame < (shown self.now).count }
+        ensures { result ≡ (shown self.now).locks frame }
+    {
+        self.locks.get(frame as usize)
+    }
+
+    fn set_locks(&mut self, frame: u32, locks: u64)
+        requires { frame < (shown self.old).count }
+        ensures { shown self.new ≡ with_locks frame locks (shown self.old) }
+    {
+        self.locks.set(frame as usize, locks);
+    }
+
+    /// Whether an entry of a locked page names the frame.
+    #[inline(always)]
+    pub fn is_locked(&self, frame: u32) -> bool
+        requires { frame < (shown self.now).count }
+        ensures { result ≡ nat_lt 0 ((shown self.now).locks frame) }
+    {
+        self.locks.is_locked(frame as usize)
+    }
+
+    /// One more entry of a locked page names the frame.
+    pub fn lock_up(&mut self, frame: u32)
+        requires in_range { frame < (shown self.old).count }
+        requires room { (shown self.old).locks frame < 2 ^ 64 - 1 }
+        ensures { shown self.new
+            ≡ with_locks frame ((shown self.old).locks frame + 1) (shown self.old) }
+    {
+        self.set_locks(frame, self.locks(frame) + 1);
+    }
+
+    /// One entry of a locked page fewer names the frame.
+    pub fn lock_down(&mut self, frame: u32)
+        requires in_range { frame < (shown self.old).count }
+        requires some { 0 < (shown self.old).locks frame }
+        ensures { shown self.new
+            ≡ with_locks frame ((shown self.old).locks frame - 1) (shown self.old) }
+    {
+        self.set_locks(frame, self.locks(frame) - 1);
+    }
+
+    /// How many frames have one.
+    pub fn locked_len(&self) -> u32
+        ensures { result ≡ how_many (λ f. nat_lt 0 ((shown self.now).locks f))
+            (range_with_len 0 (shown self.now).count) }
+    {
+        self.locks.locked_len()
+    }
+
+    /// How many of these are in the swap cache.
+    pub fn locked_cached_len(&self) -> u32
+        ensures { result ≡ how_many
+            (λ f. nat_lt 0 ((shown self.now).locks f) && is_some ((shown self.now).slot f))
+            (range_with_len 0 (shown self.now).count) }
+    {
+        self.locks.locked_cached_len()
+    }
+
     /// Where the entries of the frame are found: an anon_vma's number, and the linear index there.
     pub fn home(&self, frame: u32) -> Option<(u64, u64)>
         requires { frame < (shown self.now).count }
@@ -204,7 +270,7 @@ impl Frames {
         requires { frame < (shown self.now).count }
         ensures { result ≡ (shown self.now).slot frame }
     {
-        self.slots.get(frame as usize)
+        self.locks.slot(frame as usize)
     }
 
     /// Sets that slot.
@@ -212,7 +278,7 @@ impl Frames {
         requires { frame < (shown self.old).count }
         ensures { shown self.new ≡ with_slot frame slot (shown self.old) }
     {
-        self.slots.set(frame as usize, slot);
+        self.locks.set_slot(frame as usize, slot);
     }
 
     /// How many frames are in the swap cache: those that have a slot.
@@ -220,7 +286,7 @@ impl Frames {
         ensures { result ≡ how_many (λ f. is_some ((shown self.now).slot f))
             (range_with_len 0 (shown self.now).count) }
     {
-        self.slots.cached_len()
+        self.locks.cached_len()
     }
 
     /// How many frames are free.

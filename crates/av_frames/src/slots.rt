@@ -54,7 +54,7 @@ impl Slots {
         requires { frame < length self.old }
         ensures { self.new ≡ slice_set self.old frame slot }
     {
-        self.cached = recount(self.cached, self.get(frame), slot);
+        self.cached = recount(self.cached, self.get(frame).is_some(), slot.is_some());
         self.slots[frame] = slot;
     }
 
@@ -66,16 +66,15 @@ impl Slots {
     }
 }
 
-// How many frames are cached, once one that had this slot, or none, has that one, or none.
-fn recount(cached: u32, was: Option<Slot>, slot: Option<Slot>) -> u32
-    requires some { (if is_some was then 1 else 0) ≤ cached }
-    requires few { cached + (if is_some slot then 1 else 0)
-        < 2 ^ 32 + (if is_some was then 1 else 0) }
-    ensures { result + (if is_some was then 1 else 0) ≡ cached + (if is_some slot then 1 else 0) }
+/// How many frames are counted, once one that was, or wasn't, is, or isn't.
+pub fn recount(count: u32, was: bool, is: bool) -> u32
+    requires some { (if was then 1 else 0) ≤ count }
+    requires few { count + (if is then 1 else 0) < 2 ^ 32 + (if was then 1 else 0) }
+    ensures { result + (if was then 1 else 0) ≡ count + (if is then 1 else 0) }
 {
-    match (was, slot) {
-        (None, Some(_slot)) => cached + 1,
-        (Some(_slot), None) => cached - 1,
-        _ => cached,
+    match (was, is) {
+        (false, true) => count + 1,
+        (true, false) => count - 1,
+        _ => count,
     }
 }

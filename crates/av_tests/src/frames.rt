@@ -113,6 +113,56 @@ fn is_moved(frames: &mut Frames, from: u32, to: u32) -> bool {
     frames.is_free(from) && !frames.is_free(to) && frames.home(to) == Some((4, 9))
 }
 
+/// Whether so many frames are locked, and so many of these cached.
+fn has_locks(frames: &Frames, locked: u32, cached: u32) -> bool {
+    frames.locked_len() == locked && frames.locked_cached_len() == cached
+}
+
+/// Locks a frame that isn't, by two entries of which one goes again.
+fn lock(frames: &mut Frames, frame: u32) -> bool {
+    if frame >= frames.count() || frames.is_locked(frame) {
+        return false;
+    }
+    frames.lock_up(frame);
+    frames.lock_up(frame);
+    frames.lock_down(frame);
+    frames.is_locked(frame)
+}
+
+/// Takes an entry of a locked page away from a frame, and says whether it was the last.
+fn unlock(frames: &mut Frames, frame: u32) -> bool {
+    if frame >= frames.count() || !frames.is_locked(frame) {
+        return false;
+    }
+    frames.lock_down(frame);
+    !frames.is_locked(frame)
+}
+
+/// Sets the slot of a frame that has to be there.
+fn cache(frames: &mut Frames, frame: u32, slot: Option<Slot>) -> bool {
+    let is_there = frame < frames.count();
+    if is_there {
+        frames.set_slot(frame, slot);
+    }
+    is_there
+}
+
+#[test]
+fn locked_frames_are_counted(rt: HostRuntime) -> Result<(), AllocError> {
+    let mut frames = Frames::new(rt.alloc(), 3)?;
+    let slot = Some(Slot { area: 0, page: 1 });
+    assert!(rt; are_taken(&mut frames, &[Some(0), Some(1)]) && has_locks(&frames, 0, 0));
+    assert!(rt; lock(&mut frames, 0) && has_locks(&frames, 1, 0));
+    assert!(rt; cache(&mut frames, 0, slot) && has_locks(&frames, 1, 1));
+    assert!(rt; cache(&mut frames, 1, slot) && has_locks(&frames, 1, 1));
+    assert!(rt; lock(&mut frames, 1) && has_locks(&frames, 2, 2));
+    assert!(rt; is_moved(&mut frames, 0, 2) && has_locks(&frames, 2, 2));
+    assert!(rt; cache(&mut frames, 2, None) && has_locks(&frames, 2, 1));
+    assert!(rt; unlock(&mut frames, 2) && has_locks(&frames, 1, 1));
+    assert!(rt; unlock(&mut frames, 1) && has_locks(&frames, 0, 0));
+    Ok(())
+}
+
 #[test]
 fn a_frame_moves_and_the_free_ones_are_put_in_order(rt: HostRuntime) -> Result<(), AllocError> {
     let mut frames = Frames::new(rt.alloc(), 4)?;

@@ -7,5 +7,5 @@ use Rattle.av_frames.proofs.frames.Frames.cached_len.Goals as goal
 
 pub returns : goal.returns
 returns c = subst (λ (v : Store). c.cached_len.result ≡ how_many (λ f. is_some (get_or v.slots f None)) (range_with_len 0 (length v.bytes))) c.self.view_is
-    (c.cached_len.ensures ∙ count-places is_some c.self.inside.slots None
-    ∙ ap (λ n. how_many (λ f. is_some (get_or c.self.inside.slots f None)) (range_with_len 0 n)) c.self.invariant.slots)
+    (c.cached_len.ensures ∙ count-places is_some c.self.inside.locks.slots None
+    ∙ ap (λ n. how_many (λ f. is_some (get_or c.self.inside.locks.slots f None)) (range_with_len 0 n)) c.self.invariant.slots)

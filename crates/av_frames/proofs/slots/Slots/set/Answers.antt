@@ -25,15 +25,18 @@ recounted xs v f was x old view below is at = record {
     same = ap (λ (o : Option Slot). cond (is_some o) 1 0) (at ∙ ap (λ (v : List (Option Slot)). get_or v f None) (sym view))
 
 pub recount-self-inside-requires-clause-some : goal.recount-self-inside-requires-clause-some
-recount-self-inside-requires-clause-some c =
+recount-self-inside-requires-clause-some c = rw c.is_some.ensures
     (recounted _ _ c.args.frame _ c.args.slot _ c.self.view_is c.requires c.self.invariant.1 c.get.ensures).some
 
 pub recount-self-inside-requires-clause-few : goal.recount-self-inside-requires-clause-few
 recount-self-inside-requires-clause-few c =
     let r = recounted _ _ c.args.frame _ c.args.slot _ c.self.view_is c.requires c.self.invariant.1 c.get.ensures in
-    let set = r.set in let most = r.most in let few = c.self.invariant.0 in omega (arith, set, most, few)
+    let set = r.set in let most = r.most in let few = c.self.invariant.0 in
+    rw (c.is_some.ensures, c.is_some-2.ensures) (omega (arith, set, most, few))
 
 pub invariant_of-self : goal.invariant_of-self
 invariant_of-self c =
-    let set = (recounted _ _ c.args.frame _ c.args.slot _ c.self.view_is c.requires c.self.invariant.1 c.get.ensures).set in
-    (rw length-set c.self.invariant.0, omega (arith, set, c.recount-self-inside.ensures))
+    let set = (recounted _ _ c.args.frame _ c.args.slot _ c.self.view_is c.requires c.self.invariant.1 c.get.ensures).set in (
+      rw length-set c.self.invariant.0,
+      omega (arith, set, rw (c.is_some.ensures, c.is_some-2.ensures) at c.recount-self-inside.ensures),
+    )
