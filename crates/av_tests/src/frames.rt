@@ -118,14 +118,12 @@ fn has_locks(frames: &Frames, locked: u32, cached: u32) -> bool {
     frames.locked_len() == locked && frames.locked_cached_len() == cached
 }
 
-/// Locks a frame that isn't, by two entries of which one goes again.
+/// Locks a frame that isn't, and says whether it is then.
 fn lock(frames: &mut Frames, frame: u32) -> bool {
     if frame >= frames.count() || frames.is_locked(frame) {
         return false;
     }
     frames.lock_up(frame);
-    frames.lock_up(frame);
-    frames.lock_down(frame);
     frames.is_locked(frame)
 }
 
