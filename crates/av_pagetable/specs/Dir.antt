@@ -1,7 +1,7 @@
 -- A directory of parts, each with its number, which span as many pages each.
 use Rattle.std.specs.Prelude.{◌≡◌, ℕ, ◌+◌, ◌-◌, ◌*◌, ◌/◌, ◌%◌, ◌<◌, ◌≤◌, min, List, length}
-use Rattle.std.specs.Prelude.{Option, Some, None, Result, MatchResult, option_map, slice_get, nat_lt}
-use Rattle.std.specs.Prelude.{nat_eq, ◌==◌, if◌then◌else◌}
+use Rattle.std.specs.Prelude.{Option, Some, None, Result, MatchResult, option_map, slice_get}
+use Rattle.std.specs.Prelude.{nat_eq, nat_lt, ◌==◌, if◌then◌else◌}
 use Rattle.std.proofs.Common.{ap, arith, false}
 use Rattle.std.proofs.lemmas.Bool.Decides.{nat_tests}
 use Rattle.std.proofs.lemmas.Nat.{le-div}
