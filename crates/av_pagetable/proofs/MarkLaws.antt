@@ -1,12 +1,13 @@
 -- A frame with a mark stays unseen.
-use Rattle.std.proofs.Common.{◌≡◌, ℕ, ◌-◌, Bool, true, false, cond, not, ◌&&◌, ◌==◌, List, Result, Ok, Err, MatchResult, refl, sym, ap, ◌∙◌}
-use Rattle.std.proofs.lemmas.Bool.{false≢true}
+use Rattle.std.proofs.Common.{◌≡◌, ℕ, ◌+◌, ◌-◌, ◌<◌, ◌≤◌, arith, get_or, inl, inr, length, Bool, true, false, cond, not, ◌&&◌, ◌==◌, List, Result, Ok, Err, MatchResult, refl, sym, ap, ◌∙◌}
+use Rattle.std.proofs.lemmas.Bool.{cases_lt, false≢true}
 use Rattle.av_base.specs.Words.{with_at, within}
 use Rattle.av_pagetable.specs.declared.pte.Pte.{Pte}
 use Rattle.av_pagetable.specs.declared.pte.Pte.TheVariants.{Empty, Zero, Here, Away}
 use Rattle.av_pagetable.specs.Entries.{with_entry}
 use Rattle.av_pagetable.specs.Seen.{AreUnseen, is_marked, names_seen}
-use Rattle.av_pagetable.specs.Table.{child_entry, read_only, without_range}
+use Rattle.av_pagetable.specs.Table.{child_entry, given_or, read_only, with_run, without_range}
+use Rattle.av_pagetable.proofs.SetRun.{behind, below, inside}
 
 -- ---- entries
 
@@ -33,6 +34,24 @@ unseen-ranged f from past table page unseen = by (within from (past - from) page
     by : (b : Bool) → names_seen f (cond b Empty (table page)) ≡ false
     by true = refl
     by false = unseen
+
+unseen-given : (f : ℕ) (e own : Pte) → names_seen f e ≡ false → names_seen f own ≡ false → names_seen f (given_or e own) ≡ false
+unseen-given f Empty own given kept = kept
+unseen-given f Zero own given kept = refl
+unseen-given f (Here g write seen) own given kept = given
+unseen-given f (Away slot) own given kept = refl
+
+pub unseen-run : (f from n : ℕ) (run : List Pte) (table : ℕ → Pte) (page : ℕ) → n ≤ length run
+    → ((i : ℕ) → i < length run → names_seen f (get_or run i Empty) ≡ false) → names_seen f (table page) ≡ false
+    → names_seen f (with_run from n run table page) ≡ false
+unseen-run f from n run table page few given kept = elim (cases_lt page from) [
+  | inl lt ↦ ap (names_seen f) (below from n run table page lt) ∙ kept
+  | inr ge ↦ elim (cases_lt page (from + n)) [
+    | inl lt ↦ ap (names_seen f) (inside from n run table page ge lt)
+        ∙ unseen-given f (get_or run (page - from) Empty) (table page) (given (page - from) (omega (arith, few, ge, lt))) kept
+    | inr high ↦ ap (names_seen f) (behind from n run table page high) ∙ kept
+  ]
+]
 
 -- ---- marks
 

@@ -69,13 +69,13 @@ joined from mid past old new last low high one two = two ∙ ap (without_range m
 
 -- ---- pages by part and page there
 -- a page between a part's first and last is one of that part
-part_at : (q n span : ℕ) → 0 < span → n * span ≤ q → q < n * span + span → q / span ≡ n
+pub part_at : (q n span : ℕ) → 0 < span → n * span ≤ q → q < n * span + span → q / span ≡ n
 part_at q n span some low high =
     let least : n ≤ q / span = le-div n q span some low in
     let most : q / span < n + 1 = div_below q span (n + 1) some (omega (arith, high, next_row n span)) in
     omega (arith, least, most)
 
-page_of : (q n span : ℕ) → q / span ≡ n → q ≡ n * span + q % span
+pub page_of : (q n span : ℕ) → q / span ≡ n → q ≡ n * span + q % span
 page_of q n span same = sym (div-add-mod' q span) ∙ ap (λ d. d * span + q % span) same
 
 -- where a range of the pages of one part goes, it goes in the whole

@@ -102,6 +102,19 @@ impl<C: Level> Level for Dir<C> {
         }
     }
 
+    fn set_run(&mut self, page: u64, run: &[Pte]) -> Result<(), AllocError> {
+        let span = C::span();
+        let mut done = 0;
+        while done < run.len() {
+            let from = page + done as u64;
+            let there = from % span;
+            let len = (span - there).min((run.len() - done) as u64) as usize;
+            self.set_in(from / span, there, &run[done..done + len])?;
+            done += len;
+        }
+        Ok(())
+    }
+
     #[inline]
     fn change(&mut self, page: u64, entry: Pte) {
         let span = C::span();
@@ -180,7 +193,7 @@ impl<C: Level> Dir<C> {
     ghost use Rattle.std.specs.Prelude.{◌≡◌, ℕ, ◌+◌, ◌*◌, ◌/◌, ◌<◌, ◌≤◌, [], MatchOption, length};
     ghost use Rattle.std.specs.Prelude.{option_map, IfSome, Some};
     ghost use Rattle.std.specs.List.{AllWithin};
-    ghost use Rattle.av_pagetable.specs.Table.{page_bound, without_range};
+    ghost use Rattle.av_pagetable.specs.Table.{GivesRun, page_bound, with_run, without_range};
     ghost use Rattle.av_pagetable.specs.Dir.{part_of, entries, entries_at, IsPlace, IsFirstIn};
     ghost use Rattle.av_pagetable.specs.Held.{AreHeld};
     ghost use Rattle.av_pagetable.specs.declared.pte.Pte.{Pte};
@@ -308,6 +321,32 @@ impl<C: Level> Dir<C> {
         match self.place(number) {
             Ok(place) => place,
             Err(place) => place,
+        }
+    }
+
+    // Gives pages in a row of the part of a number the entries of a run.
+    #[inline]
+    fn set_in(&mut self, number: u64, page: u64, run: &[Pte]) -> Result<(), AllocError>
+        requires fits { C.span * 512 ≤ page_bound }
+        requires below { number < 512 }
+        requires within { page + length run.now ≤ C.span }
+        ensures { GivesRun result run.now (entries C.at C.span self.new)
+            (λ n. with_run (number * C.span + page) n run.now (entries C.at C.span self.old)) }
+    {
+        let _span = C::span();
+        match self.place(number) {
+            Ok(place) => {
+                let part = self.parts.at_mut(place);
+                part.1.set_run(page, run)
+            }
+            Err(place) => {
+                let mut part = C::new(self.alloc)?;
+                part.set_run(page, run)?;
+                if !part.is_empty() {
+                    self.parts.insert(self.alloc, place, (number as u16, part))?;
+                }
+                Ok(())
+            }
         }
     }
 

@@ -6,10 +6,10 @@ use std::alloc::{AllocError, Global};
 /// A part of a page table: a function from page to entry, its pages counted from 0.
 pub trait Level: Drop {
     ghost use Rattle.std.specs.Prelude.{◌≡◌, ℕ, ◌<◌, ◌≤◌, ◌*◌, List, MatchBool, MatchOption};
-    ghost use Rattle.std.specs.Prelude.{MatchResult, IfOk, IfSome};
+    ghost use Rattle.std.specs.Prelude.{MatchResult, IfOk, IfSome, ◌+◌, length};
     ghost use Rattle.av_base.specs.Words.{with_at};
     ghost use Rattle.av_pagetable.specs.Table.{IsFirst, HasSome, child_entry, page_bound};
-    ghost use Rattle.av_pagetable.specs.Table.{read_only, without_range};
+    ghost use Rattle.av_pagetable.specs.Table.{GivesRun, read_only, with_run, without_range};
     ghost use Rattle.av_pagetable.specs.Held.{AreHeld, AllDivide};
     ghost use Rattle.av_pagetable.specs.declared.pte.Pte.{Pte};
 
@@ -56,6 +56,14 @@ pub trait Level: Drop {
         ensures { MatchResult result
             (λ _. at self.new ≡ with_at page entry (at self.old))
             (λ _. at self.new ≡ at self.old) };
+
+    /// Gives pages in a row the entries of a run; where the run has none, a page keeps its own.
+    /// Without memory only the first pages may have theirs.
+    fn set_run(&mut self, page: u64, run: &[Pte]) -> Result<(), AllocError>
+        requires fits { span ≤ page_bound }
+        requires within { page + length run.now ≤ span }
+        ensures { GivesRun result run.now (at self.new)
+            (λ n. with_run page n run.now (at self.old)) };
 
     /// Changes an entry that is there, and takes no memory.
     fn change(&mut self, page: u64, entry: Pte)

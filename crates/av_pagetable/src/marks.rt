@@ -1,7 +1,7 @@
 //! Which frames are marked: no entry that names one of these is seen.
 
 ghost use Rattle.std.specs.Prelude.{◌≡◌, ℕ, ◌&&◌, ◌==◌, ◌⊎◌, Bool, not, true, false, [], List};
-ghost use Rattle.std.specs.Prelude.{if◌then◌else◌};
+ghost use Rattle.std.specs.Prelude.{if◌then◌else◌, ◌<◌, length, slice_index_or};
 ghost use Rattle.av_pagetable.specs.Seen.{is_marked, names_seen};
 
 use crate::pte::Pte;
@@ -58,6 +58,17 @@ impl Marks {
             if place < self.marks.len() {
                 self.marks[place] = false;
             }
+        }
+    }
+
+    /// Takes the marks from the frames that entries name which are seen.
+    pub(crate) fn unmark_all(&mut self, entries: &[Pte])
+        ensures { (f : ℕ) → is_marked self.new f ≡ true → (is_marked self.old f ≡ true)
+            × ((i : ℕ) → i < length entries.now
+            → names_seen f (slice_index_or entries.now i Pte.Empty) ≡ false) }
+    {
+        for entry in entries {
+            self.unmark(*entry);
         }
     }
 

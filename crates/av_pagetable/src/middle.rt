@@ -68,6 +68,11 @@ impl Level for Middle {
     }
 
     #[inline(always)]
+    fn set_run(&mut self, page: u64, run: &[Pte]) -> Result<(), AllocError> {
+        self.tables.set_run(page, run)
+    }
+
+    #[inline(always)]
     fn change(&mut self, page: u64, entry: Pte) {
         self.tables.change(page, entry);
     }

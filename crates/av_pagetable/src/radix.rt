@@ -46,6 +46,13 @@ impl Level for Pte {
         Ok(())
     }
 
+    fn set_run(&mut self, _page: u64, run: &[Pte]) -> Result<(), AllocError> {
+        if !run.is_empty() && run[0] != Pte::Empty {
+            *self = run[0];
+        }
+        Ok(())
+    }
+
     fn change(&mut self, _page: u64, entry: Pte) {
         *self = entry;
     }
@@ -118,6 +125,10 @@ impl Table for RadixTable {
 
     fn set(&mut self, page: u64, entry: Pte) -> Result<(), AllocError> {
         self.top.set(page, entry)
+    }
+
+    fn set_run(&mut self, page: u64, run: &[Pte]) -> Result<(), AllocError> {
+        self.top.set_run(page, run)
     }
 
     // As `get`, a short way on which no call stands.
