@@ -6,10 +6,15 @@ A fork takes the bit of each page that its child gets, and a page that comes in 
 none. It goes with its page, whatever becomes of the protection. Where an entry goes, or is merged,
 nothing is kept of it here: the next write to the page has a note.
 """
-from typing import Callable, Collection, Sequence
+from __future__ import annotations
+
+from typing import TYPE_CHECKING, Callable, Collection
 
 from marks import Marks
 from ranges import PAGE, up
+
+if TYPE_CHECKING:
+    from shapes import Command, Shape
 
 # words of a trace for which one has to know what calls said of pages
 ASKS_MARKS = ("mlock ", " dontfork", " wipeonfork")
@@ -20,6 +25,8 @@ IN_PART = ("segv ", "bus ", "oom ")
 NONE: tuple[int, ...] = ()
 # the words of each note
 Notes = list[list[str]]
+# parts the lines of a reply: no ASCII text has room for it
+MARK = "\xff"
 # bytes that a `mlock` locks at most
 MOST_LOCKED = 16384 * PAGE
 
@@ -66,6 +73,21 @@ class Bits:
         """A command with its reply: the pages whose bit came back without a note."""
         does = self.does.get(words[0])
         return does(words, answer, notes) if does else NONE
+
+    def follow(self, command: Command, reply: str, shape: Shape) -> Collection[int]:
+        """The same of a reply whose shape is known. Of most accesses no note needs to be read."""
+        words, page = command
+        if page >= 0 and shape.is_ok:
+            bits = self.pages[words[1]]
+            if page in bits:
+                return NONE
+            bits.add(page)
+            return NONE if shape.changes else (page,)
+        name = words[0]
+        if name not in self.does or name == "read" and not shape.maps:
+            return NONE
+        answer, *notes = reply.split(MARK)
+        return self.does[name](words, answer, [it.split(" ") for it in notes])
 
     def write(self, words: list[str], answer: str, notes: Notes) -> Collection[int]:
         at, end = int(words[2], 16), len(words[3]) // 2

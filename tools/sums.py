@@ -1,21 +1,22 @@
 """What the replies of a run sum up to: for each process, and in all."""
 import collections
 import dataclasses
-from typing import Iterable
+from typing import Iterable, Iterator
 
-from bits import Bits, Notes
+from bits import Bits
 from held import ALL, Held
-from transcript import Step, parts_of
+from shapes import MOST, OUT_OF_MEMORY, Command, Shape, command_of, shapes_of
+from transcript import Beside
 
-# the column that a note counts in, and notes by which an entry changes at an access
+# the column that a note counts in
 COLUMNS = {"zero": "zero", "new": "new", "copy": "copied"}
 COLUMNS |= {"load": "loaded", "put": "put", "done": "written"}
-AT_FAULTS = {"zero", "new", "copy", "map"}
 # commands that name no process
 OF_NONE = {"reclaim", "age", "complete", "swapon", "swapoff", "slot", "stat", "merge", "compact"}
 NONE = "-"
 ACCESSES = {"read", "write"}
-OUT_OF_MEMORY = ("oom ", "err ENOMEM pinned=")
+# a command, its reply, and the shape of that
+Told = tuple[Command, str, Shape]
 
 
 @dataclasses.dataclass(slots=True)
@@ -44,61 +45,66 @@ class Counts:
     """The rows, as commands with their replies are taken one after the other."""
 
     def __init__(self, asks_marks: bool):
-        self.rows: dict[str, Sums] = {}
-        # how often each note was told, by row
-        self.told: dict[str, collections.defaultdict[str, int]] = {}
+        self.rows: collections.defaultdict[str, Sums] = collections.defaultdict(Sums)
+        # how often each row had a command of a name with a reply of a shape, which tells most
+        self.told: collections.defaultdict[tuple[str, str, Shape], int]
+        self.told = collections.defaultdict(int)
         self.bits = Bits(asks_marks)
 
-    def begin(self, whose: str) -> Sums:
-        """A row that wasn't there."""
-        self.told[whose] = collections.defaultdict(int)
-        return self.rows.setdefault(whose, Sums())
-
-    def take(self, words: list[str], answer: str, notes: Notes) -> Sums:
+    def take(self, command: Command, reply: str, shape: Shape) -> Sums:
         """Counts a command, and gives the row in which it is."""
-        name = words[0]
+        words, name = command.words, command.words[0]
         whose = NONE if name in OF_NONE else words[1]
-        row, is_fault = self.rows.get(whose) or self.begin(whose), False
-        if notes:
-            told = self.told[whose]
-            for it in notes:
-                told[it[0]] += 1
-                is_fault = is_fault or it[0] in AT_FAULTS
-        if name in ACCESSES:
-            row.accesses += 1
-            # (most accesses change nothing)
-            if notes or name == "write" and not answer.startswith("err "):
-                row.faults += self.reuse(row, words, answer, notes) or is_fault
-        elif name in self.bits.does:
-            self.reuse(row, words, answer, notes)
-        if answer != "ok" and answer.startswith(OUT_OF_MEMORY):
+        row = self.rows[whose]
+        self.told[whose, name, shape] += 1
+        # (most accesses change nothing)
+        if shape.names or name not in ACCESSES or name == "write" and not shape.is_refused:
+            reused = self.bits.follow(command, reply, shape)
+            if reused:
+                row.reused += len(reused)
+                row.faults += name in ACCESSES and not shape.is_fault
+        if shape.is_out_of_memory and reply.startswith(OUT_OF_MEMORY):
             row.oom += 1
+        if len(self.told) == MOST:
+            self.add_told()
         return row
 
-    def reuse(self, row: Sums, words: list[str], answer: str, notes: Notes) -> bool:
-        """Whether a write bit came back to a page."""
-        reused = self.bits.does[words[0]](words, answer, notes)
-        row.reused += len(reused)
-        return bool(reused)
+    def add_told(self) -> None:
+        """Adds what shapes tell."""
+        for (whose, name, shape), count in self.told.items():
+            row = self.rows[whose]
+            if name in ACCESSES:
+                row.accesses += count
+                row.faults += count * shape.is_fault
+            for note in COLUMNS.keys() & set(shape.names):
+                column = COLUMNS[note]
+                setattr(row, column, getattr(row, column) + count * shape.names.count(note))
+        self.told.clear()
 
     def found(self) -> dict[str, Sums]:
         """The rows, with that of all."""
-        for whose, told in self.told.items():
-            for note, column in COLUMNS.items():
-                setattr(self.rows[whose], column, told[note])
-        return self.rows | {ALL: sum(self.rows.values(), Sums())}
+        self.add_told()
+        return dict(self.rows) | {ALL: sum(self.rows.values(), Sums())}
 
 
-def sums_of(steps: Iterable[Step], asks_marks: bool = True) -> dict[str, Sums]:
+def told_of(steps: Beside) -> Iterator[Told]:
+    """What is told in a run, one after the other."""
+    for text in steps.texts():
+        for reply, shape in zip(text.split("\n"), shapes_of(text)):
+            command = command_of(steps.commands[steps.count])
+            steps.count += 1
+            yield command, reply, shape
+
+
+def sums_of(told: Iterable[Told], asks_marks: bool = True) -> dict[str, Sums]:
     """The rows: of each process by its number, of what belongs to none, and of all."""
     counts = Counts(asks_marks)
     held = Held(counts.bits.marks)
-    for _, _, command, reply in steps:
-        words, answer, notes = parts_of(command, reply)
-        row = counts.take(words, answer, notes)
-        if notes or words[0] in held.does:
+    for command, reply, shape in told:
+        words, row = command.words, counts.take(command, reply, shape)
+        if shape.names or words[0] in held.does:
             before = held.used
-            held.take(words, answer, notes)
+            held.follow(words, reply, shape)
             if words[0] == "merge":
                 row.saved += before - held.used
     found = counts.found()

@@ -12,7 +12,7 @@ from typing import Any, Iterator
 
 from shared.saying import Refused, count_of, name_of, read
 
-from bits import asks_marks
+from bits import MARK, asks_marks
 from labels import said_of_accesses
 
 REFERENCE = os.path.join(os.path.dirname(os.path.realpath(__file__)), "..", "docs", "REFERENCE.md")
@@ -35,9 +35,8 @@ ANSWERS = {
 
 
 # a command: its number from 1, its line of the trace, its text, and its reply, whose lines MARK
-# parts, for which no ASCII text has room
+# parts
 Step = tuple[int, int, str, str]
-MARK = "\xff"
 # what goes wrong where a reply is none to its command
 MISFITS = (IndexError, KeyError, TypeError, ValueError)
 
@@ -49,18 +48,24 @@ def commands_of(text: str) -> tuple[list[int], list[str]]:
     return numbers, [lines[at - 1] for at in numbers]
 
 
-def replies_of(transcript: io.BufferedIOBase) -> Iterator[str]:
-    """The replies of a transcript, as they come."""
+def texts_of(transcript: io.BufferedIOBase) -> Iterator[str]:
+    """A transcript in texts of whole replies, without the last newline, as they come."""
     rest = ""
     while block := transcript.read1(1 << 18):
-        text = rest + block.decode("ascii", "backslashreplace")
-        *whole, rest = text.replace("\n ", MARK).split("\n")
-        if not rest:
-            # (a reply is whole where the next one begins)
-            rest = whole.pop() + "\n"
-        yield from whole
+        text = (rest + block.decode("ascii", "backslashreplace")).replace("\n ", MARK)
+        # (a reply is whole where the next one begins)
+        end = text.rfind("\n", 0, -1)
+        if end >= 0:
+            yield text[:end]
+        rest = text[end + 1 :]
     if rest:
         yield rest.removesuffix("\n")
+
+
+def replies_of(transcript: io.BufferedIOBase) -> Iterator[str]:
+    """The replies of a transcript, as they come."""
+    for text in texts_of(transcript):
+        yield from text.split("\n")
 
 
 def parts_of(command: str, reply: str) -> tuple[list[str], str, list[list[str]]]:
@@ -82,21 +87,30 @@ class Beside:
         self.lines, self.commands = commands_of(self.text)
         self.asks_marks = asks_marks(self.text)
 
-    def __iter__(self) -> Iterator[Step]:
+    def texts(self) -> Iterator[str]:
+        """The transcript in texts of whole replies. Whoever takes one counts its replies."""
         try:
             with sys.stdin.buffer if self.transcript == "-" else open(self.transcript, "rb") as it:
-                replies = replies_of(it)
-                numbers = range(1, len(self.commands) + 1)
-                for step in zip(numbers, self.lines, self.commands, replies):
-                    self.count = step[0]
-                    yield step
-                if next(replies, None) is not None:
+                for text in texts_of(it):
+                    left = len(self.commands) - self.count
+                    if text.count("\n") < left:
+                        yield text
+                        continue
+                    if left:
+                        yield "\n".join(text.split("\n")[:left])
                     raise Refused(
                         f"{name_of(self.transcript)} has more replies than {self.trace} has "
                         f"commands ({len(self.commands)}): are they of one run?"
                     )
         except OSError as error:
             raise Refused(f"{self.transcript} can't be read: {error.strerror}") from None
+
+    def __iter__(self) -> Iterator[Step]:
+        for text in self.texts():
+            for reply in text.split("\n"):
+                at = self.count
+                self.count += 1
+                yield self.count, self.lines[at], self.commands[at], reply
 
     def refused(self) -> Refused:
         """The reply can't be one to its command."""

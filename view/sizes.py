@@ -19,15 +19,12 @@ from typing import Callable, NamedTuple
 from shared.saying import Refused
 
 import making
-from bits import asks_marks
+from bits import MARK, asks_marks
 from labels import said_of_accesses
-from ranges import PAGE
+from shapes import command_of, shapes_of
 from sums import ALL, Counts, Sums
 from swapfile import MOST_FILES, MOST_FRAMES, MOST_PAGES, Machine, words_of
 
-WRITE = re.compile(r"write (\d+) ([0-9a-f]+) ((?:[0-9a-f]{2})+)")
-# stands between the lines of a reply
-WITHIN = "\0"
 # sizes of one picture at most
 MOST_SIZES = 64
 # the picture, and its space for the axes
@@ -72,29 +69,12 @@ def pages_written(lines: list[str]) -> int:
     return sum(len(it) // 8192 + 2 for it in texts)
 
 
-class Line(NamedTuple):
-    """The words of a line; where it writes to one page, whose that is, and its number."""
-
-    words: list[str]
-    process: str = ""
-    page: int = -1
-
-
-def split(text: str) -> Line:
-    words, write = text.split(" "), WRITE.fullmatch(text)
-    if not write:
-        return Line(words)
-    at = int(write[2], 16)
-    first, last = at // PAGE, (at + len(write[3]) // 2 - 1) // PAGE
-    return Line(words, write[1], first) if first == last else Line(words)
-
-
 class Sizes:
     """Runs a trace on machines of several sizes."""
 
     def __init__(self, program: str, lines: list[str], areas: int):
         self.program, self.texts, self.areas = program, lines, areas
-        self.lines = list(map(split, lines))
+        self.lines = list(map(command_of, lines))
         self.asks_marks = asks_marks("\n".join(lines))
         self.pages = pages_written(lines)
 
@@ -109,24 +89,25 @@ class Sizes:
         with tempfile.TemporaryDirectory() as room:
             words = words_of(Machine(str(frames), [(pages, [])] * self.areas), room)
             transcript, status, said = making.run_plainly(self.program, words, self.texts)
-        replies = transcript.removesuffix("\n").replace("\n ", WITHIN).split("\n")
-        if status or len(replies) != len(self.lines):
+        text = transcript.removesuffix("\n").replace("\n ", MARK)
+        if status or text.count("\n") + 1 != len(self.lines):
             raise Refused(f"with {frames} frames avsim ended early, with status {status}: {said}")
-        return Size(frames, self.sums(replies))
+        return Size(frames, self.sums(text))
 
-    def sums(self, replies: list[str]) -> Sums:
+    def sums(self, text: str) -> Sums:
         """What all replies sum up to. Most are hits: reads without a note, and writes to a page
         that has its write bit. These are counted at once.
         """
         counts, hits = Counts(self.asks_marks), 0
         bits = counts.bits.pages
-        for (words, process, page), reply in zip(self.lines, replies):
-            is_read = reply[:5] == "data " and WITHIN not in reply
-            if is_read or reply == "ok" and page in bits.get(process, ()):
+        told = zip(self.lines, text.split("\n"), shapes_of(text))
+        for command, reply, shape in told:
+            is_read = reply[:5] == "data " and MARK not in reply
+            is_write = reply == "ok" and command.page >= 0
+            if is_read or is_write and command.page in bits.get(command.words[1], ()):
                 hits += 1
                 continue
-            answer, *notes = reply.split(WITHIN)
-            counts.take(words, answer, [it.split(" ") for it in notes])
+            counts.take(command, reply, shape)
         found = counts.found()[ALL]
         found.accesses += hits
         return found

@@ -25,7 +25,8 @@ from ranges import Ranges, up
 from shift import SPLIT, TOP, NotAsked, Shift
 from spaces import Space, runs_of
 from strace import Reader, time_of
-from sums import sums_of
+from shapes import command_of, shapes_of
+from sums import Told, sums_of
 from telling import holes_of
 from transcript import MARK, answer_of, forms, note_of, replies_of, row_of
 
@@ -435,6 +436,40 @@ def steps_of(pairs: list[tuple[str, str]]) -> list[tuple[int, int, str, str]]:
     return [(at, at, line, reply.replace(" / ", MARK)) for at, (line, reply) in enumerate(pairs, 1)]
 
 
+def told_of(pairs: list[tuple[str, str]]) -> list[Told]:
+    """The same as what is told."""
+    replies = [it[3] for it in steps_of(pairs)]
+    commands = [command_of(line) for line, _ in pairs]
+    return list(zip(commands, replies, shapes_of("\n".join(replies))))
+
+
+class Shaped(unittest.TestCase):
+    """What replies have in common but for numbers."""
+
+    def test_replies_of_one_shape_differ_in_numbers_alone(self) -> None:
+        notes = ("new 1 20000 0", "new 17 7fffabcdd000 35", "zero 1 a000")
+        found = shapes_of("\n".join(f"ok{MARK}{it}" for it in notes))
+        self.assertIs(found[0], found[1])
+        self.assertEqual([it.names for it in found[1:]], [["new"], ["zero"]])
+        self.assertEqual([it.is_even for it in found], [True] * 3)
+
+    def test_what_is_no_note_is_of_no_even_shape(self) -> None:
+        for line in ("p4ut 1 0:1", "0drop 0:1", "age0 1", "loa0d 0:1 1", "put dead 0:1", "new 1 2",
+                     "new 1 20000 x", "new a 20000 1", "map 1 2000g 1", "glow 7", "keep 1 Locked",
+                     "20000-21000 rw-", ""):
+            self.assertEqual([it.is_even for it in shapes_of(f"ok{MARK}{line}")], [False], line)
+        for line in ("put 1 0:1", "keep 3 locked", "1 abcdef000", "move 3 0", "load 10:20 4"):
+            self.assertEqual([it.is_even for it in shapes_of(f"ok{MARK}{line}")], [True], line)
+
+    def test_answers(self) -> None:
+        for reply, wanted in (("ok", "100"), ("o5k", "000"), ("err EIO", "010"),
+                              ("e5rr EIO", "000"), ("oom 1 pinned=0", "001"),
+                              ("oo1m 1 pinned=0", "000")):
+            shape = shapes_of(f"ok\n{reply}")[1]
+            found = shape.is_ok, shape.is_refused, shape.is_out_of_memory
+            self.assertEqual("".join(str(int(it)) for it in found), wanted, reply)
+
+
 class Summed(unittest.TestCase):
     """What a run sums up to."""
 
@@ -445,11 +480,11 @@ class Summed(unittest.TestCase):
         lines += [("fork 1 2", "ok"), ("merge", "ok / share 0 / join 1 21000 0 / join 1 22000 0"),
                   ("exit 2", "ok"), ("merge", "ok"),
                   ("write 1 21000 02", "ok / copy 1 21000 1"), ("compact", "ok")]
-        steps = steps_of(lines)
-        sums = sums_of(steps)
+        sums = sums_of(told_of(lines))
         self.assertEqual((sums["all"].saved, "-" in sums), (0, False))
         self.assertEqual((sums["1"].frames, sums["2"].frames, sums["all"].frames), (3, 3, 3))
-        sums = sums_of([it for it in steps if it[2] not in ("fork 1 2", "exit 2")])
+        lines = [it for it in lines if it[0] not in ("fork 1 2", "exit 2")]
+        sums = sums_of(told_of(lines))
         self.assertEqual((sums["all"].saved, sums["-"].saved), (2, 2))
 
     def test_a_frame_that_moves_is_one(self) -> None:
@@ -459,7 +494,7 @@ class Summed(unittest.TestCase):
                  ("munmap 1 20000 4096", "ok"), ("compact", "ok / move 1 0"),
                  ("write 1 21000 03", "ok"), ("munmap 1 21000 4096", "ok"),
                  ("mmap 1 4096 rw-", "map 21000"), ("write 1 21000 01", "ok / new 1 21000 0")]
-        self.assertEqual(sums_of(steps_of(lines))["all"].frames, 2)
+        self.assertEqual(sums_of(told_of(lines))["all"].frames, 2)
 
     def test_a_write_that_finds_its_frame_alone_is_a_fault(self) -> None:
         lines = [("spawn 1", "ok"), ("mmap 1 8192 rw-", "map 20000"),
@@ -467,10 +502,10 @@ class Summed(unittest.TestCase):
                  ("madvise 1 21000 4096 dontfork", "ok"), ("fork 1 2", "ok"), ("exit 2", "ok"),
                  ("write 1 21000 01", "ok"), ("write 1 20fff 0102", "ok"),
                  ("write 1 20000 01", "ok")]
-        one = sums_of(steps_of(lines))["1"]
+        one = sums_of(told_of(lines))["1"]
         self.assertEqual((one.accesses, one.faults, one.reused), (4, 2, 1))
         lines[-3:] = [("mlock 1 20000 8192", "ok"), ("write 1 20fff 0102", "ok")]
-        one = sums_of(steps_of(lines))["1"]
+        one = sums_of(told_of(lines))["1"]
         self.assertEqual((one.accesses, one.faults, one.reused), (2, 1, 1))
 
 
