@@ -42,7 +42,7 @@ CARRIERS = {
     "av_interval": "Spans search",
     "av_chain": "Links unlink_from each_link_stands_once",
     "av_anon": "Anons order kin",
-    "av_rmap": "walk walk_sorted walk_frame walk_slot walk_merged Items any_locked clear_seen "
+    "av_rmap": "walk walk_sorted walk_frame walk_slot walk_merged Items clear_seen "
     "clear_seen_items unmap",
     "av_vmatree": "Tree",
     "av_merge": "map unmap modify modify_all map_like move_range grow prepare fork unmap_all "

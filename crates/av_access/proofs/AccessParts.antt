@@ -1,48 +1,34 @@
 -- An access goes on by one page, or stops at it.
-use Rattle.std.proofs.Common.{◌≡◌, ◌⊎◌, ℕ, ◌+◌, ◌-◌, ◌*◌, ◌%◌, ◌<◌, ◌≤◌, Bool, true, false, cond, List, [], ◌∷◌, ◌++◌, map, length, max, Option, Some, None, option_map, inl, inr, zero, suc, refl, sym, ap, subst, ◌∙◌, arith}
+use Rattle.std.proofs.Common.{◌≡◌, ◌⊎◌, ℕ, ◌+◌, ◌-◌, ◌*◌, ◌%◌, ◌<◌, ◌≤◌, Bool, true, false, List, [], ◌∷◌, ◌++◌, map, length, Option, Some, None, option_map, inl, inr, zero, suc, refl, sym, ap, subst, ◌∙◌, arith}
 use Rattle.std.proofs.lemmas.Bool.Decides.{nat_tests}
-use Rattle.std.proofs.lemmas.List.{append-nil, append_assoc}
+use Rattle.std.proofs.lemmas.List.{append_assoc}
 use Rattle.av_trace.specs.declared.note.Note.{Note}
 use Rattle.std.specs.List.{range_with_len}
 use Rattle.av_base.specs.Words.{within}
-use Rattle.av_io.specs.Count.{RoseBy}
-use Rattle.av_plain.specs.Device.{Device, IsSameDevice, device_by, setting_of, Calls, Wrote}
-use Rattle.av_plain.specs.Pass.{fails, is_fail, pages_written}
-use Rattle.av_plain.specs.Step.{failed_frames, failure_answers}
-use Rattle.av_plain.proofs.Device.{setting_same}
-use Rattle.av_plain.proofs.Ledger.{how_many-append}
-use Rattle.av_trace.specs.declared.reply.Answer.TheVariants.{Done}
-use Rattle.av_plain.specs.World.{Page, Shows, World, is_locked_page, lives, pages}
-use Rattle.av_plain.specs.Ledger.{Ledger, Setting, entry}
-use Rattle.av_plain.specs.Load.{is_of_slot, with_loads, without_bytes}
+use Rattle.av_plain.specs.Device.{Device, device_by, setting_of, Calls}
+use Rattle.av_plain.specs.World.{Shows, World, is_locked_page, lives, pages}
+use Rattle.av_plain.specs.Ledger.{Ledger, Setting}
+use Rattle.av_plain.specs.Load.{with_loads}
 use Rattle.av_plain.specs.Sound.{IsSound}
-use Rattle.av_plain.specs.Event.{Event, Used, after_all, notes_of, note_events}
-use Rattle.av_plain.specs.Access.{Accesses, End, Whole, Stopped, page_events, pages_of_access, after_write, Reads}
-use Rattle.av_plain.specs.Fault as served
-use Rattle.av_plain.specs.Fault.{Touches, is_allowed, permits}
-use Rattle.av_plain.specs.Choice.{ChoosesAll, Free}
-use Rattle.av_plain.specs.Areas.{Rmap, rmap_after_all}
-use Rattle.av_plain.specs.Transcript.{State, rmap_of}
-use Rattle.av_plain.proofs.AreasLeft.{rmap_after_all-append}
-use Rattle.av_plain.proofs.Access.{after_all-append, notes_of-append, notes_of-note_events, chooses-append, accesses-append, alike-by-allowed}
+use Rattle.av_plain.specs.Event.{Event}
+use Rattle.av_plain.specs.Access.{page_events, pages_of_access, after_write, Reads}
+use Rattle.av_plain.specs.Fault.{is_allowed}
+use Rattle.av_plain.specs.Transcript.{State}
 use Rattle.av_mem.specs.declared.mem.Mem.{Mem}
 use Rattle.av_fault.specs.declared.fault.Stop.{Stop}
 use Rattle.av_mem.specs.Mem.{setting_by, frame_count, Keeps}
 use Rattle.av_mem.proofs.KeepsLaws.{keeps-whenever}
 use Rattle.av_mem.proofs.MemLaws.{lives_is}
-use Rattle.av_plain.proofs.Sound.{lives-loads, loads-same}
-use Rattle.av_swap_laws.proofs.Load.{pages-unclaimed}
+use Rattle.av_plain.proofs.Sound.{lives-loads}
 use Rattle.av_step.specs.Step.{IsSteadyFor}
 use Rattle.av_access.specs.Page.{IsPageRead, IsPageStep, world_after}
 use Rattle.av_access.specs.Access.{HasServed, IsAccess, IsPiece, IsRead, world_served}
 use Rattle.av_fault.specs.Fault.{stop_of}
-use Rattle.av_fault.proofs.CameLaws.{locked-loads}
 use Rattle.av_access.specs.declared.access.Piece.{Piece}
 use Rattle.av_access.proofs.ServedLaws.{LeavesMarks, page-served, served-append, served-more}
 use Rattle.av_access.proofs.AccessPages.{touches, touched-one, touched-more}
-use Rattle.av_access.proofs.AccessLoads.{AreOwnLoads, IsApart, loads-shows, loads-stored, own-events, with_loads-append}
+use Rattle.av_access.proofs.AccessLoads.{AreOwnLoads, IsApart, loads-shows, loads-stored, own-events}
 use Rattle.av_access.proofs.AccessBytes.{reads-more, stored_twice, allowed-stored, lives-stored, locked-stored}
-use Rattle.av_plain.proofs.Wrote.{device-on, wrote-notes}
 
 -- ---- the memories after a part of an access
 

@@ -9,7 +9,7 @@ use Rattle.av_spaces.specs.Spaces.{pages_of as areas_on}
 use Rattle.av_trace.specs.declared.note.Note.{Note}
 use Rattle.av_trace.specs.declared.reply.Answer.{Answer}
 use Rattle.av_trace.specs.declared.reply.Answer.TheVariants.{Done}
-use Rattle.av_plain.specs.Access.{bytes_before, write_answer}
+use Rattle.av_plain.specs.Access.{write_answer}
 use Rattle.av_plain.specs.Device.{Device}
 use Rattle.av_plain.specs.Event.{Event}
 use Rattle.av_plain.specs.Ledger.{Ledger, Setting, entry}

@@ -8,7 +8,7 @@ use Rattle.av_plain.specs.Device.{Device, IsSameDevice, setting_of}
 use Rattle.av_plain.specs.World.{World, lives}
 use Rattle.av_plain.specs.Ledger.{Ledger, InFrame, map_count, names_frame}
 use Rattle.av_plain.specs.Event.{after_all, after_notes, after_use, note_events, Used}
-use Rattle.av_plain.specs.Access.{page_events}
+use Rattle.av_plain.specs.Access.{after_write, page_events}
 use Rattle.av_plain.specs.Fault.{Touches}
 use Rattle.av_plain.specs.Load.{with_loads}
 use Rattle.av_plain.specs.Pass.{fails}
@@ -23,8 +23,10 @@ use Rattle.av_plain.proofs.Ledger.{how_many-found}
 use Rattle.av_plain.proofs.Ledger.NoSwap.{itself}
 use Rattle.av_plain.proofs.Sound.{lives-loads}
 use Rattle.av_swap_laws.specs.Held.{Held, IsHeld}
+use Rattle.av_swap_laws.specs.Locks.{AreLocks}
+use Rattle.av_swap_laws.proofs.Locks.{locks-by-world}
 use Rattle.av_mem.specs.declared.mem.Mem.{Mem}
-use Rattle.av_mem.specs.Mem.{setting_by, sizes_of, frame_count, view}
+use Rattle.av_mem.specs.Mem.{setting_by, sizes_of, frame_count, locks_of, view}
 use Rattle.av_mem.proofs.KeepsLaws.{serves-keeps, state_by}
 use Rattle.av_fault.specs.declared.fault.Stop.{Stop}
 use Rattle.av_fault.specs.declared.fault.Stop.TheVariants.{Denied, Lost, Starved}
@@ -32,6 +34,7 @@ use Rattle.av_fault.specs.declared.fault.Touched.TheVariants.{Ready, Stopped, Ze
 use Rattle.av_fault.specs.Fault.{IsServed, IsTouched, failed_by, lost_by, stop_of}
 use Rattle.av_access.specs.Access.{causes_of_access}
 use Rattle.av_access.specs.Page.{IsPageRead, IsPageStep, ShowsPiece, world_after}
+use Rattle.av_access.proofs.AccessBytes.{locked-stored}
 use Rattle.av_access.proofs.PageWritten.{MayWrite, areas-now, at_pages-now, held-now, stored, stored_is, tidy-now, used_twice}
 
 -- ---- what only failures explain
@@ -157,6 +160,7 @@ record StandsSeen (d d' : Device) (k : Mem) (s : State) (write : Bool) (p page :
     : Type 0 where
   sound : IsSound (setting_of x.count d') l
   held : IsHeld (setting_of x.count d') (record { view = seen k x; device = d'; world = w; ledger = l; rmap = r })
+  locks : AreLocks x.locks w l
   areas : AreasStand (seen k x) w
   are : AreasAre (seen k x) r.areas
   anons : AnonsStand (seen k x) r.areas r.anons
@@ -196,9 +200,12 @@ module _ {d d' : Device} (s : State) (p page at : ℕ) (piece : List ℕ) (befor
         fits = fits;
       } in
       let w' = stored (setting_by d' mid) before p page f at piece may in
+      let counted : AreLocks (locks_of mid) (after_write w p (4096 * page + at) piece) l = λ g. serves.locks g
+      ∙ sym (locks-by-world w (after_write w p (4096 * page + at) piece) l g (λ k. sym (locked-stored w p (4096 * page + at) piece k.0 k.1))) in
       let stands = subst (StandsSeen d d' mid s true p page t.added w' rs l) (sym is) (record {
         sound = may.sound;
         held = held-now (setting_by d' mid) before p page f at piece may;
+        locks = subst (λ x. AreLocks (locks_of mid) x l) (stored_is w p (4096 * page + at) piece some) counted;
         areas = areas-now (setting_by d' mid) before p page f at piece may;
         are = serves.are;
         anons = record { next = serves.anons.next; kin = serves.anons.kin; chains = serves.anons.chains };
@@ -222,6 +229,7 @@ module _ {d d' : Device} (s : State) (p page at : ℕ) (piece : List ℕ) (befor
         rmap = refl;
         keeps = serves-keeps d' new w' rs l stands.sound (record {
           held = stands.held;
+          locks = stands.locks;
           areas = stands.areas;
           are = stands.are;
           anons = stands.anons;

@@ -1,9 +1,8 @@
 -- The numbers of an out-of-memory by counts, and by what locked frames and the pinned one add to them.
-use Rattle.std.proofs.Common.{Bool, List, filter, get_or, length, take, None, Option, Some, [], ap, arith, cond, false, is_none, is_some, nat_lt, not, refl, suc, sym, true, zero, ℕ, ◌&&◌, ◌++◌, ◌+◌, ◌-◌, ◌<◌, ◌==◌, ◌||◌, ◌∙◌, ◌∷◌, ◌≡◌, ◌≤◌}
-use Rattle.std.specs.List.{All, range_with_len}
+use Rattle.std.proofs.Common.{Bool, List, None, Option, Some, [], ap, arith, cond, false, is_none, is_some, nat_lt, not, refl, suc, sym, true, zero, ℕ, ◌&&◌, ◌++◌, ◌+◌, ◌-◌, ◌<◌, ◌==◌, ◌||◌, ◌∙◌, ◌∷◌, ◌≡◌, ◌≤◌}
+use Rattle.std.specs.List.{range_with_len}
 use Rattle.std.specs.Prelude.{MatchBool}
 use Rattle.std.proofs.lemmas.Bool.{false≢true}
-use Rattle.std.proofs.lemmas.List.{take_more}
 use Rattle.std.proofs.lemmas.Bool.Decides.{nat_tests}
 use Rattle.av_base.specs.Words.{how_many}
 use Rattle.av_base.specs.declared.slot.Slot.{Slot}
@@ -13,12 +12,10 @@ use Rattle.av_plain.specs.Event.{after_notes}
 use Rattle.av_plain.specs.Ledger.{Ledger, Setting, is_merged, map_count, no_slot, slot_of}
 use Rattle.av_plain.specs.Pass.{IsSlotFor, Spared, frames_in_turn, how_many_frames, is_dirty, is_pinned, is_stuck, out_of, turn_notes}
 use Rattle.av_plain.specs.Sound.{IsSound, IsSoundBut, uses}
-use Rattle.av_plain.proofs.Ledger.{how_many-append}
 use Rattle.av_plain.proofs.Sound.Changes.{any-counts, free-is}
 use Rattle.av_plain.proofs.Sound.Counts.{pair-frame, slot_of-some}
 use Rattle.av_evict.specs.Pass.{AreTurns}
-use Rattle.av_evict.specs.Standing.{adds_unpinned, cached_count, can_go, merged_count, numbers_of, pinned_adds, stands_as, stands_unspared, unspared_adds}
-use Rattle.av_evict.specs.declared.standing.Standing.{Standing}
+use Rattle.av_evict.specs.Standing.{adds_unpinned, cached_count, can_go, locked_adds, locked_cached_count, locked_count, locked_merged_count, merged_count, numbers_of, pinned_adds, stands_as}
 use Rattle.av_evict.specs.Steps.{closes}
 use Rattle.av_evict.specs.Turn.{InVain}
 use Rattle.av_evict.specs.declared.standing.Standing.TheVariants.{Pinned}
@@ -55,26 +52,37 @@ range-none p a (suc n) h f low high =
     by true is later = let same : a ≡ f = grind (arith, nat_tests) in ap p (sym same) ∙ first (p a) _ h
     by false is later = later (grind (arith, nat_tests))
 
--- those that pass and those that don't
-range-both : (p : ℕ → Bool) (a n : ℕ) → how_many p (range_with_len a n) + how_many (λ f. not (p f)) (range_with_len a n) ≡ n
-range-both p a zero = refl
-range-both p a (suc n) = by (p a) _ _ (range-both p (a + 1) n)
-  where
-    by : (b : Bool) (j k : ℕ) → j + k ≡ n → (cond b 1 0 + j) + (cond (not b) 1 0 + k) ≡ suc n
-    by true j k h = omega (arith, h)
-    by false j k h = omega (arith, h)
+-- all pass where the test is no test
+range-all : (a n : ℕ) → how_many (λ f. true) (range_with_len a n) ≡ n
+range-all a zero = refl
+range-all a (suc n) = let h = range-all (a + 1) n in omega (arith, h)
 
--- those that pass a test which is narrower, and the others
-range-within : (p q : ℕ → Bool) (a n : ℕ) → ((f : ℕ) → q f ≡ true → p f ≡ true) →
-    how_many q (range_with_len a n) + how_many (λ f. p f && not (q f)) (range_with_len a n) ≡ how_many p (range_with_len a n)
-range-within p q a zero within = refl
-range-within p q a (suc n) within = by (p a) (q a) _ _ _ (within a) (range-within p q (a + 1) n within)
+-- of those that pass one test, those that pass another as well, and those that don't
+range-split : (q t : ℕ → Bool) (a n : ℕ) → how_many (λ f. q f && t f) (range_with_len a n)
+    + how_many (λ f. not (q f) && t f) (range_with_len a n) ≡ how_many t (range_with_len a n)
+range-split q t a zero = refl
+range-split q t a (suc n) = by (q a) (t a) _ _ _ (range-split q t (a + 1) n)
   where
-    by : (b c : Bool) (i j k : ℕ) → (c ≡ true → b ≡ true) → i + j ≡ k → (cond c 1 0 + i) + (cond (b && not c) 1 0 + j) ≡ cond b 1 0 + k
-    by true true i j k h e = omega (arith, e)
-    by true false i j k h e = omega (arith, e)
-    by false false i j k h e = omega (arith, e)
-    by false true i j k h e = let z = h refl in cc
+    by : (b c : Bool) (i j k : ℕ) → i + j ≡ k → (cond (b && c) 1 0 + i) + (cond (not b && c) 1 0 + j) ≡ cond c 1 0 + k
+    by true true i j k h = omega (arith, h)
+    by true false i j k h = omega (arith, h)
+    by false true i j k h = omega (arith, h)
+    by false false i j k h = omega (arith, h)
+
+-- those with a slot, those that pass another test, which these don't, and the rest
+range-parts : (q t : ℕ → Bool) (o : ℕ → Option Slot) (a n : ℕ) → ((f : ℕ) → t f ≡ true → is_some (o f) ≡ false) →
+    (how_many (λ f. q f && is_some (o f)) (range_with_len a n) + how_many (λ f. q f && t f) (range_with_len a n))
+    + how_many (λ f. q f && (not (t f) && is_none (o f))) (range_with_len a n) ≡ how_many q (range_with_len a n)
+range-parts q t o a zero apart = refl
+range-parts q t o a (suc n) apart = by (q a) (t a) (o a) _ _ _ _ (apart a) (range-parts q t o (a + 1) n apart)
+  where
+    by : (b c : Bool) (x : Option Slot) (i j k u : ℕ) → (c ≡ true → is_some x ≡ false) → (i + j) + k ≡ u →
+        ((cond (b && is_some x) 1 0 + i) + (cond (b && c) 1 0 + j)) + (cond (b && (not c && is_none x)) 1 0 + k) ≡ cond b 1 0 + u
+    by false c x i j k u h e = omega (arith, e)
+    by true true None i j k u h e = omega (arith, e)
+    by true false None i j k u h e = omega (arith, e)
+    by true false (Some s) i j k u h e = omega (arith, e)
+    by true true (Some s) i j k u h e = let z = h refl in cc
 
 -- all but one, where it is among them
 range-less : (p : ℕ → Bool) (x a n : ℕ) → a ≤ x → x < a + n →
@@ -140,91 +148,37 @@ merged-uncached m excuse l sound f is = by (slot_of l f) refl
 
 -- ---- the numbers without the locked frames
 
--- of those that are left out, and of the others
-filter-less : (t q : ℕ → Bool) (xs : List ℕ) → how_many t (filter q xs) + how_many (λ f. not (q f) && t f) xs ≡ how_many t xs
-filter-less t q [] = refl
-filter-less t q (x ∷ xs) = by (q x) (filter-less t q xs)
-  where
-    by : (b : Bool) → how_many t (filter q xs) + how_many (λ f. not (q f) && t f) xs ≡ how_many t xs
-        → how_many t (cond b (x ∷ filter q xs) (filter q xs)) + (cond (not b && t x) 1 0 + how_many (λ f. not (q f) && t f) xs)
-        ≡ cond (t x) 1 0 + how_many t xs
-    by true h = omega (arith, h)
-    by false h = omega (arith, h)
-
-filter-counts : (q : ℕ → Bool) (xs : List ℕ) → how_many q xs ≡ length (filter q xs)
-filter-counts q [] = refl
-filter-counts q (x ∷ xs) = by (q x) (filter-counts q xs)
-  where
-    by : (b : Bool) → how_many q xs ≡ length (filter q xs) → cond b 1 0 + how_many q xs ≡ length (cond b (x ∷ filter q xs) (filter q xs))
-    by true h = omega (arith, h)
-    by false h = omega (arith, h)
-
--- those of the frames are no more than there are, and each is one of them
-pub filter-few : (q : ℕ → Bool) (a n : ℕ) → length (filter q (range_with_len a n)) ≤ n
-filter-few q a n = let h = range-both q a n in let c = filter-counts q (range_with_len a n) in omega (arith, h, c)
-
-filter-within : (q : ℕ → Bool) (a n k d : ℕ) → k < length (filter q (range_with_len a n)) → get_or (filter q (range_with_len a n)) k d < a + n
-filter-within q a zero k d h = absurd (omega (arith, h))
-filter-within q a (suc n) k d h = by (λ k h. filter-within q (a + 1) n k d h) (q a) k h
-  where
-    by : ((k : ℕ) → k < length (filter q (range_with_len (a + 1) n)) → get_or (filter q (range_with_len (a + 1) n)) k d < a + 1 + n)
-        → (b : Bool) (k : ℕ) → k < length (cond b (a ∷ filter q (range_with_len (a + 1) n)) (filter q (range_with_len (a + 1) n)))
-        → get_or (cond b (a ∷ filter q (range_with_len (a + 1) n)) (filter q (range_with_len (a + 1) n))) k d < a + suc n
-    by more true zero h = omega arith
-    by more true (suc k) h = let r = more k (omega (arith, h)) in omega (arith, r)
-    by more false k h = let r = more k h in omega (arith, r)
-
-pub filter-in-range : (q : ℕ → Bool) (n : ℕ) → All (λ f. f < n) (filter q (range_with_len 0 n))
-filter-in-range q n k d h = let r = filter-within q 0 n k d h in omega (arith, r)
-
--- one more of a list is counted
-pub take-counts : (t : ℕ → Bool) (xs : List ℕ) (i k j b : ℕ) → i < length xs → k ≡ how_many t (take i xs)
-    → b ≡ cond (t (get_or xs i 0)) 1 0 → j ≡ k + b → j ≡ how_many t (take (i + 1) xs)
-take-counts t xs i k j b below was adds more =
-    let a = ap (how_many t) (take_more xs i 0 below) in
-    let c = how_many-append t (take i xs) (get_or xs i 0 ∷ []) in
-    omega (arith, a, c, was, adds, more)
-
--- none is spared
-abbrev none_spared : Spared
-none_spared = record { pinned = None; locked = λ f. false; closing = None }
-
-pub counts-unspared : (l : Ledger) (f : ℕ) (s : Standing) (n : OutOf) → s ≡ stands_unspared l f → n ≡ numbers_of s → Counts none_spared l f n
-counts-unspared l f s n is h = counts-of none_spared l f s n is h
-
 -- the numbers are these, without what the locked frames and the pinned one would add
-pub record AreCounts (m : Setting) (sp : Spared) (l : Ledger) (fs : List ℕ) : Type 0 where
+pub record AreCounts (m : Setting) (sp : Spared) (l : Ledger) : Type 0 where
   pub noslot : (out_of m sp l).noslot
-      ≡ ((m.frames - merged_count m l - cached_count m l) - (unspared_adds l fs).noslot) - (pinned_adds m sp l).noslot
-  pub fault : (out_of m sp l).fault ≡ (cached_count m l - (unspared_adds l fs).fault) - (pinned_adds m sp l).fault
-  pub locked : (out_of m sp l).locked ≡ length fs - (pinned_adds m sp l).locked
-  pub ksm : (out_of m sp l).ksm ≡ (merged_count m l - (unspared_adds l fs).ksm) - (pinned_adds m sp l).ksm
+      ≡ ((m.frames - merged_count m l - cached_count m l) - (locked_adds m sp.locked l).noslot) - (pinned_adds m sp l).noslot
+  pub fault : (out_of m sp l).fault ≡ (cached_count m l - (locked_adds m sp.locked l).fault) - (pinned_adds m sp l).fault
+  pub locked : (out_of m sp l).locked ≡ (locked_adds m sp.locked l).locked - (pinned_adds m sp l).locked
+  pub ksm : (out_of m sp l).ksm ≡ (merged_count m l - (locked_adds m sp.locked l).ksm) - (pinned_adds m sp l).ksm
   -- and nothing that is taken away is more than what is there
   pub some : merged_count m l + cached_count m l ≤ m.frames
-  pub some_noslot : (unspared_adds l fs).noslot + (pinned_adds m sp l).noslot ≤ m.frames - merged_count m l - cached_count m l
-  pub some_fault : (unspared_adds l fs).fault + (pinned_adds m sp l).fault ≤ cached_count m l
-  pub some_locked : (pinned_adds m sp l).locked ≤ length fs
-  pub some_ksm : (unspared_adds l fs).ksm + (pinned_adds m sp l).ksm ≤ merged_count m l
+  pub some_held : locked_cached_count m sp.locked l + locked_merged_count m sp.locked l ≤ locked_count m sp.locked
+  pub some_noslot : (locked_adds m sp.locked l).noslot + (pinned_adds m sp l).noslot ≤ m.frames - merged_count m l - cached_count m l
+  pub some_fault : (locked_adds m sp.locked l).fault + (pinned_adds m sp l).fault ≤ cached_count m l
+  pub some_locked : (pinned_adds m sp l).locked ≤ (locked_adds m sp.locked l).locked
+  pub some_ksm : (locked_adds m sp.locked l).ksm + (pinned_adds m sp l).ksm ≤ merged_count m l
 
-pub are-counts : (m : Setting) (excuse : Slot → ℕ) (sp : Spared) (l : Ledger) → IsSoundBut m excuse l
-    → AreCounts m sp l (filter sp.locked (range_with_len 0 m.frames))
+pub are-counts : (m : Setting) (excuse : Slot → ℕ) (sp : Spared) (l : Ledger) → IsSoundBut m excuse l → AreCounts m sp l
 are-counts m excuse sp l sound = record {
-  noslot = (let a = noslot in let b = less bare in let c = rest in let d = add_noslot sp.pinned in omega (arith, a, b, c, d));
-  fault = (let a = fault in let b = less cached in let c = all_cached in let d = add_fault sp.pinned in omega (arith, a, b, c, d));
-  locked = (let b = frames-less m sp.locked sp.pinned in let c = filter-counts sp.locked all in let d = add_locked sp.pinned in
-      omega (arith, b, c, d));
+  noslot = (let a = noslot in let b = less bare in let c = rest in let d = add_noslot sp.pinned in let e = held in omega (arith, a, b, c, d, e));
+  fault = (let a = fault in let b = less cached in let c = all_cached (λ f. true) in let d = add_fault sp.pinned in
+      let e = all_cached sp.locked in omega (arith, a, b, c, d, e));
+  locked = (let b = frames-less m sp.locked sp.pinned in let d = add_locked sp.pinned in omega (arith, b, d));
   ksm = (let a = ksm in let b = less (is_merged l) in let d = add_ksm sp.pinned in omega (arith, a, b, d));
   some = (let c = rest in omega (arith, c));
-  some_noslot = (let b = less bare in let c = rest in let d = add_noslot sp.pinned in omega (arith, b, c, d));
-  some_fault = (let b = less cached in let c = all_cached in let d = add_fault sp.pinned in omega (arith, b, c, d));
-  some_locked = (let b = frames-less m sp.locked sp.pinned in let c = filter-counts sp.locked all in let d = add_locked sp.pinned in
-      omega (arith, b, c, d));
+  some_held = (let e = held in omega (arith, e));
+  some_noslot = (let b = less bare in let c = rest in let d = add_noslot sp.pinned in let e = held in omega (arith, b, c, d, e));
+  some_fault = (let b = less cached in let c = all_cached (λ f. true) in let d = add_fault sp.pinned in
+      let e = all_cached sp.locked in omega (arith, b, c, d, e));
+  some_locked = (let b = frames-less m sp.locked sp.pinned in let d = add_locked sp.pinned in omega (arith, b, d));
   some_ksm = (let b = less (is_merged l) in let d = add_ksm sp.pinned in omega (arith, b, d));
 }
   where
-    all : List ℕ
-    all = range_with_len 0 m.frames
-
     -- not merged, and cached or not
     cached : ℕ → Bool
     cached f = not (is_merged l f) && is_some (slot_of l f)
@@ -233,37 +187,25 @@ are-counts m excuse sp l sound = record {
     bare f = not (is_merged l f) && is_none (slot_of l f)
 
     -- of those that pass some are locked, and one may be pinned
-    less : (t : ℕ → Bool) → how_many t (filter sp.locked all)
+    less : (t : ℕ → Bool) → how_many_frames m (λ f. sp.locked f && t f)
         + (how_many_frames m (λ f. not (is_pinned sp.pinned f) && (not (sp.locked f) && t f)) + adds m (λ f. not (sp.locked f) && t f) sp.pinned)
         ≡ how_many_frames m t
-    less t = let a = filter-less t sp.locked all in let b = frames-less m (λ f. not (sp.locked f) && t f) sp.pinned in omega (arith, a, b)
+    less t = let a = range-split sp.locked t 0 m.frames in let b = frames-less m (λ f. not (sp.locked f) && t f) sp.pinned in omega (arith, a, b)
 
-    apart : (f : ℕ) → is_some (slot_of l f) ≡ true → not (is_merged l f) ≡ true
-    apart f is = by (is_merged l f) (merged-uncached m excuse l sound f)
+    all_cached : (q : ℕ → Bool) → how_many_frames m (λ f. q f && cached f) ≡ how_many_frames m (λ f. q f && is_some (slot_of l f))
+    all_cached q = range-same (λ f. q f && cached f) (λ f. q f && is_some (slot_of l f)) 0 m.frames
+        (λ f low high. ap (λ b. q f && b) (by (is_merged l f) (is_some (slot_of l f)) (merged-uncached m excuse l sound f)))
       where
-        by : (b : Bool) → (b ≡ true → is_some (slot_of l f) ≡ false) → not b ≡ true
-        by false h = refl
-        by true h = absurd (false≢true (sym (h refl) ∙ is))
+        by : (b c : Bool) → (b ≡ true → c ≡ false) → (not b && c) ≡ c
+        by false c h = refl
+        by true c h = sym (h refl)
 
-    all_cached : how_many_frames m cached ≡ cached_count m l
-    all_cached = range-same cached (λ f. is_some (slot_of l f)) 0 m.frames (λ f low high. by (not (is_merged l f)) (is_some (slot_of l f)) (apart f))
-      where
-        by : (b c : Bool) → (c ≡ true → b ≡ true) → (b && c) ≡ c
-        by true c h = refl
-        by false true h = h refl
-        by false false h = refl
+    rest : (cached_count m l + merged_count m l) + how_many_frames m bare ≡ m.frames
+    rest = range-parts (λ f. true) (is_merged l) (slot_of l) 0 m.frames (merged-uncached m excuse l sound) ∙ range-all 0 m.frames
 
-    not_some : (b : Bool) (o : Option Slot) → (b && not (is_some o)) ≡ (b && is_none o)
-    not_some b None = refl
-    not_some b (Some s) = refl
-
-    rest : (merged_count m l + cached_count m l) + how_many_frames m bare ≡ m.frames
-    rest =
-        let a = range-both (is_merged l) 0 m.frames in
-        let b = range-within (λ f. not (is_merged l f)) (λ f. is_some (slot_of l f)) 0 m.frames apart in
-        let c = range-same (λ f. not (is_merged l f) && not (is_some (slot_of l f))) bare 0 m.frames
-        (λ f low high. not_some (not (is_merged l f)) (slot_of l f)) in
-        omega (arith, a, b, c)
+    held : (locked_cached_count m sp.locked l + locked_merged_count m sp.locked l) + how_many_frames m (λ f. sp.locked f && bare f)
+        ≡ locked_count m sp.locked
+    held = range-parts sp.locked (is_merged l) (slot_of l) 0 m.frames (merged-uncached m excuse l sound)
 
     -- tests of one that is not spared, in another order
     turn : (p k m n : Bool) → ((not (p || k) && not m) && n) ≡ (not p && (not k && (not m && n)))
@@ -325,16 +267,16 @@ are-counts m excuse sp l sound = record {
         by false = refl
 
 -- so they are had by counts that are kept
-pub counts-are : (m : Setting) (sp : Spared) (l : Ledger) (out held less : OutOf) (n merged cached locked : ℕ) (fs : List ℕ)
-    → AreCounts m sp l fs → n ≡ m.frames → merged ≡ merged_count m l → cached ≡ cached_count m l → locked ≡ length fs
-    → held ≡ unspared_adds l fs → less ≡ pinned_adds m sp l → out.pinned ≡ (out_of m sp l).pinned
+pub counts-are : (m : Setting) (sp : Spared) (l : Ledger) (out held less : OutOf) (n merged cached : ℕ)
+    → AreCounts m sp l → n ≡ m.frames → merged ≡ merged_count m l → cached ≡ cached_count m l
+    → held ≡ locked_adds m sp.locked l → less ≡ pinned_adds m sp l → out.pinned ≡ (out_of m sp l).pinned
     → out.noslot ≡ ((n - merged - cached) - held.noslot) - less.noslot → out.fault ≡ (cached - held.fault) - less.fault
-    → out.locked ≡ locked - less.locked → out.ksm ≡ (merged - held.ksm) - less.ksm → out ≡ out_of m sp l
-counts-are m sp l out held less n merged cached locked fs are frames is holds many takes adds pinned noslot fault held_back ksm = λ i. record {
+    → out.locked ≡ held.locked - less.locked → out.ksm ≡ (merged - held.ksm) - less.ksm → out ≡ out_of m sp l
+counts-are m sp l out held less n merged cached are frames is holds takes adds pinned noslot fault locked ksm = λ i. record {
   pinned = pinned i;
   noslot = (noslot ∙ (λ j. (frames j - is j - holds j) - (takes j).noslot - (adds j).noslot) ∙ sym are.noslot) i;
   fault = (fault ∙ (λ j. (holds j - (takes j).fault) - (adds j).fault) ∙ sym are.fault) i;
-  locked = (held_back ∙ (λ j. many j - (adds j).locked) ∙ sym are.locked) i;
+  locked = (locked ∙ (λ j. (takes j).locked - (adds j).locked) ∙ sym are.locked) i;
   ksm = (ksm ∙ (λ j. (is j - (takes j).ksm) - (adds j).ksm) ∙ sym are.ksm) i;
 }
 

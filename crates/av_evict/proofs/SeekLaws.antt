@@ -1,9 +1,7 @@
 -- The search for a free frame.
-use Rattle.std.proofs.Common.{Bool, List, None, Option, Some, [], ap, arith, cond, false, if◌then◌else◌, is_some, length, refl, subst, suc, sym, take, true, zero, ℕ, ◌++◌, ◌+◌, ◌<◌, ◌∙◌, ◌≡◌}
-use Rattle.std.specs.List.{range_with_len}
+use Rattle.std.proofs.Common.{Bool, List, None, Option, Some, [], ap, false, is_some, length, refl, subst, sym, take, true, ℕ, ◌++◌, ◌<◌, ◌∙◌, ◌≡◌}
 use Rattle.std.specs.Prelude.{MatchBool, MatchOption}
 use Rattle.std.proofs.Math.Seq.{take-length}
-use Rattle.av_base.specs.Words.{how_many}
 use Rattle.av_trace.specs.declared.note.Note.{Note}
 use Rattle.av_plain.specs.Event.{after_notes}
 use Rattle.av_plain.specs.Ledger.{Ledger, Setting, has_free, is_free}
@@ -97,31 +95,3 @@ pub tells-free : (m : Setting) (l : Ledger) (found : Option ℕ) →
     is_some found ≡ has_free m l
 tells-free m l None h = sym h
 tells-free m l (Some f) h = sym (has_free-some m l f h.0 h.1)
-
--- ---- one more frame is counted
-
-pub range-more : (test : ℕ → Bool) (a n : ℕ) → how_many test (range_with_len a (n + 1)) ≡ how_many test (range_with_len a n) +
-    (if test (a + n) then 1 else 0)
-range-more test a n = subst (λ k. how_many test (range_with_len a k) ≡ how_many test (range_with_len a n) + (if test (a + n) then 1 else 0))
-    (one_more n) (go a n)
-  where
-    one_more : (n : ℕ) → suc n ≡ n + 1
-    one_more n = omega arith
-
-    go : (a n : ℕ) → how_many test (range_with_len a (suc n)) ≡ how_many test (range_with_len a n) + (if test (a + n) then 1 else 0)
-    go a zero = last a (a + 0) (omega arith)
-      where
-        last : (x y : ℕ) → x ≡ y → cond (test x) 1 0 + 0 ≡ 0 + cond (test y) 1 0
-        last x y e = let h : ◌≡◌ {A = ℕ} (cond (test x) 1 0) (cond (test y) 1 0) = ap {B = ℕ} (λ z. cond (test z) 1 0) e in omega (arith, h)
-    go a (suc n) = let rest = go (a + 1) n in let e = ap {B = ℕ} (λ z. cond (test z) 1 0) (same a n) in omega (arith, rest, e)
-      where
-        same : (a n : ℕ) → (a + 1) + n ≡ a + suc n
-        same a n = omega arith
-
-pub range-first : (test : ℕ → Bool) (n : ℕ) (k j b : ℕ) → k ≡ how_many test (range_with_len 0 n) → b ≡ (if test n then 1 else 0) → j ≡ k + b →
-    j ≡ how_many test (range_with_len 0 (n + 1))
-range-first test n k j b h i e = let r = range-more test 0 n in let s = ap {B = ℕ} (λ x. cond (test x) 1 0) (zero_plus n) in
-    omega (arith, h, i, e, r, s)
-  where
-    zero_plus : (n : ℕ) → 0 + n ≡ n
-    zero_plus n = omega arith

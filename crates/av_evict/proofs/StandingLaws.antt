@@ -1,5 +1,5 @@
 -- What a pass finds of a frame, and the tests of the definitions.
-use Rattle.std.proofs.Common.{Bool, None, Option, Some, ap, arith, cond, false, is_none, is_some, not, refl, subst, sym, true, ℕ, ◌&&◌, ◌+◌, ◌||◌, ◌∙◌, ◌≡◌, ◌≤◌}
+use Rattle.std.proofs.Common.{Bool, None, Option, Some, ap, cond, false, is_none, is_some, not, refl, subst, sym, true, ℕ, ◌&&◌, ◌||◌, ◌∙◌, ◌≡◌}
 use Rattle.av_base.specs.declared.slot.Slot.{Slot}
 use Rattle.av_trace.specs.declared.reply.OutOf.{OutOf}
 use Rattle.av_plain.specs.Ledger.{Ledger, is_merged, slot_of}
@@ -23,6 +23,14 @@ standing-turn sp l f b h = by (is_pinned sp.pinned f) (sp.locked f) (is_merged l
     by false false false true = refl
     by false false false false = refl
 
+pub locked-no_turn : (sp : Spared) (l : Ledger) (f : ℕ) → sp.locked f ≡ true → has_turn sp l f ≡ false
+locked-no_turn sp l f h = by (is_pinned sp.pinned f) (sp.locked f) (is_merged l f) h
+  where
+    by : (p k m : Bool) → k ≡ true → (not (p || k) && not m) ≡ false
+    by true k m h = refl
+    by false true m h = refl
+    by false false m h = cc
+
 pub standing-unlocked : (sp : Spared) (l : Ledger) (f : ℕ) → has_turn sp l f ≡ true → sp.locked f ≡ false
 standing-unlocked sp l f h = by (is_pinned sp.pinned f) (sp.locked f) (is_merged l f) h
   where
@@ -33,25 +41,13 @@ standing-unlocked sp l f h = by (is_pinned sp.pinned f) (sp.locked f) (is_merged
 
 -- what a frame adds to each number
 pub record Counts (sp : Spared) (l : Ledger) (f : ℕ) (n : OutOf) : Type 0 where
-  pub once : (n.noslot + n.fault) + (n.locked + n.ksm) ≤ 1
   pub noslot : n.noslot ≡ cond (has_turn sp l f && is_none (slot_of l f)) 1 0
   pub fault : n.fault ≡ cond (has_turn sp l f && is_some (slot_of l f)) 1 0
   pub locked : n.locked ≡ cond (not (is_pinned sp.pinned f) && sp.locked f) 1 0
   pub ksm : n.ksm ≡ cond (not (is_spared sp f) && is_merged l f) 1 0
 
-pub counts-once : (s : Standing) (n : OutOf) → n ≡ numbers_of s → (n.noslot + n.fault) + (n.locked + n.ksm) ≤ 1
-counts-once s n h = subst (λ (x : OutOf). (x.noslot + x.fault) + (x.locked + x.ksm) ≤ 1) (sym h) (by s)
-  where
-    by : (s : Standing) → ((numbers_of s).noslot + (numbers_of s).fault) + ((numbers_of s).locked + (numbers_of s).ksm) ≤ 1
-    by Pinned = omega arith
-    by Locked = omega arith
-    by Merged = omega arith
-    by Uncached = omega arith
-    by Cached = omega arith
-
 pub counts-of : (sp : Spared) (l : Ledger) (f : ℕ) (s : Standing) (n : OutOf) → s ≡ stands_as sp l f → n ≡ numbers_of s → Counts sp l f n
 counts-of sp l f s n is h = subst (Counts sp l f) (sym (h ∙ ap numbers_of is)) (record {
-  once = counts-once (stands_as sp l f) (numbers_of (stands_as sp l f)) refl;
   noslot = noslot (is_pinned sp.pinned f) (sp.locked f) (is_merged l f) (slot_of l f);
   fault = fault (is_pinned sp.pinned f) (sp.locked f) (is_merged l f) (slot_of l f);
   locked = locked (is_pinned sp.pinned f) (sp.locked f) (is_merged l f) (is_none (slot_of l f));

@@ -1,7 +1,6 @@
 -- What a pass finds of a frame, each decided once: the first of five that it is.
 use Rattle.std.specs.Prelude.{ℕ, Bool, true, false, is_none, nat_lt, if◌then◌else◌, None, Some}
-use Rattle.std.specs.Prelude.{Option, is_some, not, ◌||◌, ◌&&◌, List}
-use Rattle.av_base.specs.Words.{how_many}
+use Rattle.std.specs.Prelude.{Option, is_some, not, ◌||◌, ◌&&◌, ◌-◌}
 use Rattle.av_trace.specs.declared.reply.OutOf.{OutOf}
 use Rattle.av_plain.specs.Ledger.{Ledger, Setting, is_merged, no_slot, slot_of}
 use Rattle.av_plain.specs.Pass.{Spared, how_many_frames, is_pinned}
@@ -45,22 +44,28 @@ adds_unpinned m spared l (Some p) = numbers_of (if nat_lt p m.frames
 abbrev pub pinned_adds : Setting → Spared → Ledger → OutOf
 pinned_adds m spared l = adds_unpinned m spared l spared.pinned
 
--- what frames would add if they were neither pinned nor locked
-abbrev pub unspared_adds : Ledger → List ℕ → OutOf
-unspared_adds l fs = record {
-  pinned = 0;
-  noslot = how_many (λ f. not (is_merged l f) && is_none (slot_of l f)) fs;
-  fault = how_many (λ f. not (is_merged l f) && is_some (slot_of l f)) fs;
-  locked = 0;
-  ksm = how_many (is_merged l) fs;
-}
-
 -- how many frames are cached, and how many are merged
 abbrev pub cached_count : Setting → Ledger → ℕ
 cached_count m l = how_many_frames m (λ f. is_some (slot_of l f))
 
 abbrev pub merged_count : Setting → Ledger → ℕ
 merged_count m l = how_many_frames m (is_merged l)
+
+-- how many are locked, and how many of these are cached, and how many merged
+abbrev pub locked_count : Setting → (ℕ → Bool) → ℕ
+locked_count m locked = how_many_frames m locked
+
+abbrev pub locked_cached_count : Setting → (ℕ → Bool) → Ledger → ℕ
+locked_cached_count m locked l = how_many_frames m (λ f. locked f && is_some (slot_of l f))
+
+abbrev pub locked_merged_count : Setting → (ℕ → Bool) → Ledger → ℕ
+locked_merged_count m locked l = how_many_frames m (λ f. locked f && is_merged l f)
+
+-- and what they would add if they were not, beside how many they are
+abbrev pub locked_adds : Setting → (ℕ → Bool) → Ledger → OutOf
+locked_adds m locked l = let all = locked_count m locked in
+    let fault = locked_cached_count m locked l in let ksm = locked_merged_count m locked l in
+    record { pinned = 0; noslot = all - fault - ksm; fault = fault; locked = all; ksm = ksm }
 
 -- whether a frame can go to a slot: it is cached at one, or one may be given
 abbrev pub can_go : Setting → Option ℕ → Ledger → Bool

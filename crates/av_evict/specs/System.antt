@@ -1,6 +1,5 @@
 -- A memory system that can be driven in single steps, seen through the ledgers that it stands for.
-use Rattle.std.specs.Prelude.{◌≡◌, ◌≤◌, ℕ, Bool, List, ◌++◌, Option, filter}
-use Rattle.std.specs.List.{range_with_len}
+use Rattle.std.specs.Prelude.{◌≡◌, ◌≤◌, ℕ, Bool, List, ◌++◌, Option}
 use Rattle.av_base.specs.declared.slot.Slot.{Slot}
 use Rattle.av_io.specs.Count.{RoseBy}
 use Rattle.av_trace.specs.declared.note.Note.{Note}
@@ -39,10 +38,6 @@ pub record SystemView : Type 1 where
 -- and the swap area that is closing
 abbrev pub spares : SystemView → Option ℕ → Spared
 spares k pinned = record { pinned = pinned; locked = k.locked; closing = k.closing }
-
--- the frames of locked pages, each once, rising
-abbrev pub locked_frames_of : SystemView → List ℕ
-locked_frames_of k = filter k.locked (range_with_len 0 k.setting.frames)
 
 -- any slot may be without a use: so it is within a step
 abbrev pub any_slot : Slot → ℕ

@@ -6,9 +6,8 @@
 //! `Completes` or `Seeks`, and the system stands for the ledger after them, which is sound again.
 //! So it is whether the device's pages are told or not, and what is asked is asked of the system
 //! that doesn't tell them.
-//! The numbers of an out-of-memory are exact: they go by counts that the system keeps, and by looks
-//! at the frames of locked pages and at the pinned one. Where the system finds no memory to list
-//! those frames, each frame is looked at.
+//! The numbers of an out-of-memory are exact: they go by counts that the system keeps, of locked
+//! frames too, and by a look at the pinned one.
 //! Where a note finds no memory the call answers `AllocError`, and promises of its ledgers nothing.
 //! What no step changes is as it was then too, and the count of failures has not fallen.
 #![tactic(auto, using(crate::proofs::SystemLaws::left_so, crate::proofs::SystemLaws::left_then))]

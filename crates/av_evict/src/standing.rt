@@ -78,8 +78,8 @@ fn is_pinned(pinned: Option<u32>, frame: u32) -> bool
     }
 }
 
-/// What a frame is that is neither pinned nor locked.
-pub fn unspared<S: System>(system: &S, frame: u32) -> Standing
+// What a frame is that is neither pinned nor locked.
+fn unspared<S: System>(system: &S, frame: u32) -> Standing
     requires in_range { frame < (S.view system.now false).setting.frames }
     requires stands { Knows (S.view system.now false) Always }
     ensures { (told : Bool) → Tells (S.view system.now told)

@@ -1,7 +1,7 @@
 //! A memory system in single steps, each known by what it does to the ledger.
 
 ghost use Rattle.std.specs.Prelude.{◌≡◌, ◌<◌, ◌∷◌, ◌++◌, [], length, ℕ, List, not, ◌==◌, reverse};
-ghost use Rattle.std.specs.Prelude.{slice_get, IfOk, OnOk, Some, MatchOption, false, true, Bool};
+ghost use Rattle.std.specs.Prelude.{slice_get, OnOk, Some, MatchOption, false, true, Bool};
 ghost use Rattle.av_base.specs.Words.{is_in};
 ghost use Rattle.av_base.specs.declared.slot.Slot.{Slot};
 ghost use Rattle.av_trace.specs.declared.note.Note.TheVariants.{Aged, Dropped, Kept, Started};
@@ -12,11 +12,11 @@ ghost use Rattle.av_plain.specs.Ledger.{has_free, in_flight, is_free, is_merged,
 ghost use Rattle.av_plain.specs.Ledger.{is_stale, map_count, may_give, no_slot, slot_of};
 ghost use Rattle.av_plain.specs.Reclaim.{is_referenced};
 ghost use Rattle.av_plain.specs.World.{World};
-ghost use Rattle.av_evict.specs.Standing.{cached_count, merged_count};
+ghost use Rattle.av_evict.specs.Standing.{cached_count, locked_cached_count, locked_count};
+ghost use Rattle.av_evict.specs.Standing.{locked_merged_count, merged_count};
 ghost use Rattle.av_evict.specs.Steps.{IsCachedAt, IsFirst, IsUsed, MayDrop, MayPut, MayStart};
 ghost use Rattle.av_evict.specs.Steps.{MayUnmap, notes_of_end, put_notes, referenced_notes};
 ghost use Rattle.av_evict.specs.System.{Always, Knows, Makes, Leaves, SystemView, Tells};
-ghost use Rattle.av_evict.specs.System.{locked_frames_of};
 
 use av_base::Slot;
 use av_trace::Cause;
@@ -71,11 +71,23 @@ pub trait System {
         requires stands { Knows (view self.now false) Always }
         ensures { (told : Bool) → result ≡ (view self.now told).locked frame };
 
-    /// The frames of locked pages, rising. Where no area is locked it takes no memory.
-    fn locked_frames(&self) -> Result<Vec<u32>, AllocError>
+    /// How many frames have a locked page.
+    fn locked_len(&self) -> u32
         requires { Knows (view self.now false) Always }
-        ensures { IfOk result (λ frames. (told : Bool) → frames.items
-            ≡ locked_frames_of (view self.now told)) };
+        ensures { (told : Bool) → let now = view self.now told in
+            result ≡ locked_count now.setting now.locked };
+
+    /// How many frames with a locked page are cached.
+    fn locked_cached_len(&self) -> u32
+        requires { Knows (view self.now false) Always }
+        ensures { (told : Bool) → let now = view self.now told in Tells now
+            (λ l. result ≡ locked_cached_count now.setting now.locked l) };
+
+    /// How many frames with a locked page are merged.
+    fn locked_merged_len(&self) -> u32
+        requires { Knows (view self.now false) Always }
+        ensures { (told : Bool) → let now = view self.now told in Tells now
+            (λ l. result ≡ locked_merged_count now.setting now.locked l) };
 
     /// Whether pages with equal bytes share the frame.
     fn is_merged(&self, frame: u32) -> bool

@@ -28,7 +28,11 @@ pub fn turn_if_any<S: System>(
         (IsTurnIfAny old.setting (spares old pinned) frame freed)) }
     ensures stays { (told : Bool) → Leaves (S.view system.old told) (S.view system.new told) }
 {
-    // First of all: where slots are wanting, that is all which is asked of most frames.
+    // First of all: of a locked frame that is all which is asked.
+    if system.is_locked(frame) {
+        return Ok(false);
+    }
+    // And where slots are wanting, of most others.
     if is_stuck(system, frame) {
         return Ok(false);
     }

@@ -1,5 +1,5 @@
 -- A page comes in whose entry names a slot: the slot's page is in a frame, and the entry names that.
-use Rattle.std.proofs.Common.{◌≡◌, ℕ, ◌-◌, ◌^◌, ◌<◌, Bool, true, false, cond, List, [], ◌∷◌, ◌++◌, Option, Some, None, IfSome, is_some, refl, sym, ap, subst, ◌∙◌, arith}
+use Rattle.std.proofs.Common.{◌≡◌, ℕ, ◌+◌, ◌-◌, ◌^◌, ◌<◌, Bool, true, false, cond, ◌==◌, ◌&&◌, List, [], ◌∷◌, ◌++◌, Option, Some, None, IfSome, is_some, refl, sym, ap, subst, ◌∙◌, arith}
 use Rattle.std.specs.Prelude.{IsSome, MatchOption, Err, Ok, Result, option_map, slice_index}
 use Rattle.av_base.specs.Keys.{Key}
 use Rattle.av_base.proofs.Keys.{same_key-itself}
@@ -28,7 +28,7 @@ use Rattle.av_plain.specs.Load.{with_loads}
 use Rattle.av_plain.specs.Pass.{TakesFor, is_spared, pages_written}
 use Rattle.av_plain.specs.Sound.{no_excuse, slots}
 use Rattle.av_plain.specs.Stands.{Pte as Plain, View, entry_of, free_of}
-use Rattle.av_plain.specs.World.{World}
+use Rattle.av_plain.specs.World.{World, is_locked_page, pages}
 use Rattle.av_plain.proofs.Access.{after_notes-append, note_events-all, note_events-append}
 use Rattle.av_plain.proofs.Covered.Page.{fit-areas}
 use Rattle.av_plain.proofs.Covered.Swap.{fit-seeks}
@@ -40,15 +40,18 @@ use Rattle.av_plain.proofs.Sound.Counts.{frame_at-none, slot-itself}
 use Rattle.av_plain.proofs.Sound.Pass.{seeks-kept}
 use Rattle.av_plain.proofs.Sound.Steps.{is_steady}
 use Rattle.av_swap_laws.specs.Held.{Held}
+use Rattle.av_swap_laws.specs.Locks.{lock_count}
 use Rattle.av_swap_laws.specs.Steps.{view_map}
 use Rattle.av_swap_laws.proofs.Cache.{frame_at-into, uncached-frame}
 use Rattle.av_swap_laws.proofs.From.{IsFirst, uncached-may_load}
+use Rattle.av_swap_laws.proofs.Locks.{locks-loads, locks-mapped}
 use Rattle.av_swap_laws.proofs.Parts.{named-slot}
 use Rattle.av_swap_laws.proofs.Sound.{load-sound, map-sound}
 use Rattle.av_mem.specs.declared.mem.Mem.{Mem}
 use Rattle.av_mem.specs.Cache.{HasLoaded, home_by}
-use Rattle.av_mem.specs.Mem.{HasLists, HasRoom, frame_count, held_by, plain, setting_by, view}
-use Rattle.av_mem.specs.Steps.{KeepsParts}
+use Rattle.av_mem.specs.Locked.{AreFew, locks_more}
+use Rattle.av_mem.specs.Mem.{HasLists, HasRoom, frame_count, held_by, locks_of, plain, setting_by, view}
+use Rattle.av_mem.specs.Steps.{KeepsBut, KeepsParts}
 use Rattle.av_mem.specs.Between.{WhateverStood, HasDone, IsBetween, KeepsBetween}
 use Rattle.av_mem.proofs.ComingBack.{back-at, back-few, back-found, back-in_range, back-loaded, back-mapped, back-named, back-uncached, back-used, first-taken, seen-loaded, seen-mapped, view_loaded}
 use Rattle.av_mem.proofs.HomeLaws.{away-is, entry-away, home-there}
@@ -61,6 +64,9 @@ use Rattle.av_fault.specs.declared.seek.Got.TheVariants.{Frame, Out}
 use Rattle.av_mem.proofs.Amid.{Amid}
 use Rattle.av_mem.proofs.Between.{SaysAsMuch, between-some, bytes-move, fit-stays, setting-stays, to-amid, to-fit}
 use Rattle.av_mem.proofs.Done.{done-by, done-none, done-then}
+use Rattle.av_mem.proofs.LockedLaws.{locks-are-few}
+use Rattle.av_mem.proofs.LocksCome.{locks-come, locks-left}
+use Rattle.av_mem.proofs.ServesLaws.{locks-stay}
 use Rattle.av_fault.proofs.Noted.{noted-more, noted-none}
 use Rattle.av_fault.proofs.Run.{run-done, run-none, run-then}
 use Rattle.av_fault.proofs.SeekLaws.{free-some}
@@ -194,7 +200,7 @@ module _ (d d1 : Device) (old mid : Mem) (w : World) (r : Rmap) (l : Ledger) (q 
         (subst (λ h. Wrote (pages_written (notes_of sought_events)) d.history h) (sym asked) sought.done.wrote)
         (parts.count ∙ sought.done.count)
         (subst (λ m. Amid m (held_by d2 new w1 r1 l1)) (setting-stays d d1 old mid sought.done.same sought.done.count) moved)
-        (fit-stays d1 d2 mid new same parts (to-fit d1 mid w1 r1 l1 between))
+        (fit-stays d1 d2 mid new same parts (to-fit d1 mid w1 r1 l1 between)) (locks-left parts w1 l1 between.serves.locks)
         (subst (λ (v : View). ChoosesAll m None l sought_events (free_of (view old)) (free_of v)) (sym seen) sought.done.free)
 
     pub come-lost : Rose d1.failures d2.failures
@@ -245,6 +251,8 @@ module _ (d d1 : Device) (old mid : Mem) (w : World) (r : Rmap) (l : Ledger) (q 
         (named-slot l1 q s at_now) first.below))
         (seen-loaded d1 None mid w1 r1 l1 no_excuse between.sound between.serves q s at_now out_now home home_now new pages f homed is_home load got)
         refl refl refl refl (device-itself d1) (wrote-none d1.history) parts.count (fit-stays d1 d1 mid new (device-itself d1) parts (to-fit d1 mid w1 r1 l1 between))
+        (λ g. locks-left parts w1 (after_note (Loaded s f) l1) (locks-stay mid new w1 l1 (Loaded s f) parts refl between.serves.locks) g
+        ∙ sym (locks-loads m1 w1 l1 (after_note (Loaded s f) l1) (load_event ∷ []) g))
 
     abbrev added : List Note
     added = sought.added ++ Loaded s f ∷ []
@@ -390,12 +398,15 @@ module _ (d d1 : Device) (old mid : Mem) (w : World) (r : Rmap) (l : Ledger) (q 
   pub map-named : 0 < (view mid).entries s
   map-named = back-named d1 None mid wf rf lf no_excuse fetched.sound fetched.serves q s is_there.at
 
+  pub map-locks : AreFew mid
+  map-locks = locks-are-few d1 None mid wf rf lf fetched.serves
+
   pub map-few : (view mid).maps f < 2 ^ 64 - 1
   map-few = back-few d1 None mid wf rf lf no_excuse fetched.sound fetched.serves q s is_there.at f is_there.cached
 
   -- ---- what it leaves
 
-  module _ (new : Mem) (now_seen : view new ≡ view_map q.0 q.1 f s (view mid)) (parts : KeepsParts mid new) where
+  module _ (new : Mem) (now_seen : view new ≡ view_map q.0 q.1 f s (view mid)) (parts : KeepsBut (locks_more mid q f (locks_of mid)) mid new) where
     abbrev note : Note
     note = Mapped q.0 (address_of q.1) f
 
@@ -422,6 +433,9 @@ module _ (d d1 : Device) (old mid : Mem) (w : World) (r : Rmap) (l : Ledger) (q 
         (seen-mapped d1 None mid wf rf lf no_excuse fetched.sound fetched.serves q s is_there.at f is_there.cached new now_seen) refl refl
         (sym (without-loads mf wf lf (Noted note ∷ []) refl)) refl
         (device-itself d1) (wrote-none d1.history) parts.count (fit-stays d1 d1 mid new (device-itself d1) parts (to-fit d1 mid wf rf lf fetched))
+        (locks-left parts wf (after_note note lf) (locks-come mid wf lf fetched.serves.areas fetched.serves.locks q f (after_note note lf)
+        (λ g. locks-mapped wf q.0 (address_of q.1) f lf s g fetched.sound.in_order at_address
+        ∙ ap (λ (o : Key). lock_count wf lf g + cond (is_locked_page (pages wf o.0 o.1) && g == f) 1 0) (key_at-address q))))
 
     comes_in : ComesIn (setting_by d old) (sparing w) l q (need_of_slot s (frame_at l s)) (came.added ++ note ∷ [])
     comes_in = by (frame_at l s) came.comes
@@ -467,6 +481,7 @@ pub record IsToMap (mid : Mem) (q : Key) (s : Slot) (f : ℕ) : Type 0 where
   pub cached : (view mid).find s ≡ Some f
   pub named : 0 < (view mid).entries s
   pub few : (view mid).maps f < 2 ^ 64 - 1
+  pub locks : AreFew mid
 
 pub to-map : (d d1 : Device) (old mid : Mem) (q : Key) (s : Slot) (before now : List Note) (f : ℕ) (end : Result ℕ Stop) → IsBetween d.sizes old
     → entry_at old.tables q.0 q.1 ≡ Away s
@@ -484,4 +499,5 @@ to-map d d1 old mid q s before now f end between there does is =
       cached = map-cached d0 d2 old mid b.0 b.1 b.2 q s before now b.3 there f came;
       named = map-named d0 d2 old mid b.0 b.1 b.2 q s before now b.3 there f came;
       few = map-few d0 d2 old mid b.0 b.1 b.2 q s before now b.3 there f came;
+      locks = map-locks d0 d2 old mid b.0 b.1 b.2 q s before now b.3 there f came;
     }

@@ -1,5 +1,5 @@
 -- A page gets a copy of its frame, and is written.
-use Rattle.std.proofs.Common.{◌≡◌, ℕ, ◌<◌, ◌==◌, Bool, true, false, cond, ◌&&◌, List, [], ◌∷◌, ◌++◌, Option, Some, None, is_some, refl, sym, ap, subst, ◌∙◌, arith}
+use Rattle.std.proofs.Common.{◌≡◌, ℕ, ◌+◌, ◌<◌, ◌==◌, Bool, true, false, cond, ◌&&◌, List, [], ◌∷◌, ◌++◌, Option, Some, None, is_some, refl, sym, ap, subst, ◌∙◌, arith}
 use Rattle.av_base.specs.Keys.{Key}
 use Rattle.av_base.proofs.Keys.{same_key-itself}
 use Rattle.av_base.specs.Page.{address_of, page_of}
@@ -21,7 +21,7 @@ use Rattle.av_plain.specs.Ledger.{Entry, InFrame, InSlot, Zero as Zeros, Ledger,
 use Rattle.av_plain.specs.Pass.{TakesFor, is_spared}
 use Rattle.av_plain.specs.Sound.{no_excuse}
 use Rattle.av_plain.specs.Stands.{Pte as Plain, View, entry_of}
-use Rattle.av_plain.specs.World.{World, pages}
+use Rattle.av_plain.specs.World.{World, is_locked_page, pages}
 use Rattle.av_plain.proofs.Access.{after_notes-append, note_events-all}
 use Rattle.av_plain.proofs.Ledger.{entry-set, how_many-found}
 use Rattle.av_plain.proofs.Load.{without-loads}
@@ -30,16 +30,19 @@ use Rattle.av_plain.proofs.Sound.Access.{shared-is, shared-stays, sparing-pins, 
 use Rattle.av_plain.proofs.Sound.Counts.{same-itself}
 use Rattle.av_plain.proofs.Sound.Sharing.{copied-kept, free-apart}
 use Rattle.av_plain.proofs.Sound.Steps.{is_steady}
+use Rattle.av_plain.proofs.Sound.There.{sorted-note}
 use Rattle.av_swap_laws.specs.Held.{Held, Steps}
 use Rattle.av_swap_laws.specs.May.{AreOnce}
 use Rattle.av_swap_laws.specs.Steps.{view_copy, view_copy_last, view_seen, with_pte}
 use Rattle.av_swap_laws.proofs.Cache.{once-of}
 use Rattle.av_swap_laws.proofs.From.{IsFirst, first-is}
 use Rattle.av_swap_laws.proofs.Load.{unslotted}
+use Rattle.av_swap_laws.proofs.Locks.{locks-copied, locks-used}
 use Rattle.av_swap_laws.proofs.WholePages.{copy-steps, last-steps}
 use Rattle.av_mem.specs.declared.mem.Mem.{Mem}
-use Rattle.av_mem.specs.Mem.{held_by, plain, setting_by, view}
-use Rattle.av_mem.specs.Steps.{KeepsParts}
+use Rattle.av_mem.specs.Mem.{held_by, locks_of, plain, setting_by, view}
+use Rattle.av_mem.specs.Locked.{has_lock, locks_less, locks_more}
+use Rattle.av_mem.specs.Steps.{KeepsBut}
 use Rattle.av_mem.specs.Between.{HasDone, KeepsBetween}
 use Rattle.av_mem.specs.Entries.{IsTaken, NamesFrame, view_copied}
 use Rattle.av_fault.specs.Making.{HasMade}
@@ -50,6 +53,7 @@ use Rattle.av_fault.specs.declared.seek.Got.{Got}
 use Rattle.av_fault.specs.declared.seek.Got.TheVariants.{Frame}
 use Rattle.av_mem.proofs.Amid.{Amid}
 use Rattle.av_mem.proofs.Between.{fit-stays, to-amid, to-fit}
+use Rattle.av_mem.proofs.LocksCome.{locked-some, locks-left, locks-swap}
 use Rattle.av_fault.proofs.EntryLaws.{page-back}
 use Rattle.av_fault.proofs.Run.{Run, run-done, run-none, run-then}
 use Rattle.av_fault.proofs.SharedLaws.{is_last, keeps-use, loses-use, shared-by}
@@ -151,15 +155,16 @@ module _ (m : Setting) (h : Held) (amid : Amid m h) (p a f g : ℕ) (left : List
 
 module _ (d : Device) (mid new : Mem) (w : World) (r : Rmap) (l : Ledger) (p f g : ℕ) (left : List ℕ)
     (first : (view mid).free ≡ f ∷ left) (seen : Bool)
-    (h : KeepsBetween d mid w r l) (shared : asks_copy l g ≡ true) (parts : KeepsParts mid new) where
+    (h : KeepsBetween d mid w r l) (shared : asks_copy l g ≡ true) where
   -- at the page of an address
   abbrev CopyDone : ℕ → ℕ → Type 0
-  CopyDone a page = entry l (p, page) ≡ Some (InFrame g seen) → is_some (pages w p page) ≡ true
+  CopyDone a page = KeepsBut (locks_more mid (p, page) f (locks_less mid (p, page) g (locks_of mid))) mid new
+      → entry l (p, page) ≡ Some (InFrame g seen) → is_some (pages w p page) ≡ true
       → view new ≡ view_seen p page f true (view_copied p page g f left (home_of page (r.areas p page)) (view mid))
       → HasDone d d mid new w r l (Noted (Copied p a f) ∷ Used true (p, page) ∷ [])
 
   copy-done : (a : ℕ) → CopyDone a (page_of a)
-  copy-done a at mapped now =
+  copy-done a parts at mapped now =
       let m = setting_by d mid in
       let k : Key = (p, page_of a) in
       let here = held_by d mid w r l in
@@ -171,6 +176,10 @@ module _ (d : Device) (mid new : Mem) (w : World) (r : Rmap) (l : Ledger) (p f g
       (sym (without-loads m w l (Noted (Copied p a f) ∷ Used true k ∷ []) refl))
       (sym (ap (λ o. rmap_after_use true k o (at_home f k r)) (copy-there p a f l) ∙ (λ i. record r { homes = home-twice f home r.homes i })))
       (device-itself d) (wrote-none d.history) parts.count (fit-stays d d mid new (device-itself d) parts (to-fit d mid w r l h))
+      (locks-left parts w (after_use true k l') (locks-swap mid w l h.serves.areas h.serves.locks k f g (after_use true k l')
+      (locked-some mid w l h.serves.areas h.serves.locks k g seen h.sound.in_order at)
+      (λ j. ap (λ n. n + cond (is_locked_page (pages w p (page_of a)) && j == g) 1 0)
+      (locks-used w true k l' j (sorted-note l (Copied p a f) h.sound.in_order)) ∙ locks-copied w p a f l g seen j h.sound.in_order at)))
 
   pub copy-done-at : (page : ℕ) → CopyDone (address_of page) page
   copy-done-at page = subst (CopyDone (address_of page)) (page-back page) (copy-done (address_of page))
@@ -223,6 +232,10 @@ module _ (d d' : Device) (old mid : Mem) (w : World) (r : Rmap) (l : Ledger) (be
   copy-mapped = subst (λ n. 0 < n) (sym (s.done.between.serves.held.ledger.frames.maps g))
       (how_many-found (names_frame g) k l1.entries (InFrame g here.seen) copy-at (same-itself g))
 
+  -- and where the page is locked it has a count
+  pub copy-locked : has_lock mid k ≡ true → 0 < locks_of mid g
+  copy-locked = let now = s.done.between in locked-some mid _ l1 now.serves.areas now.serves.locks k g here.seen now.sound.in_order copy-at
+
   pub copied-shared : asks_copy l1 g ≡ true
   copied-shared =
       let p = passed d d' old mid w r l (Some g) before mids got h s in
@@ -235,7 +248,7 @@ module _ (d d' : Device) (old mid new : Mem) (w : World) (r : Rmap) (l : Ledger)
     (h : KeepsBetween d old w r l) (s : HasSought d d' old mid w r l (Some g) before mids Frame) (here : IsHere old k g settled)
     (shared : asks_copy l g ≡ true) (home : Option (ℕ × ℕ)) (home_is : home ≡ home_of k.1 (pages_of old.spaces.processes k.0 k.1))
     (taken : IsTaken mid new f (λ left. view_seen k.0 k.1 f true (view_copied k.0 k.1 g f left home (view mid))))
-    (parts : KeepsParts mid new) where
+    (parts : KeepsBut (locks_more mid k f (locks_less mid k g (locks_of mid))) mid new) where
   abbrev note : Note
   note = Copied k.0 (address_of k.1) f
 
@@ -288,7 +301,7 @@ module _ (d d' : Device) (old mid new : Mem) (w : World) (r : Rmap) (l : Ledger)
   pub copy-made : now ≡ mids ++ note ∷ [] → HasMade d d' old new w r l true came k before now (Ready f)
   copy-made notes = taken-made d d' old mid new w r l (Some g) before mids now k f note came h s
       (copy-done-at d' mid new w2 r2 l2 k.0 f g taken.left taken.first here.seen s.done.between
-      (copied-shared d d' old mid w r l before mids k g Frame h s settled here shared) parts k.1 at_now
+      (copied-shared d d' old mid w r l before mids k g Frame h s settled here shared) k.1 parts at_now
       (s.done.between.serves.at_pages k.0 k.1 (ap is_some at_now))
       (taken.view ∙ ap (λ x. view_seen k.0 k.1 f true (view_copied k.0 k.1 g f taken.left x (view mid))) home_now))
       notes refl

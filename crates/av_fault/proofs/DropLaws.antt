@@ -37,6 +37,8 @@ use Rattle.av_fault.specs.Using.{HasDropped, HasDroppedFull}
 use Rattle.av_mem.proofs.Between.{fit-stays, to-amid, to-fit}
 use Rattle.av_mem.proofs.Done.{done-none}
 use Rattle.av_mem.proofs.DropLaws.{dropped-table}
+use Rattle.av_mem.proofs.LocksCome.{locks-left}
+use Rattle.av_mem.proofs.ServesLaws.{locks-stay}
 use Rattle.av_fault.proofs.Run.{run-done, run-none, run-then}
 use Rattle.av_fault.proofs.SoughtLaws.{free-unmapped}
 use Rattle.av_plain.proofs.Wrote.{device-itself, wrote-none}
@@ -239,6 +241,7 @@ module _ (d : Device) (old : Mem) (w : World) (r : Rmap) (l : Ledger) (h : Keeps
         (drop-sound setting l s h.sound no_flight))
         now refl refl (sym (without-loads setting w l (Noted (Dropped s) ∷ []) refl)) refl (device-itself d) (wrote-none d.history) parts.count
         (fit-stays d d old new (device-itself d) parts (to-fit d old w r l h))
+        (locks-left parts w l' (locks-stay old new w l (Dropped s) parts refl h.serves.locks))
 
     pub has-dropped : (before after : List Note) → after ≡ before ++ Dropped s ∷ [] → HasDropped d old new w r l f before after false
     has-dropped before after notes = record {

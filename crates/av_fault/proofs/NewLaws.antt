@@ -29,15 +29,18 @@ use Rattle.av_plain.proofs.Load.{without-loads}
 use Rattle.av_plain.proofs.Sound.Access.{blank-steady, unused}
 use Rattle.av_plain.proofs.Sound.Counts.{same-itself}
 use Rattle.av_plain.proofs.Sound.Entries.{new-kept}
+use Rattle.av_plain.proofs.Sound.There.{sorted-note}
 use Rattle.av_swap_laws.specs.Held.{Held}
 use Rattle.av_swap_laws.specs.Steps.{view_new, view_seen}
 use Rattle.av_swap_laws.proofs.Cache.{once-of}
 use Rattle.av_swap_laws.proofs.From.{IsFirst, first-is}
 use Rattle.av_swap_laws.proofs.Load.{unslotted}
+use Rattle.av_swap_laws.proofs.Locks.{locks-new, locks-used}
 use Rattle.av_swap_laws.proofs.WholePages.{new-steps}
 use Rattle.av_mem.specs.declared.mem.Mem.{Mem}
-use Rattle.av_mem.specs.Mem.{held_by, plain, setting_by, view}
-use Rattle.av_mem.specs.Steps.{KeepsParts}
+use Rattle.av_mem.specs.Mem.{held_by, locks_of, plain, setting_by, view}
+use Rattle.av_mem.specs.Locked.{locks_more}
+use Rattle.av_mem.specs.Steps.{KeepsBut}
 use Rattle.av_mem.specs.Between.{HasDone, KeepsBetween}
 use Rattle.av_mem.specs.Entries.{HasFree, IsTaken}
 use Rattle.av_fault.specs.Making.{HasMade, IsBare, IsMapped}
@@ -46,6 +49,7 @@ use Rattle.av_fault.specs.declared.fault.Touched.TheVariants.{Ready}
 use Rattle.av_fault.specs.declared.seek.Got.TheVariants.{Frame}
 use Rattle.av_mem.proofs.Amid.{Amid}
 use Rattle.av_mem.proofs.Between.{fit-stays, to-amid, to-fit}
+use Rattle.av_mem.proofs.LocksCome.{locks-come, locks-left}
 use Rattle.av_fault.proofs.EntryLaws.{entry-is, mapped-is, page-back}
 use Rattle.av_fault.proofs.Prepared.{prepared, prepared-owns}
 use Rattle.av_fault.proofs.Run.{Run, run-done, run-none, run-then}
@@ -122,31 +126,33 @@ module _ (d : Device) (mid new : Mem) (spaces : AllSpaces) (anons : AnonSet) (w 
   abbrev prep : Mem
   prep = record mid { spaces = spaces; anons = anons }
 
-  module _ (parts : KeepsParts prep new) where
-    -- at the page of an address
-    abbrev NewDone : ℕ → ℕ → Type 0
-    NewDone a page = KeepsBetween d prep w (prepare_page p page r) l → IsBlank (entry l (p, page))
-        → IsSomeAnd ((prepare_page p page r).areas p page) (λ area. IsSome area.anon) → is_some (pages w p page) ≡ true
-        → view new ≡ view_seen p page f true (view_new p page f true left (λ i. 0) (home_of page ((prepare_page p page r).areas p page)) (view prep))
-        → HasDone d d mid new w r l (Noted (New p a f) ∷ Used true (p, page) ∷ [])
+  -- at the page of an address
+  abbrev NewDone : ℕ → ℕ → Type 0
+  NewDone a page = KeepsBut (locks_more prep (p, page) f (locks_of prep)) prep new → KeepsBetween d prep w (prepare_page p page r) l
+      → IsBlank (entry l (p, page))
+      → IsSomeAnd ((prepare_page p page r).areas p page) (λ area. IsSome area.anon) → is_some (pages w p page) ≡ true
+      → view new ≡ view_seen p page f true (view_new p page f true left (λ i. 0) (home_of page ((prepare_page p page r).areas p page)) (view prep))
+      → HasDone d d mid new w r l (Noted (New p a f) ∷ Used true (p, page) ∷ [])
 
-    new-done : (a : ℕ) → NewDone a (page_of a)
-    new-done a h blank owns mapped now =
-        let m = setting_by d mid in
-        let k : Key = (p, page_of a) in
-        let r' = prepare_page p (page_of a) r in
-        let here = held_by d prep w r' l in
-        let home = home_of (page_of a) (r'.areas p (page_of a)) in
-        let l' = after_note (New p a f) l in
-        run-done d d mid new w w r (at_home f k r') l (after_use true k l') (Noted (New p a f) ∷ Used true k ∷ []) here
-        (view_seen p (page_of a) f true (view_new p (page_of a) f true left (λ i. 0) home (view prep)))
-        (new-run m here (to-amid d prep w r' l h) p a f left first blank owns mapped) now refl refl
-        (sym (without-loads m w l (Noted (New p a f) ∷ Used true k ∷ []) refl))
-        (sym (ap (λ o. rmap_after_use true k o (at_home f k r')) (new-there p a f l) ∙ (λ i. record r' { homes = home-twice f home r'.homes i })))
-        (device-itself d) (wrote-none d.history) parts.count (fit-stays d d prep new (device-itself d) parts (to-fit d prep w r' l h))
+  new-done : (a : ℕ) → NewDone a (page_of a)
+  new-done a parts h blank owns mapped now =
+      let m = setting_by d mid in
+      let k : Key = (p, page_of a) in
+      let r' = prepare_page p (page_of a) r in
+      let here = held_by d prep w r' l in
+      let home = home_of (page_of a) (r'.areas p (page_of a)) in
+      let l' = after_note (New p a f) l in
+      run-done d d mid new w w r (at_home f k r') l (after_use true k l') (Noted (New p a f) ∷ Used true k ∷ []) here
+      (view_seen p (page_of a) f true (view_new p (page_of a) f true left (λ i. 0) home (view prep)))
+      (new-run m here (to-amid d prep w r' l h) p a f left first blank owns mapped) now refl refl
+      (sym (without-loads m w l (Noted (New p a f) ∷ Used true k ∷ []) refl))
+      (sym (ap (λ o. rmap_after_use true k o (at_home f k r')) (new-there p a f l) ∙ (λ i. record r' { homes = home-twice f home r'.homes i })))
+      (device-itself d) (wrote-none d.history) parts.count (fit-stays d d prep new (device-itself d) parts (to-fit d prep w r' l h))
+      (locks-left parts w (after_use true k l') (locks-come prep w l h.serves.areas h.serves.locks k f (after_use true k l')
+      (λ g. locks-used w true k l' g (sorted-note l (New p a f) h.sound.in_order) ∙ locks-new w p a f l g h.sound.in_order blank)))
 
-    pub new-done-at : (page : ℕ) → NewDone (address_of page) page
-    new-done-at page = subst (NewDone (address_of page)) (page-back page) (new-done (address_of page))
+  pub new-done-at : (page : ℕ) → NewDone (address_of page) page
+  new-done-at page = subst (NewDone (address_of page)) (page-back page) (new-done (address_of page))
 
 module _ (d d' : Device) (old mid new : Mem) (w : World) (r : Rmap) (l : Ledger) (before mids now : List Note) (k : Key) (f : ℕ)
     (h : KeepsBetween d old w r l) (s : HasSought d d' old mid w r l None before mids Frame) (mapped : IsMapped old k)
@@ -198,7 +204,7 @@ module _ (d d' : Device) (old mid new : Mem) (w : World) (r : Rmap) (l : Ledger)
 
   module _ (home : Option (ℕ × ℕ)) (at : home ≡ home_of k.1 (pages_of spaces.processes k.0 k.1))
       (taken : IsTaken with_area new f (λ left. view_seen k.0 k.1 f true (view_new k.0 k.1 f true left (λ i. 0) home (view with_area))))
-      (parts : KeepsParts with_area new) where
+      (parts : KeepsBut (locks_more with_area k f (locks_of with_area)) with_area new) where
     first_now : IsFirst (setting_by d' mid) l1 f taken.left
     first_now = first-is (setting_by d' mid) l1 f taken.left (subst (ListsFree (setting_by d' mid) l1) taken.first s.done.between.serves.free.frames)
 
@@ -226,7 +232,7 @@ module _ (d d' : Device) (old mid new : Mem) (w : World) (r : Rmap) (l : Ledger)
 
     pub new-made : now ≡ mids ++ note ∷ [] → HasMade d d' old new w r l true false k before now (Ready f)
     new-made notes = taken-made d d' old mid new w r l None before mids now k f note false h s
-        (new-done-at d' mid new spaces anons w1 r1 l1 k.0 f taken.left taken.first parts k.1 stands blank_now
+        (new-done-at d' mid new spaces anons w1 r1 l1 k.0 f taken.left taken.first k.1 parts stands blank_now
         (prepared-owns d' mid w1 r1 l1 s.done.between spaces anons k.0 k.1 changed made
         (lives-sought d d' old mid w r l None before mids Frame h s k mapped) mapped_now.area)
         (mapped-is d' mid w1 r1 l1 s.done.between k mapped_now.area)

@@ -268,6 +268,7 @@ module _ (d : Device) (old : Mem) (w : World) (r : Rmap) (l : Ledger) (h : Keeps
         rmap = prepare_page p page r;
       })) (sym changed.number)
           (prepared-held (setting_by d old) (held_by d old w r l) h.serves.held p page (areas_of spaces.processes) (anons_of spaces now) laid_before);
+      locks = h.serves.locks;
       areas = record {
         alive = λ q. lives_same q ∙ h.serves.areas.alive q;
         number = changed.number ∙ h.serves.areas.number;

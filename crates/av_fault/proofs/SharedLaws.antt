@@ -16,7 +16,7 @@ use Rattle.av_swap_laws.specs.May.{KeepsUse, LosesUse}
 use Rattle.av_mem.specs.declared.mem.Mem.{Mem}
 use Rattle.av_mem.specs.Mem.{view}
 use Rattle.av_mem.specs.Between.{KeepsBetween}
-use Rattle.av_mem.proofs.LockedLaws.{merged-is}
+use Rattle.av_mem.proofs.MergedLaws.{merged-is}
 use Rattle.av_mem.proofs.ReachLaws.{reaches-served}
 use Rattle.av_fault.specs.Using.{is_named_in, asks_copy_in}
 

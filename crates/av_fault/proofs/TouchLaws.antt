@@ -195,7 +195,7 @@ zeros-touched d old w r l k notes h allowed there =
           (record { world = sym (without-loads m w l (Used false k ∷ []) refl); view_areas = refl; view_anons = refl; areas = refl; anons = refl })
           h.sound)
           refl refl refl (sym (without-loads m w l (Used false k ∷ []) refl)) refl (device-itself d) (wrote-none d.history) refl
-          (fit-stays d d old old (device-itself d) (rest-none old).parts (to-fit d old w r l h));
+          (fit-stays d d old old (device-itself d) (rest-none old).parts (to-fit d old w r l h)) h.serves.locks;
     })
 
 -- ---- the whole

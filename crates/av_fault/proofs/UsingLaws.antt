@@ -29,6 +29,7 @@ use Rattle.av_plain.specs.Sound.{no_excuse}
 use Rattle.av_swap_laws.specs.Held.{Held, Steps}
 use Rattle.av_swap_laws.specs.Steps.{view_seen, view_written}
 use Rattle.av_swap_laws.proofs.Cache.{once-of, slot_of-stale}
+use Rattle.av_swap_laws.proofs.Locks.{locks-used}
 use Rattle.av_swap_laws.proofs.Parts.{clean-same, kept-moves}
 use Rattle.av_swap_laws.proofs.WholePages.{read-steps, write-steps}
 use Rattle.av_mem.specs.declared.mem.Mem.{Mem}
@@ -40,6 +41,7 @@ use Rattle.av_mem.specs.Between.{HasDone, KeepsBetween}
 use Rattle.av_fault.specs.Using.{IsHere}
 use Rattle.av_mem.proofs.Amid.{Amid}
 use Rattle.av_mem.proofs.Between.{fit-stays, to-amid, to-fit}
+use Rattle.av_mem.proofs.LocksCome.{locks-left}
 use Rattle.av_fault.proofs.Run.{run-done, run-none, run-then}
 use Rattle.av_plain.proofs.Wrote.{device-itself, wrote-none}
 
@@ -106,6 +108,7 @@ module _ (d : Device) (old new : Mem) (w : World) (r : Rmap) (l : Ledger) (h : K
       (after_use-kept m no_excuse l false q h.sound))
       now refl refl (sym (without-loads m w l (Used false q ∷ []) refl)) refl (device-itself d) (wrote-none d.history) parts.count
       (fit-stays d d old new (device-itself d) parts (to-fit d old w r l h))
+      (locks-left parts w (after_use false q l) (λ g. h.serves.locks g ∙ sym (locks-used w false q l g h.sound.in_order)))
 
 -- ---- a write in place
 
@@ -230,6 +233,7 @@ module _ (d : Device) (old new : Mem) (w : World) (r : Rmap) (l : Ledger) (h : K
       (after_use-kept m no_excuse l true q h.sound))
       (now ∙ ap (λ x. view_own q.0 q.1 f x dirty (view old)) is) refl refl (sym (without-loads m w l (Used true q ∷ []) refl))
       (ap (λ o. rmap_after_use true q o r) (sym at)) (device-itself d) (wrote-none d.history) parts.count (fit-stays d d old new (device-itself d) parts (to-fit d old w r l h))
+      (locks-left parts w (after_use true q l) (λ g. h.serves.locks g ∙ sym (locks-used w true q l g h.sound.in_order)))
 
 -- ---- an entry is marked as written, if it wasn't
 
@@ -297,6 +301,7 @@ module _ (old mid : Mem) (q : Key) (f : ℕ) (home : Option (ℕ × ℕ)) (cache
     lists = p.lists;
     items = p.items;
     swap = record { frames = p.swap.frames; on = p.swap.on; bad = p.swap.bad; closing = p.swap.closing; priority = p.swap.priority };
+    locks = ap (λ (x : ShownFrames). x.locks) frames_as ∙ p.locks;
   }
 
   -- what is done then

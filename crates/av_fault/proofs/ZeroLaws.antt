@@ -19,6 +19,7 @@ use Rattle.av_plain.proofs.Load.{without-loads}
 use Rattle.av_plain.proofs.Sound.Entries.{zeroed-kept}
 use Rattle.av_swap_laws.specs.Steps.{view_zero}
 use Rattle.av_swap_laws.proofs.Between.{blank-steps}
+use Rattle.av_swap_laws.proofs.Locks.{locks-zeroed}
 use Rattle.av_swap_laws.proofs.WholePages.{zero-steps}
 use Rattle.av_mem.specs.declared.mem.Mem.{Mem}
 use Rattle.av_mem.specs.Mem.{held_by, setting_by, view}
@@ -27,6 +28,7 @@ use Rattle.av_mem.specs.Between.{HasDone, KeepsBetween}
 use Rattle.av_fault.specs.Making.{HasMade, IsMapped}
 use Rattle.av_fault.specs.declared.fault.Touched.TheVariants.{Zeros}
 use Rattle.av_mem.proofs.Between.{fit-stays, to-amid, to-fit}
+use Rattle.av_mem.proofs.LocksCome.{locks-left}
 use Rattle.av_fault.proofs.Noted.{noted-unfailed}
 use Rattle.av_fault.proofs.EntryLaws.{entry-is, mapped-is, page-back}
 use Rattle.av_fault.proofs.Run.{run-done, run-none, run-then}
@@ -66,6 +68,7 @@ module _ (d : Device) (old new : Mem) (w : World) (r : Rmap) (l : Ledger) (h : K
       run.amid.sound)
       now refl refl (sym (without-loads m w l (Noted (Zeroed p a) ∷ Used false (p, page_of a) ∷ []) refl)) refl (device-itself d) (wrote-none d.history) parts.count
       (fit-stays d d old new (device-itself d) parts (to-fit d old w r l h))
+      (locks-left parts w l' (λ g. h.serves.locks g ∙ sym (locks-zeroed w p a l g h.sound.in_order (subst IsBlank (sym none) tt))))
 
 -- what the page has then
 pub zero-made : (d : Device) (old new : Mem) (w : World) (r : Rmap) (l : Ledger) (k : Key) (before now : List Note) → KeepsBetween d old w r l

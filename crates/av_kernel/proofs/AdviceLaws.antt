@@ -1,11 +1,14 @@
 -- What madvise leaves of pages, entries and areas.
 use Rattle.std.proofs.Common.{◌≡◌, ℕ, zero, suc, ◌+◌, ◌-◌, ◌<◌, ◌≤◌, Bool, true, false, cond, not, ◌&&◌, List, [], ◌∷◌, Option, Some, None, is_some, option_map, refl, sym, ap, subst, ◌∙◌, arith, ◌==◌, nat_lt}
+use Rattle.std.proofs.lemmas.Bool.{false≢true}
 use Rattle.std.proofs.lemmas.Bool.Decides.{nat_tests}
 use Rattle.std.specs.Option.{option_map_or}
 use Rattle.std.specs.Prelude.{MatchOption}
 use Rattle.av_base.specs.Page.{page_of, pages_of}
 use Rattle.av_base.specs.Words.{with_at, within}
+use Rattle.av_base.specs.Flags.{with_flag}
 use Rattle.av_base.specs.declared.flags.Flag.{Flag}
+use Rattle.av_base.specs.declared.flags.Flag.TheVariants.{DontFork, Locked, Mergeable, WipeOnFork}
 use Rattle.av_base.specs.declared.flags.Flags.{Flags}
 use Rattle.av_vma.specs.declared.area.Area.{Area}
 use Rattle.av_vma.specs.Pages.{to_flag}
@@ -16,6 +19,8 @@ use Rattle.av_spaces.specs.Spaces.{AllSpaces, areas_of, is_taken, pages_of as ar
 use Rattle.av_spaces.proofs.Kin.{stay_same}
 use Rattle.av_swap_laws.proofs.Free.{chooses-nothing}
 use Rattle.av_trace.specs.declared.advice.Advice.{Advice}
+use Rattle.av_trace.specs.declared.advice.Advice.TheVariants as advices
+use Rattle.av_trace.specs.declared.advice.Advice.TheVariants.{DoFork, DontNeed, KeepOnFork, Unmergeable}
 use Rattle.av_trace.specs.declared.command.Command.TheVariants.{Madvise}
 use Rattle.av_trace.specs.declared.note.Note.{Note}
 use Rattle.av_trace.specs.declared.reply.Answer.{Answer}
@@ -42,7 +47,9 @@ use Rattle.av_plain.proofs.Load.{zaps-load_nothing}
 use Rattle.av_plain.proofs.Transcript.{next-plain}
 use Rattle.av_plain.proofs.Zap.{entry-range}
 use Rattle.av_mem.specs.declared.mem.Mem.{Mem}
-use Rattle.av_mem.specs.Mem.{setting_by, view, Keeps}
+use Rattle.av_swap_laws.specs.Locks.{AreLocks}
+use Rattle.av_swap_laws.proofs.Locks.{locks-range}
+use Rattle.av_mem.specs.Mem.{locks_of, setting_by, view, Keeps}
 use Rattle.av_mem.specs.Steps.{KeepsRest}
 use Rattle.av_mem.specs.Zap.{HasZapped}
 use Rattle.av_mem.proofs.AnonLaws.{are_left}
@@ -55,6 +62,7 @@ use Rattle.av_step.proofs.Loads.{world_as}
 use Rattle.av_step.proofs.StepLaws.{changed, is_number, moved_on, noted, reach_of, state_after}
 use Rattle.av_kernel.specs.Map.{GetsAreas, GetsMarks, marks_on}
 use Rattle.av_kernel.proofs.ChangeLaws.{AreChanged, anons_left, change-steps, flag_effect}
+use Rattle.av_kernel.proofs.LockedRanges.{counts-kept, locks-kept}
 use Rattle.av_kernel.proofs.MapLaws.{leads, lived}
 use Rattle.av_kernel.proofs.MapMarks.{marks_kept, page_marks}
 use Rattle.av_kernel.proofs.MapSteps.{areas_changed, areas_so, tables_kept, unplaced}
@@ -142,6 +150,33 @@ unlocked-leads k s p from n locked keeps goes = locked-leads (pages s.world p) f
 
 -- ---- a flag is set, or cleared
 
+-- no advice is about the lock
+abbrev is_lock : Flag → Bool
+is_lock DontFork = false
+is_lock WipeOnFork = false
+is_lock Locked = true
+is_lock Mergeable = false
+
+abbrev about_lock : Option (Flag × Bool) → Bool
+about_lock None = false
+about_lock (Some change) = is_lock change.0
+
+no_lock : (advice : Advice) → about_lock (flag_of_advice advice) ≡ false
+no_lock DontNeed = refl
+no_lock advices.DontFork = refl
+no_lock DoFork = refl
+no_lock advices.WipeOnFork = refl
+no_lock KeepOnFork = refl
+no_lock advices.Mergeable = refl
+no_lock Unmergeable = refl
+
+lock-kept : (advice : Advice) (flag : Flag) (set : Bool) → flag_of_advice advice ≡ Some (flag, set) → (f : Flags)
+    → (with_flag flag set f).locked ≡ f.locked
+lock-kept advice DontFork set about f = refl
+lock-kept advice WipeOnFork set about f = refl
+lock-kept advice Mergeable set about f = refl
+lock-kept advice Locked set about f = absurd (false≢true (sym (no_lock advice) ∙ ap about_lock about))
+
 module _ {d : Device} (old : Mem) (spaces : AllSpaces) (anons : AnonSet) (s : State) (p a len hole : ℕ) (advice : Advice) (flag : Flag) (set : Bool)
     (keeps : Keeps d old s) (alive : is_some (areas_of old.spaces.processes p) ≡ true) (good : is_bad_range a len ≡ false)
     (about : flag_of_advice advice ≡ Some (flag, set))
@@ -164,7 +199,8 @@ module _ {d : Device} (old : Mem) (spaces : AllSpaces) (anons : AnonSet) (s : St
       let answer = answer_at (from + n) hole (from + n) in
       let events = FlagSet p from n flag set ∷ [] in
       change-steps old spaces anons s p from n (to_flag flag set) (with_page_flag flag set) keeps (alive_is old.spaces.processes p ∙ alive)
-      (flag_effect flag set) are
+      (flag_effect flag set) are (moved_on old old.tables spaces anons) (record { seen = refl; rest = refl })
+      (counts-kept old s keeps p from n (with_page_flag flag set) (λ x. lock-kept advice flag set about x.flags))
       (Madvise p a len advice) (answer_only answer)
       (record {
         events = events;
@@ -270,6 +306,24 @@ module _ {d : Device} (old new : Mem) (s : State) (p a len locked hole : ℕ) (a
       by true = so (pages s.world p page)
       by false = refl
 
+  -- none of these pages is locked
+  counts_now : AreLocks (locks_of new) (set_process s.world p given_up) (after_all s.ledger zapped_events)
+  counts_now f = ap (λ (locks : ℕ → ℕ). locks f) rest.parts.locks ∙ keeps.locks f
+      ∙ sym (locks-kept s.world p given_up (after_all s.ledger zapped_events) f (λ page there. same page (within (page_of a) n page) (pages s.world p page))
+      ∙ locks-range s.world p (page_of a) n s.ledger f off)
+    where
+      same : (page : ℕ) (b : Bool) (o : Option Page) → is_locked_page (cond b (option_map wiped o) o) ≡ is_locked_page o
+      same page true None = refl
+      same page true (Some x) = refl
+      same page false o = refl
+
+      off : (page : ℕ) → within (page_of a) n page ≡ true → is_locked_page (pages s.world p page) ≡ false
+      off page inside =
+          let least = unlocked.lowest in
+          let low : page_of a ≤ page = grind (arith, nat_tests, inside) in
+          let high : page < page_of a + n = grind (arith, nat_tests, inside) in
+          unlocked_is old s p page keeps ∙ ap not (unlocked.all page low (omega (arith, high, least)))
+
   pub give_up-steps : StepsBeside d old new s (Madvise p a len advice)
       (noted (answer_at locked hole (page_of a + pages_of len)) (notes_of zapped_events))
   give_up-steps =
@@ -288,7 +342,7 @@ module _ {d : Device} (old new : Mem) (s : State) (p a len locked hole : ℕ) (a
       keeps stay rest.parts.count rest.parts.swap taken.stands rest.bytes rest.homes (taken.items s.items keeps.stands.items)
       (λ q page other. entries q page ∙ ap (λ b. cond (b && within from n page) None (entry s.ledger (q, page))) other)
       (zaps-cached (setting_by d old) s.ledger ks keeps.stands.sound.ledger) kept (zaps-reach s.ledger (rmap_of s) ks (reach_of old s keeps))
-      (λ page h there is. is)
+      (λ page h there is. is) counts_now
       (Madvise p a len advice) (noted answer (notes_of zapped_events))
       (record {
         events = zapped_events;

@@ -21,22 +21,26 @@ use Rattle.av_spaces.proofs.Kin.{stay_same}
 use Rattle.av_trace.specs.declared.command.Command.{Command}
 use Rattle.av_trace.specs.declared.reply.Reply.{Reply}
 use Rattle.av_plain.specs.Areas.{AnonVma, Anons, AreLeft, Areas, IsLinked, chain_by, chain_length}
-use Rattle.av_plain.specs.Choice.{ListsAll}
+use Rattle.av_plain.specs.Choice.{Free, ListsAll}
 use Rattle.av_plain.specs.Device.{Device}
 use Rattle.av_plain.specs.Ledger.{Entry, InFrame, InSlot, Zero, entry, frame_at}
 use Rattle.av_plain.specs.Mremap.{marks_at}
-use Rattle.av_plain.specs.Stands.{AreasAre, IsKept, IsKeptAt, free_of}
+use Rattle.av_plain.specs.Stands.{AreasAre, AreasStand, IsKept, IsKeptAt, View, free_of}
 use Rattle.av_plain.specs.Transcript.{IsStep, State}
 use Rattle.av_plain.specs.World.{Holds, Page, Process, pages, with_change_on, with_page_flag, with_prot}
 use Rattle.av_mem.specs.declared.mem.Mem.{Mem}
-use Rattle.av_mem.specs.Mem.{ranges_of, setting_by, view, Keeps}
+use Rattle.av_frames.specs.Store.{shown}
+use Rattle.av_frames.specs.declared.frames.Frames.{Frames}
+use Rattle.av_swap_laws.specs.Locks.{AreLocks}
+use Rattle.av_mem.specs.Mem.{locks_of, ranges_of, setting_by, view, HasLedger, HasTables, Keeps}
 use Rattle.av_plain.proofs.Sound.{change-sound}
 use Rattle.av_mem.proofs.MemLaws.{alive_is, lives_is}
 use Rattle.av_mem.proofs.AnonLaws.{are_left, left_of, lengths_alike}
 use Rattle.av_step.specs.Step.{StepsBeside}
 use Rattle.av_step.proofs.CacheLeft.{cached-itself}
 use Rattle.av_step.proofs.StepLaws.{changed, changed-keeps, is_number, left_alone, moved_on, orderly, reach_of, state_after, stays_orderly, swap_alike, swap_itself}
-use Rattle.av_kernel.specs.Map.{changed_on, marks_on, marks_with, GetsAreas, GetsMarks}
+use Rattle.av_kernel.specs.Map.{Marks, changed_on, marks_on, marks_with, GetsAreas, GetsMarks}
+use Rattle.av_kernel.proofs.LockedRanges.{IsRecounted, recounted-ledger}
 use Rattle.av_kernel.proofs.MapMarks.{changed-homes, changed-marks, gets_areas, marks_kept, page_marks}
 use Rattle.av_kernel.proofs.MapSteps.{areas_changed, areas_so, re_areas, tables_kept}
 
@@ -192,32 +196,83 @@ module _ {d : Device} (old : Mem) (spaces : AllSpaces) (anons : AnonSet) (s : St
   state_changed = state_after s p (with_change_on (pages s.world p) from n change)
       (pages_changed (chain_length s.anons) effect from n (s.areas p)) s.ledger (free_of (view old)) anons
 
-  pub change-steps : (command : Command) (reply : Reply)
-      → IsStep (setting_by d old) s command reply state_changed
-      → StepsBeside d old (moved_on old old.tables spaces anons) s command reply
-  change-steps command reply step =
-      let now : Process = with_change_on (pages s.world p) from n change in
-      let new = moved_on old old.tables spaces anons in
-      let marks = changed_on from n effect (marks_on (areas_on old.spaces.processes p)) in
-      changed old new s p now (pages_changed (chain_length s.anons) effect from n (s.areas p)) s.ledger keeps are.stays refl
-      (swap_alike old old old new refl refl (swap_itself old)) (stays_orderly d old old.tables spaces anons s.ledger refl (orderly old s keeps)) refl refl
-      keeps.stands.items (λ q page other. refl) (cached-itself s.ledger) kept (reach_of old s keeps) (λ page h there is. home page h is)
-      command reply step now_on (areas_changed old new s p now marks keeps alive are.marks covered)
-      (tables_kept old new s p now marks keeps alive are.marks covered refl)
+  -- the memory system then, but for its counts
+  abbrev pub mem_changed : Mem
+  mem_changed = moved_on old old.tables spaces anons
 
-  -- the kernel stands for it, where the change is a part of a command
-  pub change-keeps : Keeps d (moved_on old old.tables spaces anons) state_changed
-  change-keeps =
-      let now : Process = with_change_on (pages s.world p) from n change in
-      let new = moved_on old old.tables spaces anons in
-      let marks = changed_on from n effect (marks_on (areas_on old.spaces.processes p)) in
-      changed-keeps old new s p now (pages_changed (chain_length s.anons) effect from n (s.areas p)) s.ledger keeps are.stays refl
-      (swap_alike old old old new refl refl (swap_itself old)) (stays_orderly d old old.tables spaces anons s.ledger refl (orderly old s keeps)) refl refl
-      keeps.stands.items (λ q page other. refl) (cached-itself s.ledger) kept (reach_of old s keeps) (λ page h there is. home page h is)
-      (change-sound (setting_by d old) s.world s.ledger p from n change keeps.stands.sound
-      (sym (lives_is d old s keeps p) ∙ sym (alive_is old.spaces.processes p) ∙ alive))
-      (subst (ListsAll (setting_by d old) s.ledger) (sym keeps.stands.free) keeps.stands.lists)
-      now_on (areas_changed old new s p now marks keeps alive are.marks covered) (tables_kept old new s p now marks keeps alive are.marks covered refl)
+  abbrev now : Process
+  now = with_change_on (pages s.world p) from n change
+
+  abbrev marked : Marks
+  marked = changed_on from n effect (marks_on (areas_on old.spaces.processes p))
+
+  pub areas_then : AreasStand (view mem_changed) state_changed.world
+  areas_then = areas_changed old mem_changed s p now marked keeps alive are.marks covered
+
+  tables_then : HasTables mem_changed
+  tables_then = tables_kept old mem_changed s p now marked keeps alive are.marks covered refl
+
+  -- with frames that are seen alike, and that have the counts of then
+  module _ (frames : Frames) (seen : view (record mem_changed { frames = frames }) ≡ view mem_changed)
+      (locks : AreLocks (shown frames).locks state_changed.world s.ledger) where
+    abbrev counted : Mem
+    counted = record mem_changed { frames = frames }
+
+    free_then : free_of (view counted) ≡ free_of (view old)
+    free_then = ap free_of seen
+
+    abbrev state_then : Free → State
+    state_then free = state_after s p now
+        (pages_changed (chain_length s.anons) effect from n (s.areas p)) s.ledger free anons
+
+    stands_then : HasLedger d counted s.ledger
+    stands_then = recounted-ledger d mem_changed counted (record { seen = seen; rest = refl })
+        s.ledger (stays_orderly d old old.tables spaces anons s.ledger refl (orderly old s keeps))
+
+    counted-steps : (command : Command) (reply : Reply)
+        → IsStep (setting_by d old) s command reply state_changed
+        → StepsBeside d old counted s command reply
+    counted-steps command reply step = changed old counted s p now
+        (pages_changed (chain_length s.anons) effect from n (s.areas p)) s.ledger keeps are.stays
+        (ap (λ (v : View). v.frames) seen)
+        (swap_alike old old old counted refl refl (swap_itself old)) stands_then
+        (ap (λ (v : View). v.bytes) seen) (ap (λ (v : View). v.homes) seen)
+        keeps.stands.items (λ q page other. refl) (cached-itself s.ledger) kept
+        (reach_of old s keeps) (λ page h there is. home page h is) locks command reply
+        (subst (λ (free : Free). IsStep (setting_by d old) s command reply (state_then free))
+        (sym free_then) step)
+        now_on (subst (λ (v : View). AreasStand v state_changed.world) (sym seen) areas_then)
+        tables_then
+
+    counted-keeps : Keeps d counted state_changed
+    counted-keeps = subst (λ (free : Free). Keeps d counted (state_then free)) free_then
+        (changed-keeps old counted s p now
+        (pages_changed (chain_length s.anons) effect from n (s.areas p)) s.ledger keeps are.stays
+        (ap (λ (v : View). v.frames) seen)
+        (swap_alike old old old counted refl refl (swap_itself old)) stands_then
+        (ap (λ (v : View). v.bytes) seen) (ap (λ (v : View). v.homes) seen)
+        keeps.stands.items (λ q page other. refl) (cached-itself s.ledger) kept
+        (reach_of old s keeps) (λ page h there is. home page h is) locks
+        (change-sound (setting_by d old) s.world s.ledger p from n change keeps.stands.sound
+        (sym (lives_is d old s keeps p) ∙ sym (alive_is old.spaces.processes p) ∙ alive))
+        (subst (ListsAll (setting_by d old) s.ledger) (sym (free_then ∙ keeps.stands.free))
+        keeps.stands.lists)
+        now_on (subst (λ (v : View). AreasStand v state_changed.world) (sym seen) areas_then)
+        tables_then)
+
+  -- the entries of locked pages are counted as they are then
+  module _ (new : Mem) (h : IsRecounted mem_changed new)
+      (locks : AreLocks (locks_of new) state_changed.world s.ledger) where
+    pub change-steps : (command : Command) (reply : Reply)
+        → IsStep (setting_by d old) s command reply state_changed
+        → StepsBeside d old new s command reply
+    change-steps command reply step = subst (λ (k : Mem). StepsBeside d old k s command reply)
+        (sym h.rest) (counted-steps new.frames (ap view (sym h.rest) ∙ h.seen) locks command reply step)
+
+    -- the kernel stands for it, where the change is a part of a command
+    pub change-keeps : Keeps d new state_changed
+    change-keeps = subst (λ (k : Mem). Keeps d k state_changed) (sym h.rest)
+        (counted-keeps new.frames (ap view (sym h.rest) ∙ h.seen) locks)
 
   -- each area goes on to have its anon_vma, alone or as a part of one that is joined: so no anon_vma goes
   pub none_left_out : left_of anons s.anons ≡ s.anons

@@ -4,6 +4,7 @@ use Rattle.std.proofs.lemmas.Bool.Decides.{nat_tests}
 use Rattle.std.proofs.lemmas.Bool.{false≢true}
 use Rattle.std.specs.Prelude.{MatchOption, option_and_then}
 use Rattle.av_base.specs.Flags.{unlocked}
+use Rattle.av_base.specs.Keys.{Key}
 use Rattle.av_base.specs.Limits.{most_processes, top_page}
 use Rattle.av_base.specs.Words.{with_at, within}
 use Rattle.av_base.specs.declared.flags.Flags.{Flags}
@@ -17,7 +18,7 @@ use Rattle.av_vma.specs.Pages.{pages_in}
 use Rattle.av_vma.specs.declared.area.Area.{Area}
 use Rattle.av_pagetable.specs.Entries.{ProcessTables, entry_at, has}
 use Rattle.av_plain.specs.Device.{Device}
-use Rattle.av_plain.specs.World.{Page, child_of, lives, page_of_child, pages, set_process, wiped, without_lock}
+use Rattle.av_plain.specs.World.{Page, child_of, is_locked_page, lives, page_of_child, pages, set_process, wiped, without_lock}
 use Rattle.av_plain.specs.Ledger.{Ledger, entry}
 use Rattle.av_plain.specs.Event.{Forked}
 use Rattle.av_plain.specs.Fork.{goes_over, inheritance}
@@ -33,12 +34,15 @@ use Rattle.av_plain.proofs.Fork.{child_ledger, inherited-goes}
 use Rattle.av_plain.proofs.Fork.Areas.{ChildHas, child-has, forked_at, in_child}
 use Rattle.av_plain.proofs.Sound.{no_entries}
 use Rattle.av_plain.proofs.Sound.Bound.{map_count-pages}
+use Rattle.av_plain.proofs.Sound.Counts.{same-itself}
 use Rattle.av_plain.proofs.Sound.Means.{says}
 use Rattle.av_plain.proofs.World.{pages-set, lives-set, length-set_new}
 use Rattle.av_mem.specs.declared.mem.Mem.{Mem}
-use Rattle.av_mem.specs.Mem.{setting_by, view, HasLedger, HasTables, Keeps}
+use Rattle.av_mem.specs.Mem.{locks_of, setting_by, view, HasLedger, HasTables, Keeps}
 use Rattle.av_mem.specs.Steps.{KeepsRest}
 use Rattle.av_swap_laws.proofs.Fork.{fork-bytes}
+use Rattle.av_swap_laws.proofs.LockRange.{locked_at, locks-forked}
+use Rattle.av_swap_laws.specs.Locks.{AreLocks}
 use Rattle.av_swap_laws.specs.Held.{AllCovered}
 use Rattle.av_mem.proofs.MemLaws.{alive_is, lives_is, all_apart, prot_on, prots_are}
 use Rattle.av_anon.specs.declared.anons.Anons.{Anons as AnonSet}
@@ -49,6 +53,7 @@ use Rattle.av_fork.specs.Entries.{FlagsAre, HasForkedEntries}
 use Rattle.av_kernel.specs.Process.{new_tests}
 use Rattle.av_step.specs.Step.{StepsBeside}
 use Rattle.av_step.proofs.StepLaws.{at_number, is_number, moved_on, stays_orderly, stepped, swap_alike}
+use Rattle.av_kernel.proofs.LockedRanges.{below-top, locked-set}
 use Rattle.av_kernel.proofs.ProcessLaws.{absent, flags_at, new_is, new_refusal}
 use Rattle.av_step.proofs.Loads.{world_as}
 
@@ -97,20 +102,9 @@ pages_below k gone s p q keeps dead shown x page is = by (x == q) refl
         ∙ ap (λ o. is_some (flags_at o page)) (sym at) ∙ ap is_some (keeps.stands.parts.areas.flags x page)
         ∙ some_mapped (λ (y : Page). y.flags) (pages s.world x page) ∙ is
 
-    below : (o : Option Area) → pages_of gone.spaces.processes x page ≡ o → is_some o ≡ true → page < top_page
-    below None at h = absurd (false≢true h)
-    below (Some area) at h =
-        let on = laid gone.spaces.processes x shown.spawned.rising in
-        let here = on.here page area at in
-        let high = (on.whole page area at).high in
-        inside (first_of area) (past_of area) here high
-      where
-        inside : (first past : ℕ) → within first (past - first) page ≡ true → past ≤ top_page → page < top_page
-        inside first past here high = grind (arith, nat_tests, here, high)
-
     by : (b : Bool) → (x == q) ≡ b → page < top_page
     by true same = absurd (false≢true (mapped None (ap (areas_of k.spaces.processes) (is_number x q same) ∙ dead)))
-    by false other = below (pages_of gone.spaces.processes x page) refl
+    by false other = below-top (pages_of gone.spaces.processes x) page (laid gone.spaces.processes x shown.spawned.rising)
         (ap (λ o. is_some (pages_in o page)) (areas_left k gone s p q x shown other) ∙ mapped (areas_of k.spaces.processes x) refl)
 
 -- no more entries name a frame than there may be pages
@@ -334,6 +328,29 @@ module _ {d : Device} (old mid : Mem) (tables : ProcessTables) (spaces : AllSpac
         merged = merged-forked s.ledger p q over (rmap_of s) shown.next sorted apart no_entry whole shown.forked had.reach had.slots had.merged;
       }
 
+  -- none of the child's pages is locked
+  locks_now : AreLocks (locks_of new) next.world l
+  locks_now f = ap (λ (locks : ℕ → ℕ). locks f) rest.parts.locks ∙ keeps.locks f
+      ∙ sym (locks-forked s.world next.world s.ledger p q over f no_entry child_off (λ k other. others k other))
+    where
+      off : (o : Option Page) → is_locked_page (option_and_then page_of_child o) ≡ false
+      off None = refl
+      off (Some x) = by x.flags.dont_fork x.flags.wipe_on_fork
+        where
+          by : (b c : Bool) → is_locked_page (cond b None (Some (without_lock (cond c (wiped x) x)))) ≡ false
+          by true c = refl
+          by false true = refl
+          by false false = refl
+
+      child_off : (page : ℕ) → locked_at next.world (q, page) ≡ false
+      child_off page = locked-set s.world q (child_of (pages s.world p)) (q, page)
+          ∙ ap (λ b. cond b (is_locked_page (child_of (pages s.world p) page)) (locked_at s.world (q, page))) (same-itself q)
+          ∙ off (pages s.world p page)
+
+      others : (k : Key) → (k.0 == q) ≡ false → locked_at next.world k ≡ locked_at s.world k
+      others k other = locked-set s.world q (child_of (pages s.world p)) k
+          ∙ ap (λ b. cond b (is_locked_page (child_of (pages s.world p) k.1)) (locked_at s.world k)) other
+
   anons_now : AnonsStand (view new) shown.next.areas shown.next.anons
   anons_now = record { next = shown.anons.next; kin = shown.anons.kin; chains = shown.anons.chains }
 
@@ -341,7 +358,7 @@ module _ {d : Device} (old mid : Mem) (tables : ProcessTables) (spaces : AllSpac
   steps = stepped old new s next (Fork p q) (answer_only Done) keeps fork-step rest.parts.count
       (swap_alike (moved_on old tables spaces anons) mid old new refl refl rest.parts.swap)
       (stays_orderly d mid mid.tables spaces anons l refl given.stands)
-      refl shown.areas anons_now homes_now items_now covered_now shown.fit areas_now tables_now bytes_now
+      refl shown.areas anons_now homes_now items_now covered_now shown.fit areas_now tables_now bytes_now locks_now
 
   forks : StepsBeside d old mid s (Fork p q) (answer_only Done)
   forks = subst (λ k. StepsBeside d old k s (Fork p q) (answer_only Done)) (sym rest.parts.stay) steps

@@ -1,10 +1,12 @@
 pub mod ProcessLaws
 pub mod ForkLaws
+pub mod LockedRanges
 pub mod MapSteps
 pub mod ChangeLaws
 pub mod MapLaws
 pub mod MapMarks
 pub mod MremapRefusals
+pub mod MremapLocks
 pub mod MremapLaws
 pub mod MremapGoes
 pub mod AdviceLaws

@@ -34,17 +34,18 @@ use Rattle.av_plain.specs.Map.{hole_answer}
 use Rattle.av_plain.specs.Pass.{pages_written}
 use Rattle.av_plain.specs.Refusal.{Refuses, ends_too_high, locks_too_many, refusal, tests}
 use Rattle.av_plain.specs.Report.{ShowsAreas}
-use Rattle.av_plain.specs.Stands.{free_of}
+use Rattle.av_plain.specs.Stands.{AreasStand, View, free_of}
 use Rattle.av_plain.specs.Step.{Follows, causes, closing_swap_area, next}
 use Rattle.av_plain.specs.Transcript.{State, rmap_of}
-use Rattle.av_plain.specs.World.{Page, Process, World, is_mapped, pages, pages_to_hole, set_process, with_change_on, with_page_flag}
+use Rattle.av_plain.specs.World.{Page, Process, World, is_locked_page, is_mapped, pages, pages_to_hole, set_process, with_change_on, with_page_flag}
 use Rattle.av_plain.proofs.Sound.{map_count-loads}
 use Rattle.av_plain.proofs.Transcript.{is_fork, next-plain}
 use Rattle.av_plain.proofs.World.{pages-set}
 use Rattle.av_plain.proofs.Wrote.{device-itself, wrote-none}
 use Rattle.av_swap_laws.proofs.Free.{chooses-nothing}
 use Rattle.av_mem.specs.declared.mem.Mem.{Mem}
-use Rattle.av_mem.specs.Mem.{Keeps, IsSteadyAt, frame_count, ranges_of, setting_by, view}
+use Rattle.av_swap_laws.specs.Locks.{AreLocks}
+use Rattle.av_mem.specs.Mem.{Keeps, IsSteadyAt, frame_count, locks_of, ranges_of, setting_by, view}
 use Rattle.av_mem.proofs.AnonLaws.{left_of}
 use Rattle.av_mem.proofs.MemLaws.{alive_is}
 use Rattle.av_step.specs.Step.{IsSteadyFor, MemSteps, StepsBeside}
@@ -53,7 +54,9 @@ use Rattle.av_step.proofs.StepLaws.{left_alone, moved_on, none_rose}
 use Rattle.av_access.specs.Access.{HasServed, IsBroughtIn, answer_at, causes_of_access, end_at}
 use Rattle.av_access.proofs.AccessLoads.{loads-flagged}
 use Rattle.av_access.proofs.LockTurns.{brought-causes}
-use Rattle.av_kernel.proofs.ChangeLaws.{AreChanged, anons_left, change-keeps, change-steps, flag_effect, none_left_out, state_changed}
+use Rattle.av_kernel.specs.Lock.{SetsLock}
+use Rattle.av_kernel.proofs.ChangeLaws.{AreChanged, anons_left, are_changed, areas_then, change-keeps, change-steps, flag_effect, none_left_out, state_changed}
+use Rattle.av_kernel.proofs.LockedRanges.{IsRecounted, counted-anew}
 use Rattle.av_kernel.proofs.MapLaws.{leads, lived}
 
 abbrev no_events : List Event
@@ -130,10 +133,9 @@ next-locked w p a len first (Stopped page Lost) = refl
 
 -- ---- the flag
 
-module _ {d : Device} (old : Mem) (spaces : AllSpaces) (anons : AnonSet) (s : State) (p a len reached : ℕ) (set : Bool) (keeps : Keeps d old s)
-    (alive : is_some (areas_of old.spaces.processes p) ≡ true)
-    (reaches : GoesTo (is_taken old.spaces.processes p) (page_of a) (page_of a + pages_met a len) reached)
-    (are : AreChanged old spaces anons p (page_of a) (reached - page_of a) (to_flag Locked set)) where
+-- `flagged` is the memory system once the flag is set or cleared
+module _ {d : Device} (old flagged : Mem) (s : State) (p a len reached : ℕ) (set : Bool) (keeps : Keeps d old s)
+    (alive : is_some (areas_of old.spaces.processes p) ≡ true) (sets : SetsLock set old flagged p (page_of a) (pages_met a len) reached) where
   abbrev n : ℕ
   n = reached - page_of a
 
@@ -144,17 +146,39 @@ module _ {d : Device} (old : Mem) (spaces : AllSpaces) (anons : AnonSet) (s : St
   ranges = alive_is old.spaces.processes p ∙ alive
 
   pub led : pages_to_hole (pages s.world p) (page_of a) (pages_met a len) ≡ n
-  led = leads old s p (page_of a) (pages_met a len) reached keeps reaches
+  led = leads old s p (page_of a) (pages_met a len) reached keeps sets.reached
 
-  -- the kernel, and what it stands for, once the flag is set or cleared
-  abbrev pub flagged_mem : Mem
-  flagged_mem = moved_on old old.tables spaces anons
+  pub are : AreChanged old flagged.spaces flagged.anons p (page_of a) n (to_flag Locked set)
+  are = are_changed old flagged.spaces flagged.anons p (page_of a) reached n (to_flag Locked set) refl sets.areas sets.mapping sets.anons
 
+  -- what the kernel stands for then
   abbrev pub flagged_state : State
-  flagged_state = state_changed old spaces anons s p (page_of a) n (to_flag Locked set) (with_page_flag Locked set) keeps ranges (flag_effect Locked set) are
+  flagged_state = state_changed old flagged.spaces flagged.anons s p (page_of a) n (to_flag Locked set) (with_page_flag Locked set) keeps ranges
+      (flag_effect Locked set) are
 
-  pub flagged-keeps : Keeps d flagged_mem flagged_state
-  flagged-keeps = change-keeps old spaces anons s p (page_of a) n (to_flag Locked set) (with_page_flag Locked set) keeps ranges (flag_effect Locked set) are
+  recounted : IsRecounted (moved_on old old.tables flagged.spaces flagged.anons) flagged
+  recounted = record { seen = sets.seen; rest = sets.rest }
+
+  counted : AreLocks (locks_of flagged) flagged_state.world s.ledger
+  counted = counted-anew old s keeps flagged p (page_of a) (pages_met a len) (with_change_on (pages s.world p) (page_of a) n (with_page_flag Locked set))
+      (subst (λ (v : View). AreasStand v flagged_state.world) (sym sets.seen)
+      (areas_then old flagged.spaces flagged.anons s p (page_of a) n (to_flag Locked set) (with_page_flag Locked set) keeps ranges (flag_effect Locked set) are))
+      (ap (λ (k : Mem). k.tables) sets.rest)
+      (λ page out. ap (λ b. is_locked_page (cond b (option_map (with_page_flag Locked set) (pages s.world p page)) (pages s.world p page))) (beyond page out))
+      sets.locks
+    where
+      beyond : (page : ℕ) → within (page_of a) (pages_met a len) page ≡ false → within (page_of a) n page ≡ false
+      beyond page out = narrower (page_of a) (pages_met a len) n page few out
+        where
+          few : n ≤ pages_met a len
+          few = let high = sets.reached.highest in omega (arith, high)
+
+          narrower : (from n m page : ℕ) → m ≤ n → within from n page ≡ false → within from m page ≡ false
+          narrower from n m page less out = grind (arith, nat_tests, less, out)
+
+  pub flagged-keeps : Keeps d flagged flagged_state
+  flagged-keeps = change-keeps old flagged.spaces flagged.anons s p (page_of a) n (to_flag Locked set) (with_page_flag Locked set) keeps ranges
+      (flag_effect Locked set) are flagged recounted counted
 
   pub flagged-world : flagged_state.world ≡ with_lock set s.world p (page_of a) (pages_met a len)
   flagged-world = ap (λ k. set_process s.world p (with_change_on (pages s.world p) (page_of a) k (with_page_flag Locked set))) (sym led)
@@ -168,7 +192,7 @@ module _ {d : Device} (old : Mem) (spaces : AllSpaces) (anons : AnonSet) (s : St
   pub flagged-rmap : rmap_of flagged_state ≡ rmap_after_all s.ledger (event ∷ []) (rmap_of s)
   flagged-rmap = λ i. record {
     areas = areas-are i;
-    anons = none_left_out old spaces anons s p (page_of a) n (to_flag Locked set) (with_page_flag Locked set) keeps ranges (flag_effect Locked set) are i;
+    anons = none_left_out old flagged.spaces flagged.anons s p (page_of a) n (to_flag Locked set) (with_page_flag Locked set) keeps ranges (flag_effect Locked set) are i;
     homes = s.homes;
     items = s.items;
   }
@@ -178,10 +202,10 @@ module _ {d : Device} (old : Mem) (spaces : AllSpaces) (anons : AnonSet) (s : St
       → MatchOption (refusal (tests (setting_by d old) s.world s.ledger command)) (Follows (setting_by d old) s.world s.ledger command (event ∷ []) answer [])
       (λ e. Refuses e (event ∷ []) answer [])
       → next s.world command answer ≡ with_lock set s.world p (page_of a) (pages_met a len)
-      → StepsBeside d old flagged_mem s command (answer_only answer)
+      → StepsBeside d old flagged s command (answer_only answer)
   flagged-steps command answer plain open_all stay shows legal world =
-      change-steps old spaces anons s p (page_of a) n (to_flag Locked set) (with_page_flag Locked set) keeps ranges (flag_effect Locked set) are
-      command (answer_only answer)
+      change-steps old flagged.spaces flagged.anons s p (page_of a) n (to_flag Locked set) (with_page_flag Locked set) keeps ranges (flag_effect Locked set) are
+      flagged recounted counted command (answer_only answer)
       (record {
         events = event ∷ [];
         legal = record { answer = legal; notes = refl };
@@ -196,7 +220,7 @@ module _ {d : Device} (old : Mem) (spaces : AllSpaces) (anons : AnonSet) (s : St
             ));
         rmap = next-plain (rmap_after_all s.ledger (event ∷ []) (rmap_of s)) s.world command answer _ plain (record {
           areas = areas-are ∙ sym (stay (chain_length s.anons) (rmap_after_all s.ledger (event ∷ []) (rmap_of s)).areas);
-          anons = anons_left old spaces anons s p (page_of a) n (to_flag Locked set) (with_page_flag Locked set) keeps ranges (flag_effect Locked set) are;
+          anons = anons_left old flagged.spaces flagged.anons s p (page_of a) n (to_flag Locked set) (with_page_flag Locked set) keeps ranges (flag_effect Locked set) are;
           homes = refl;
           items = refl;
         });
@@ -206,7 +230,7 @@ module _ {d : Device} (old : Mem) (spaces : AllSpaces) (anons : AnonSet) (s : St
   -- all pages were mapped
   pub all_mapped : page_of a + pages_met a len ≤ reached → (pages_to_hole (pages s.world p) (page_of a) (pages_met a len) == pages_met a len) ≡ true
   all_mapped whole =
-      let high = reaches.highest in
+      let high = sets.reached.highest in
       let size : reached - page_of a ≡ pages_met a len = omega (arith, whole, high) in
       equal _ (pages_met a len) (led ∙ size)
     where
@@ -216,7 +240,7 @@ module _ {d : Device} (old : Mem) (spaces : AllSpaces) (anons : AnonSet) (s : St
   -- a page before the end was not
   pub hole_met : reached < page_of a + pages_met a len → (pages_to_hole (pages s.world p) (page_of a) (pages_met a len) == pages_met a len) ≡ false
   hole_met less =
-      let least = reaches.lowest in
+      let least = sets.reached.lowest in
       let fewer : reached - page_of a < pages_met a len = omega (arith, less, least) in
       differ _ _ (pages_met a len) led fewer
     where
@@ -225,10 +249,9 @@ module _ {d : Device} (old : Mem) (spaces : AllSpaces) (anons : AnonSet) (s : St
 
 -- ---- a munlock
 
-module _ {d : Device} (old : Mem) (spaces : AllSpaces) (anons : AnonSet) (s : State) (p a len reached : ℕ) (keeps : Keeps d old s)
+module _ {d : Device} (old flagged : Mem) (s : State) (p a len reached : ℕ) (keeps : Keeps d old s)
     (alive : is_some (areas_of old.spaces.processes p) ≡ true) (low : ends_too_high a len ≡ false)
-    (reaches : GoesTo (is_taken old.spaces.processes p) (page_of a) (page_of a + pages_met a len) reached)
-    (are : AreChanged old spaces anons p (page_of a) (reached - page_of a) (to_flag Locked false)) where
+    (sets : SetsLock false old flagged p (page_of a) (pages_met a len) reached) where
   abbrev unlock_event : Event
   unlock_event = lock_event false (pages s.world p) p (page_of a) (pages_met a len)
 
@@ -239,23 +262,22 @@ module _ {d : Device} (old : Mem) (spaces : AllSpaces) (anons : AnonSet) (s : St
       (λ e. Refuses e (unlock_event ∷ []) answer [])) (sym (munlock-allowed old s p a len keeps alive low)) (is, refl, refl)
 
   pub munlock-steps : page_of a + pages_met a len ≤ reached
-      → StepsBeside d old (moved_on old old.tables spaces anons) s (Munlock p a len) (answer_only Done)
-  munlock-steps whole = flagged-steps old spaces anons s p a len reached false keeps alive reaches are (Munlock p a len) Done refl refl (λ long on. refl) tt
-      (munlocks Done (sym (ap (λ b. cond b Done (Refused Enomem)) (all_mapped old spaces anons s p a len reached false keeps alive reaches are whole)))) refl
+      → StepsBeside d old flagged s (Munlock p a len) (answer_only Done)
+  munlock-steps whole = flagged-steps old flagged s p a len reached false keeps alive sets (Munlock p a len) Done refl refl (λ long on. refl) tt
+      (munlocks Done (sym (ap (λ b. cond b Done (Refused Enomem)) (all_mapped old flagged s p a len reached false keeps alive sets whole)))) refl
 
   pub munlock-stops : reached < page_of a + pages_met a len
-      → StepsBeside d old (moved_on old old.tables spaces anons) s (Munlock p a len) (answer_only (Refused Enomem))
-  munlock-stops less = flagged-steps old spaces anons s p a len reached false keeps alive reaches are (Munlock p a len) (Refused Enomem) refl refl
+      → StepsBeside d old flagged s (Munlock p a len) (answer_only (Refused Enomem))
+  munlock-stops less = flagged-steps old flagged s p a len reached false keeps alive sets (Munlock p a len) (Refused Enomem) refl refl
       (λ long on. refl) tt
-      (munlocks (Refused Enomem) (sym (ap (λ b. cond b Done (Refused Enomem)) (hole_met old spaces anons s p a len reached false keeps alive reaches are less))))
+      (munlocks (Refused Enomem) (sym (ap (λ b. cond b Done (Refused Enomem)) (hole_met old flagged s p a len reached false keeps alive sets less))))
       refl
 
 -- ---- an mlock
 
-module _ {d : Device} (old : Mem) (spaces : AllSpaces) (anons : AnonSet) (s : State) (p a len reached : ℕ) (keeps : Keeps d old s)
+module _ {d : Device} (old flagged : Mem) (s : State) (p a len reached : ℕ) (keeps : Keeps d old s)
     (alive : is_some (areas_of old.spaces.processes p) ≡ true) (low : ends_too_high a len ≡ false) (fits : locks_too_many a len ≡ false)
-    (reaches : GoesTo (is_taken old.spaces.processes p) (page_of a) (page_of a + pages_met a len) reached)
-    (are : AreChanged old spaces anons p (page_of a) (reached - page_of a) (to_flag Locked true)) where
+    (sets : SetsLock true old flagged p (page_of a) (pages_met a len) reached) where
   abbrev first : Event
   first = lock_event true (pages s.world p) p (page_of a) (pages_met a len)
 
@@ -267,8 +289,8 @@ module _ {d : Device} (old : Mem) (spaces : AllSpaces) (anons : AnonSet) (s : St
 
   -- a page isn't mapped: the others come in neither
   pub mlock-stops : reached < page_of a + pages_met a len
-      → StepsBeside d old (moved_on old old.tables spaces anons) s (Mlock p a len) (answer_only (Refused Enomem))
-  mlock-stops less = flagged-steps old spaces anons s p a len reached true keeps alive reaches are (Mlock p a len) (Refused Enomem) refl refl
+      → StepsBeside d old flagged s (Mlock p a len) (answer_only (Refused Enomem))
+  mlock-stops less = flagged-steps old flagged s p a len reached true keeps alive sets (Mlock p a len) (Refused Enomem) refl refl
       (λ long on. refl) tt
       (mlocks (first ∷ []) (Refused Enomem) (
         no_events,
@@ -276,20 +298,20 @@ module _ {d : Device} (old : Mem) (spaces : AllSpaces) (anons : AnonSet) (s : St
         refl,
         subst (λ b. MatchBool b (BringsIn (setting_by d old) s.world s.ledger p (page_of a) (pages_met a len) no_events (Refused Enomem))
             ((no_events ≡ []) × (Refused Enomem ≡ Refused Enomem)))
-            (sym (hole_met old spaces anons s p a len reached true keeps alive reaches are less)) (refl, refl),
+            (sym (hole_met old flagged s p a len reached true keeps alive sets less)) (refl, refl),
       ))
       (ap (λ b. cond b s.world (with_lock true s.world p (page_of a) (pages_met a len))) fits)
 
   -- all are locked, and then come in
   module _ {d' : Device} (new : Mem) (before notes : List Note) (answer : Answer) (whole : page_of a + pages_met a len ≤ reached)
       (same : frame_count new ≡ frame_count old) (fresh : before ≡ [])
-      (h : IsBroughtIn d d' (flagged_state old spaces anons s p a len reached true keeps alive reaches are) new p (page_of a) (pages_met a len) before
+      (h : IsBroughtIn d d' (flagged_state old flagged s p a len reached true keeps alive sets) new p (page_of a) (pages_met a len) before
       notes answer) where
     abbrev many : ℕ
     many = reached - page_of a
 
     abbrev mid : State
-    mid = flagged_state old spaces anons s p a len reached true keeps alive reaches are
+    mid = flagged_state old flagged s p a len reached true keeps alive sets
 
     abbrev coming : List Event
     coming = h.served.events
@@ -306,7 +328,7 @@ module _ {d : Device} (old : Mem) (spaces : AllSpaces) (anons : AnonSet) (s : St
     comes : Accesses (setting_by d old) (with_lock true s.world p (page_of a) (pages_met a len)) s.ledger p
         (accesses_of (pages s.world p) (page_of a) (pages_met a len)) coming end
     comes = subst (λ w. Accesses (setting_by d old) w s.ledger p (accesses_of (pages s.world p) (page_of a) (pages_met a len)) coming end)
-        (flagged-world old spaces anons s p a len reached true keeps alive reaches are)
+        (flagged-world old flagged s p a len reached true keeps alive sets)
         (subst (λ turns. Accesses (setting_by d old) mid.world s.ledger p turns coming end)
         (accesses-locked s.world p (page_of a) many true (page_of a) (pages_met a len))
         (subst (λ c. Accesses (setting_of c d) mid.world s.ledger p (accesses_of (pages mid.world p) (page_of a) (pages_met a len)) coming end) same
@@ -315,7 +337,7 @@ module _ {d : Device} (old : Mem) (spaces : AllSpaces) (anons : AnonSet) (s : St
     -- the pages that are mapped are so after loads
     still_led : pages_to_hole (pages loaded p) (page_of a) (pages_met a len) ≡ many
     still_led = hole-as (pages loaded p) (pages s.world p) (page_of a) (pages_met a len) (map_count-loads (setting_by d old) s.world s.ledger coming p)
-        ∙ led old spaces anons s p a len reached true keeps alive reaches are
+        ∙ led old flagged s p a len reached true keeps alive sets
 
     world-next : h.served.next.world ≡ next loaded (Mlock p a len) answer
     world-next = h.served.world ∙ ap (λ c. with_loads (setting_of c d) mid.world s.ledger coming) same
@@ -325,7 +347,7 @@ module _ {d : Device} (old : Mem) (spaces : AllSpaces) (anons : AnonSet) (s : St
 
     told : causes (record { answer = answer; notes = notes; rows = [] }) ≡ causes_of_access (notes_of coming) h.stop
     told = ap (λ ns. causes (record { answer = answer; notes = ns; rows = [] })) alone
-        ∙ brought-causes (flagged_state old spaces anons s p a len reached true keeps alive reaches are) new p (page_of a) (pages_met a len) before notes
+        ∙ brought-causes (flagged_state old flagged s p a len reached true keeps alive sets) new p (page_of a) (pages_met a len) before notes
         answer h (notes_of coming)
 
     pub mlock-steps : MemSteps d d' old new s (Mlock p a len) (record { answer = answer; notes = notes; rows = [] })
@@ -340,7 +362,7 @@ module _ {d : Device} (old : Mem) (spaces : AllSpaces) (anons : AnonSet) (s : St
             refl,
             subst (λ b. MatchBool b (BringsIn (setting_by d old) s.world s.ledger p (page_of a) (pages_met a len) coming answer)
                 ((coming ≡ []) × (answer ≡ Refused Enomem)))
-                (sym (all_mapped old spaces anons s p a len reached true keeps alive reaches are whole)) (end, comes, h.answers),
+                (sym (all_mapped old flagged s p a len reached true keeps alive sets whole)) (end, comes, h.answers),
           );
           notes = alone;
         };
@@ -353,7 +375,7 @@ module _ {d : Device} (old : Mem) (spaces : AllSpaces) (anons : AnonSet) (s : St
           subst (λ c. ChoosesAll (setting_of c d) None s.ledger coming (free_of (view old)) h.served.next.free) same h.served.free,
         );
         rmap = subst (λ r. IsRmapNext r s.world (Mlock p a len) answer (rmap_of h.served.next))
-            (h.served.rmap ∙ ap (rmap_after_all s.ledger coming) (flagged-rmap old spaces anons s p a len reached true keeps alive reaches are))
+            (h.served.rmap ∙ ap (rmap_after_all s.ledger coming) (flagged-rmap old flagged s p a len reached true keeps alive sets))
             (next-plain (rmap_of h.served.next) s.world (Mlock p a len) answer (rmap_of h.served.next) refl (record {
               areas = refl;
               anons = left_alone new h.served.next h.served.keeps;

@@ -24,7 +24,7 @@ use Rattle.av_trace.specs.Reply.{answer_only}
 use Rattle.av_pagetable.specs.Entries.{has}
 use Rattle.av_plain.specs.Device.{Device}
 use Rattle.av_plain.specs.Fork.{IsRmapNext}
-use Rattle.av_plain.specs.World.{lives, Process, Page, zeros, pages, is_mapped, pages_to_hole, set_process, with_pages, with_prot_on, with_prot}
+use Rattle.av_plain.specs.World.{is_locked_page, lives, Process, Page, zeros, pages, is_mapped, pages_to_hole, set_process, with_pages, with_prot_on, with_prot}
 use Rattle.av_base.specs.Page.{page_of, pages_of, address_of, is_on_page}
 use Rattle.av_plain.specs.Ledger.{Ledger, Entry, Setting, entry}
 use Rattle.av_plain.specs.Event.{Event, after_all, notes_of}
@@ -49,7 +49,7 @@ use Rattle.av_plain.specs.Areas.{areas_to_hole, chain_length, next_areas, with_r
 use Rattle.av_plain.specs.Choice.{ChoosesAll}
 use Rattle.av_plain.specs.Report.{ShowsAreas}
 use Rattle.av_plain.specs.Transcript.{State, rmap_of}
-use Rattle.av_plain.specs.Stands.{AreasAre, IsKept, free_of}
+use Rattle.av_plain.specs.Stands.{AreasAre, IsKept, View, free_of}
 use Rattle.av_plain.specs.World.{Holds}
 use Rattle.av_vma.specs.Pages.{Pages, home_of, after_map, pages_changed, to_prot, after_unmap}
 use Rattle.av_plain.proofs.World.Ranges.{is-pages_to_hole}
@@ -59,17 +59,21 @@ use Rattle.av_spaces.specs.Spaces.{AllSpaces, Spaces, areas_of, is_taken, pages_
 use Rattle.av_plain.proofs.Transcript.{is_fork, next-plain}
 use Rattle.av_kernel.specs.Map.{marks_on, set_on, GetsAreas, GetsMarks, HomesStay, AreUnmapped}
 use Rattle.av_kernel.proofs.MapMarks.{marks_kept, marks_there, page_marks}
-use Rattle.av_mem.specs.Mem.{ranges_of, setting_by, view, frame_count, Keeps, IsSteady, HasLedger}
+use Rattle.av_swap_laws.specs.Locks.{AreLocks, lock_count}
+use Rattle.av_swap_laws.specs.LockRange.{lock_count_in}
+use Rattle.av_swap_laws.proofs.LockRange.{range-unlocked}
+use Rattle.av_mem.specs.Locked.{locks_in}
+use Rattle.av_mem.specs.Mem.{locks_of, ranges_of, setting_by, view, frame_count, Keeps, IsSteady, HasLedger}
 use Rattle.av_mem.specs.Steps.{KeepsRest, KeepsSwap}
+use Rattle.av_kernel.proofs.LockedRanges.{IsRecounted, counted-off, counts-kept, locks-kept, range-gone, range-told, recounted-zapped}
 use Rattle.av_mem.specs.Zap.{HasZapped}
 use Rattle.av_place.specs.Place.{protect_tests, IsProcess, IsPlaced, AreToUnmap}
 use Rattle.av_step.specs.Step.{StepsBeside}
 use Rattle.av_mem.proofs.StayLaws.{anons-stay, spaces-stay}
-use Rattle.av_mem.proofs.LetGoLaws.{rest-none}
 use Rattle.av_mem.proofs.MemLaws.{lives_is, alive_is, taken_has, mapped_is}
 use Rattle.av_place.proofs.PlaceLaws.{page_back, IsSuited, suited}
 use Rattle.av_step.proofs.CacheLeft.{KeepsCached, cached-itself, zaps-cached}
-use Rattle.av_step.proofs.StepLaws.{areas_kept, is_number, moved_on, noted, reach_of, refused, state_after, stays_orderly, changed, swap_alike}
+use Rattle.av_step.proofs.StepLaws.{areas_kept, is_number, moved_on, noted, reach_of, refused, state_after, stays_orderly, changed, swap_alike, swap_itself}
 use Rattle.av_kernel.proofs.ChangeLaws.{AreChanged, anons_left, change-steps, prot_effect}
 use Rattle.av_kernel.proofs.MapSteps.{areas_changed, areas_so, re_areas, tables_kept, unplaced}
 use Rattle.av_step.proofs.Loads.{place-loads, world_as}
@@ -132,40 +136,55 @@ pub both_ok : {A E : Type 0} {P Q S : Type 0} (r : Result A E) → (P → Q → 
 both_ok (Ok x) f h g = f h g
 both_ok (Err e) f h g = tt
 
--- their entries have gone, and then their areas
-pub are_unmapped : {d : Device} (old mid : Mem) (spaces : AllSpaces) (anons : AnonSet) (p page n : ℕ) (l : Ledger) (before notes : List Note) →
-    HasZapped d old mid l (zaps_of l (keys_in l p page (page + n - page))) before notes → KeepsRest old mid
+-- their entries are counted no more and have gone, and then their areas
+pub are_unmapped : {d : Device} (old off mid : Mem) (spaces : AllSpaces) (anons : AnonSet) (p page n : ℕ) (l : Ledger) (before notes : List Note) →
+    IsRecounted old off → ((f : ℕ) → locks_of old f ≡ locks_of off f + locks_in old p page (page + n - page) f)
+    → HasZapped d off mid l (zaps_of l (keys_in l p page (page + n - page))) before notes → KeepsRest off mid
     → GetsMarks mid.spaces.processes spaces.processes p (set_on page n None (marks_on (areas_on mid.spaces.processes p))) →
     GetsAreas mid.spaces.processes spaces.processes p (after_unmap page (page + n) (areas_on mid.spaces.processes p))
     → AnonsStay mid.spaces mid.anons spaces anons → HomesStay mid.spaces.processes spaces.processes p page n
     → AreUnmapped d old (moved_on mid mid.tables spaces anons) p page n (after_unmap page (page + n) (areas_on old.spaces.processes p)) l
     (zaps_of l (keys_in l p page n)) before notes
-are_unmapped {d} old mid spaces anons p page n l before notes t rest gone areas anons_stay stay = record {
-  taken = subst (λ x. HasZapped d old (moved_on mid mid.tables spaces anons) l (zaps_of l (keys_in l p page x)) before notes)
-      (let size : page + n - page ≡ n = omega arith in size)
-      (record { stands = stays_orderly d mid mid.tables spaces anons _ refl t.stands; notes = t.notes; free = t.free; items = t.items });
-  spaces = subst (λ (x : AllSpaces). GetsMarks x.processes spaces.processes p (set_on page n None (marks_on (areas_on x.processes p))))
-      (spaces-stay rest.parts) gone;
-  areas = subst (λ (x : AllSpaces). GetsAreas x.processes spaces.processes p (after_unmap page (page + n) (areas_on x.processes p)))
-      (spaces-stay rest.parts) areas;
-  anons = subst (λ (x : AllSpaces). AnonsStay x old.anons spaces anons) (spaces-stay rest.parts)
-      (subst (λ a. AnonsStay mid.spaces a spaces anons) (anons-stay rest.parts) anons_stay);
-  stay = subst (λ (x : AllSpaces). HomesStay x.processes spaces.processes p page n) (spaces-stay rest.parts) stay;
-  mid = mid;
-  rest = rest;
-  moved = refl;
-}
+are_unmapped {d} old off mid spaces anons p page n l before notes same counts zapped rest gone areas anons_stay stay =
+    let t = recounted-zapped d old off same mid l (zaps_of l (keys_in l p page (page + n - page))) before notes zapped in
+    record {
+      taken = subst (λ x. HasZapped d old (moved_on mid mid.tables spaces anons) l (zaps_of l (keys_in l p page x)) before notes) size
+          (record { stands = stays_orderly d mid mid.tables spaces anons _ refl t.stands; notes = t.notes; free = t.free; items = t.items });
+      spaces = subst (λ (x : AllSpaces). GetsMarks x.processes spaces.processes p (set_on page n None (marks_on (areas_on x.processes p))))
+          same_spaces gone;
+      areas = subst (λ (x : AllSpaces). GetsAreas x.processes spaces.processes p (after_unmap page (page + n) (areas_on x.processes p)))
+          same_spaces areas;
+      anons = subst (λ (x : AllSpaces). AnonsStay x old.anons spaces anons) same_spaces
+          (subst (λ a. AnonsStay mid.spaces a spaces anons) (anons-stay rest.parts ∙ ap (λ (k : Mem). k.anons) same.rest) anons_stay);
+      stay = subst (λ (x : AllSpaces). HomesStay x.processes spaces.processes p page n) same_spaces stay;
+      locks = λ f. counts f ∙ (λ i. sym rest.parts.locks i f + locks_in old p page (size i) f);
+      processes = rest.parts.processes ∙ ap (λ (k : Mem). has k.tables) same.rest;
+      bytes = rest.bytes ∙ ap (λ (v : View). v.bytes) same.seen;
+      homes = rest.homes ∙ ap (λ (v : View). v.homes) same.seen;
+      swap = swap_alike off mid old (moved_on mid mid.tables spaces anons) (sym (ap (λ (k : Mem). k.swap) same.rest)) refl rest.parts.swap;
+    }
+  where
+    size : page + n - page ≡ n
+    size = omega arith
 
--- what stays of what areas and anon_vmas have no part in
-pub unmapped_rest : {d : Device} (old new : Mem) (p page n : ℕ) (on : Pages) (l : Ledger) (events : List Event) (before now : List Note) →
-    AreUnmapped d old new p page n on l events before now
-    → (has new.tables ≡ has old.tables) × ((view new).bytes ≡ (view old).bytes) × ((view new).homes ≡ (view old).homes) × KeepsSwap old new
-unmapped_rest old new p page n on l events before now h = (
-  ap (λ (k : Mem). has k.tables) h.moved ∙ h.rest.parts.processes,
-  ap (λ k. (view k).bytes) h.moved ∙ h.rest.bytes,
-  ap (λ k. (view k).homes) h.moved ∙ h.rest.homes,
-  swap_alike old h.mid old new refl (ap (λ (k : Mem). k.swap) h.moved) h.rest.parts.swap,
-)
+    same_spaces : mid.spaces ≡ old.spaces
+    same_spaces = spaces-stay rest.parts ∙ ap (λ (k : Mem). k.spaces) same.rest
+
+-- pages that are free count none
+free-uncounted : {d : Device} (k : Mem) (s : State) (p page n : ℕ) → Keeps d k s → IsFree (is_taken k.spaces.processes p) page (page + n) → (f : ℕ)
+    → lock_count_in s.world s.ledger p page n f ≡ 0
+free-uncounted k s p page n keeps free f =
+    range-unlocked s.world s.ledger p page n f (λ at inside. unlocked (pages s.world p at) (unmapped at inside))
+  where
+    unmapped : (at : ℕ) → within page n at ≡ true → is_mapped (pages s.world p) at ≡ false
+    unmapped at inside =
+        let low : page ≤ at = grind (arith, nat_tests, inside) in
+        let high : at < page + n = grind (arith, nat_tests, inside) in
+        sym (taken_is k s p keeps at) ∙ free at low high
+
+    unlocked : (o : Option Page) → is_some o ≡ false → is_locked_page o ≡ false
+    unlocked None h = refl
+    unlocked (Some x) h = cc
 
 left_alone : (d : Device) (k : Mem) → IsSteady k → (p page n : ℕ) (l : Ledger) (notes : List Note) → HasLedger d k l →
     is_some (areas_of k.spaces.processes p) ≡ true → IsFree (is_taken k.spaces.processes p) page (page + n)
@@ -182,9 +201,13 @@ left_alone d k steady p page n l notes stands alive free = record {
   areas = unplaced k.spaces.processes p;
   anons = stay_same k.spaces k.anons steady.2.anons;
   stay = λ at home outside is. is;
-  mid = k;
-  rest = rest-none k;
-  moved = refl;
+  locks = λ f.
+      let none = range-told k steady.1 steady.2 p page n f ∙ free-uncounted k steady.1 p page n steady.2 free f in
+      omega (arith, none);
+  processes = refl;
+  bytes = refl;
+  homes = refl;
+  swap = swap_itself k;
 }
   where
     none : (o : Option (Prot × Flags)) → is_some o ≡ false → o ≡ None
@@ -253,7 +276,9 @@ module _ {d : Device} (old new : Mem) (s : State) (command : Command) (reply : R
     (areas : AreasAre (view new) (with_at p on s.areas)) (stay : AnonsStay old.spaces old.anons new.spaces new.anons)
     (processes : has new.tables ≡ has old.tables) (bytes : (view new).bytes ≡ (view old).bytes)
     (homes : (view new).homes ≡ (view old).homes) (home_stay : HomesStay old.spaces.processes new.spaces.processes p page n)
-    (silent : rmap_after_all s.ledger events (rmap_of s) ≡ rmap_of s) where
+    (silent : rmap_after_all s.ledger events (rmap_of s) ≡ rmap_of s)
+    (off : (f : ℕ) → locks_of old f ≡ locks_of new f + locks_in old p page n f)
+    (gone : (f : ℕ) → lock_count s.world (after_all s.ledger events) f + lock_count_in s.world s.ledger p page n f ≡ lock_count s.world s.ledger f) where
   covered : (at : ℕ) → set_on page n (option_map page_marks o) (marks_on (areas_on old.spaces.processes p)) at
       ≡ marks_at (with_pages (pages s.world p) page n (λ _. o)) at
   covered at = by (within page n at)
@@ -286,6 +311,13 @@ module _ {d : Device} (old new : Mem) (s : State) (command : Command) (reply : R
       by true e there = absurd (false≢true there)
       by false e there = e
 
+  -- so no page with an entry has another lock
+  counted : AreLocks (locks_of new) (set_process s.world p (with_pages (pages s.world p) page n (λ _. o))) (after_all s.ledger events)
+  counted = counted-off old s keeps new p page n (set_process s.world p (with_pages (pages s.world p) page n (λ _. o))) (after_all s.ledger events) off
+      (λ f. ap (λ c. c + lock_count_in s.world s.ledger p page n f)
+      (locks-kept s.world p (with_pages (pages s.world p) page n (λ _. o)) (after_all s.ledger events) f
+      (λ at there. ap (λ b. is_locked_page (cond b o (pages s.world p at))) (left_outside at there))) ∙ gone f)
+
   home : (at : ℕ) (home : ℕ × ℕ) → is_some (entry (after_all s.ledger events) (p, at)) ≡ true → home_of at (s.areas p at) ≡ Some home
       → home_of at (on at) ≡ Some home
   home at h there is = sym (ap (home_of at) (own_area at)) ∙ home_stay at h (left_outside at there) (ap (home_of at) (keeps.stands.areas p at) ∙ is)
@@ -303,7 +335,7 @@ module _ {d : Device} (old new : Mem) (s : State) (command : Command) (reply : R
       let now : Process = with_pages (pages s.world p) page n (λ _. o) in
       changed old new s p now on (after_all s.ledger events) keeps stay same_count swap taken.stands bytes homes
       (taken.items s.items keeps.stands.items) (λ q at other. entries q at ∙ ap (λ b. cond (b && within page n at) None (entry s.ledger (q, at))) other) cached kept reach home
-      command reply
+      counted command reply
       (record {
         events = events;
         legal = legal;
@@ -373,13 +405,13 @@ module _ {d : Device} (old new : Mem) (s : State) (p a len : ℕ) (keeps : Keeps
   munmap-steps =
       let ks = keys_in s.ledger p (page_of a) (pages_of len) in
       let events = munmap_events in
-      let rest = unmapped_rest old new p _ _ _ _ _ before notes unmapped in
       replaced-steps old new s (Munmap p a len) (noted Done (notes_of events)) p (page_of a) (pages_of len) None
       (after_unmap (page_of a) (page_of a + pages_of len) (s.areas p)) events before notes keeps alive same_count unmapped.taken
-      (zaps-cached (setting_by d old) s.ledger ks keeps.stands.sound.ledger) (zaps-reach s.ledger (rmap_of s) ks (reach_of old s keeps)) rest.3
+      (zaps-cached (setting_by d old) s.ledger ks keeps.stands.sound.ledger) (zaps-reach s.ledger (rmap_of s) ks (reach_of old s keeps)) unmapped.swap
       (λ q at. entry-range s.ledger p (page_of a) (pages_of len) q at) tt unmapped.spaces
-      (areas_so old new s p (after_unmap (page_of a) (page_of a + pages_of len)) keeps unmapped.areas) unmapped.anons rest.0
-      rest.1 rest.2 unmapped.stay (rmap_after_all-zaps s.ledger ks s.ledger (rmap_of s)) refl refl
+      (areas_so old new s p (after_unmap (page_of a) (page_of a + pages_of len)) keeps unmapped.areas) unmapped.anons unmapped.processes
+      unmapped.bytes unmapped.homes unmapped.stay (rmap_after_all-zaps s.ledger ks s.ledger (rmap_of s))
+      unmapped.locks (λ f. range-gone s.world s.ledger p (page_of a) (pages_of len) f) refl refl
       (record {
         answer = subst (λ o. MatchOption o (Follows (setting_by d old) s.world s.ledger (Munmap p a len) events Done [])
             (λ e. Refuses e events Done []))
@@ -446,6 +478,10 @@ module _ {d : Device} (old : Mem) (s : State) (p len : ℕ) (prot : Prot) (place
           let high : at < page + n = grind (arith, nat_tests, f) in
           absurd (false≢true (sym (free at low high) ∙ taken_is old s p keeps at ∙ there))
 
+  none_there : (page n f : ℕ) → IsFree (is_taken old.spaces.processes p) page (page + n) →
+      lock_count s.world s.ledger f + lock_count_in s.world s.ledger p page n f ≡ lock_count s.world s.ledger f
+  none_there page n f free = let none = free-uncounted old s p page n keeps free f in omega (arith, none)
+
   -- what is unmapped are the entries of the pages
   entry-unmapped : (x : Place) (page n q at : ℕ) → AreToUnmap (is_taken old.spaces.processes p) page n x →
       entry (after_all s.ledger (zaps_for_place s.ledger p n x)) (q, at) ≡ cond (q == p && within page n at) None (entry s.ledger (q, at))
@@ -454,6 +490,15 @@ module _ {d : Device} (old : Mem) (s : State) (p len : ℕ) (prot : Prot) (place
   entry-unmapped (Fixed a) page n q at there = entry-range s.ledger p (page_of a) n q at
       ∙ ap (λ x. cond (q == p && within x n at) None (entry s.ledger (q, at))) (sym there)
   entry-unmapped (NoReplace a) page n q at free = nothing_mapped page n q at free
+
+  -- so many fewer entries of locked pages are counted
+  locks-unmapped : (x : Place) (page n f : ℕ) → AreToUnmap (is_taken old.spaces.processes p) page n x →
+      lock_count s.world (after_all s.ledger (zaps_for_place s.ledger p n x)) f + lock_count_in s.world s.ledger p page n f ≡ lock_count s.world s.ledger f
+  locks-unmapped Auto page n f free = none_there page n f free
+  locks-unmapped (At a) page n f free = none_there page n f free
+  locks-unmapped (Fixed a) page n f there = ap (λ x. lock_count s.world (after_all s.ledger (zaps_for_place s.ledger p n (Fixed a))) f
+      + lock_count_in s.world s.ledger p x n f) there ∙ range-gone s.world s.ledger p (page_of a) n f
+  locks-unmapped (NoReplace a) page n f free = none_there page n f free
 
   module _ (mid : Mem) (spaces : AllSpaces) (anons : AnonSet) (page : ℕ) (placed : IsPlaced (pages s.world p) (pages_of len) place (Ok page))
       (clear : AreToUnmap (is_taken old.spaces.processes p) page (pages_of len) place)
@@ -476,13 +521,12 @@ module _ {d : Device} (old : Mem) (s : State) (p len : ℕ) (prot : Prot) (place
         let events = zaps_for_place s.ledger p (pages_of len) place in
         let new = moved_on mid mid.tables spaces anons in
         let t = unmapped.taken in
-        let rest = unmapped_rest old mid p _ _ _ _ _ before notes unmapped in
         replaced-steps old new s (Mmap p len prot place) (noted (MapAt (address_of page)) (notes_of events)) p page (pages_of len)
         (Some (zeros prot)) (after_map (chain_length s.anons) p page (page + pages_of len) prot no_flags (with_room (pages_of len) place (s.areas p)))
         events before notes keeps alive same_count
         (record { stands = stays_orderly d mid mid.tables spaces anons (after_all s.ledger events) refl t.stands; notes = t.notes; free = t.free; items = t.items })
         (place-cached (setting_by d old) s.ledger p (pages_of len) place keeps.stands.sound.ledger)
-        (place-reach s.ledger p (pages_of len) place (rmap_of s) (reach_of old s keeps)) (swap_alike old mid old new refl refl rest.3)
+        (place-reach s.ledger p (pages_of len) place (rmap_of s) (reach_of old s keeps)) (swap_alike old mid old new refl refl unmapped.swap)
         (λ q at. entry-unmapped place page (pages_of len) q at clear) (λ i below. refl)
         (twice_changed old.spaces.processes mid.spaces.processes spaces.processes p page (pages_of len) None (Some (prot, no_flags)) unmapped.spaces given)
         (areas_so old (moved_on mid mid.tables spaces anons) s p (λ on. after_map (chain_length s.anons) p page (page + pages_of len) prot no_flags
@@ -491,9 +535,10 @@ module _ {d : Device} (old : Mem) (s : State) (p len : ℕ) (prot : Prot) (place
         (after_map (chain_length s.anons) p page (page + pages_of len) prot no_flags)
         (with_room (pages_of len) place (areas_on old.spaces.processes p)) unmapped.areas
         (re_areas mid.spaces.processes spaces.processes p _ _ alike areas)))
-        (stay_both old.spaces mid.spaces spaces old.anons mid.anons anons unmapped.anons stay) rest.0 rest.1 rest.2
+        (stay_both old.spaces mid.spaces spaces old.anons mid.anons anons unmapped.anons stay) unmapped.processes unmapped.bytes unmapped.homes
         (λ at home outside is. given_homes at home outside (unmapped.stay at home outside is))
         (place-silent s.ledger p (pages_of len) place (rmap_of s))
+        unmapped.locks (λ f. locks-unmapped place page (pages_of len) f clear)
         refl refl
         (record {
           answer = subst (λ o. MatchOption o (Follows (setting_by d old) s.world s.ledger (Mmap p len prot place) events (MapAt (address_of page)) [])
@@ -546,6 +591,8 @@ module _ {d : Device} (old : Mem) (spaces : AllSpaces) (anons : AnonSet) (s : St
       → StepsBeside d old (moved_on old old.tables spaces anons) s (Mprotect p a len prot) (answer_only answer)
   protected-steps answer is world areas_next =
       change-steps old spaces anons s p (page_of a) (reached - page_of a) (to_prot prot) (with_prot prot) keeps alive (prot_effect prot) are
+      (moved_on old old.tables spaces anons) (record { seen = refl; rest = refl })
+      (counts-kept old s keeps p (page_of a) (reached - page_of a) (with_prot prot) (λ x. refl))
       (Mprotect p a len prot) (answer_only answer)
       (record {
         events = [];

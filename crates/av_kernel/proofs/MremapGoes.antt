@@ -19,12 +19,14 @@ use Rattle.av_plain.specs.Transcript.{State}
 use Rattle.av_plain.specs.World.{Process, pages}
 use Rattle.av_plain.proofs.Refusal.{MayRemap, may-remap}
 use Rattle.av_mem.specs.declared.mem.Mem.{Mem}
-use Rattle.av_mem.specs.Mem.{IsSteady, Keeps, setting_by}
+use Rattle.av_mem.specs.Mem.{IsSteady, Keeps, locks_of, setting_by}
 use Rattle.av_mem.specs.Steps.{KeepsRest}
 use Rattle.av_mremap.specs.Areas.{HasRemap}
 use Rattle.av_mremap.specs.Entries.{HasRemapped}
 use Rattle.av_place.specs.Mremap.{HaveProtsOf, StaySmall}
 use Rattle.av_step.specs.Step.{StepsBeside}
+use Rattle.av_kernel.specs.Lock.{locks_lost}
+use Rattle.av_kernel.proofs.LockedRanges.{IsRecounted}
 use Rattle.av_kernel.proofs.MremapLaws.{last_taken, may_grow, may_move, may_shrink, old_high, remaps, some_pages}
 use Rattle.av_kernel.proofs.MremapRefusals.{have_prots_of, tests_are}
 use Rattle.av_step.proofs.StepLaws.{noted}
@@ -140,20 +142,22 @@ module _ {old : Mem} {p a olen nlen n m : ℕ} {mode : Mode} {to : ℕ} (go : Go
               no : (to == from) ≡ false → to ≡ from → ⊥
               no e h = grind (arith, nat_tests, e, h)
 
-  -- the areas changed, and then the entries
+  -- the entries that go were counted no more, the areas changed, and then the entries
   pub steps_by : {d : Device} (s : State) (keeps : Keeps d old s) (before notes : List Note) → StaySmall old.spaces.processes p from n m
-      → (gone new : Mem) → gone ≡ record old { spaces = gone.spaces; anons = gone.anons }
-      → HasRemap old gone p (after_mremap (chain_length s.anons) p from n to m (leaves_old mode) (s.areas p))
+      → (off gone new : Mem) → IsRecounted old off → ((f : ℕ) → locks_of old f ≡ locks_of off f + locks_lost old p from n to m f)
+      → gone ≡ record off { spaces = gone.spaces; anons = gone.anons }
+      → HasRemap off gone p (after_mremap (chain_length s.anons) p from n to m (leaves_old mode) (s.areas p))
       → HasRemapped d gone new s.ledger (remap_events s.ledger p from n to m) before notes → KeepsRest gone new
       → StepsBeside d old new s (Mremap p a olen nlen mode) (noted (MapAt (address_of to)) (notes_of (remap_events s.ledger p from n to m)))
-  steps_by {d} s keeps before notes small gone new same remap done rest =
+  steps_by {d} s keeps before notes small off gone new recounted counts same remap done rest =
       let long = chain_length s.anons in
       of_pages (λ n m. StepsBeside d old new s (Mremap p a olen nlen mode)
       (noted (MapAt (address_of to)) (notes_of (remap_events s.ledger p from n to m))))
       (remaps keeps (may_by go.passes s keeps) to go.passes.alive (goes_by s keeps) go.passes.laid
-      (both_are (λ n m. StaySmall old.spaces.processes p from n m) go.as_old go.as_new small) gone.spaces gone.anons
-      (subst (λ g. HasRemap old g p (after_mremap long p from (pages_of olen) to (pages_of nlen) (leaves_old mode) (s.areas p))) same
-      (both_are (λ n m. HasRemap old gone p (after_mremap long p from n to m (leaves_old mode) (s.areas p))) go.as_old go.as_new remap))
+      (both_are (λ n m. StaySmall old.spaces.processes p from n m) go.as_old go.as_new small) off gone.spaces gone.anons recounted
+      (both_are (λ n m. (f : ℕ) → locks_of old f ≡ locks_of off f + locks_lost old p from n to m f) go.as_old go.as_new counts)
+      (subst (λ g. HasRemap off g p (after_mremap long p from (pages_of olen) to (pages_of nlen) (leaves_old mode) (s.areas p))) same
+      (both_are (λ n m. HasRemap off gone p (after_mremap long p from n to m (leaves_old mode) (s.areas p))) go.as_old go.as_new remap))
       new before notes (subst (λ g. HasRemapped d g new s.ledger (remap_events s.ledger p from (pages_of olen) to (pages_of nlen)) before notes) same
       (both_are (λ n m. HasRemapped d gone new s.ledger (remap_events s.ledger p from n to m) before notes) go.as_old go.as_new done))
       (subst (λ g. KeepsRest g new) same rest)

@@ -25,7 +25,7 @@ use Rattle.av_vma.proofs.Mremap.{in_range as range_bounds, is_in_range, out_of_r
 use Rattle.av_vma.proofs.Marks.{area_marks, marks}
 use Rattle.av_anon.specs.declared.anons.Anons.{Anons as AnonSet}
 use Rattle.av_spaces.specs.Spaces.{AllSpaces, areas_of, is_taken, pages_of as areas_on}
-use Rattle.av_plain.specs.Device.{Device}
+use Rattle.av_plain.specs.Device.{Device, setting_of}
 use Rattle.av_plain.specs.Areas.{chain_length, rmap_after_all}
 use Rattle.av_plain.specs.Choice.{ChoosesAll}
 use Rattle.av_plain.specs.Event.{Event, EntriesMoved, after_all, notes_of}
@@ -33,7 +33,7 @@ use Rattle.av_plain.specs.Fork.{IsRmapNext}
 use Rattle.av_plain.specs.Ledger.{Entry, Ledger, entry}
 use Rattle.av_plain.specs.Mremap.{MovesTo, after_mremap, have_one_prot, is_in_place, leaves_old, left_behind, marks_at, prot_at, range_zaps, remap_events, process_after_mremap}
 use Rattle.av_plain.specs.Refusal.{Refuses, refusal, tests, top}
-use Rattle.av_plain.specs.Stands.{AreasAre, AreasStand, IsKept, free_of}
+use Rattle.av_plain.specs.Stands.{AreasAre, AreasStand, IsKept, ItemsAre, View, free_of}
 use Rattle.av_plain.specs.Step.{Follows}
 use Rattle.av_plain.specs.Transcript.{IsStep, State, rmap_of}
 use Rattle.av_plain.specs.World.{Holds, Page, Process, is_mapped, lives, pages, set_process, wiped}
@@ -48,7 +48,10 @@ use Rattle.av_plain.proofs.Refusal.{MayRemap}
 use Rattle.av_plain.proofs.Transcript.{next-plain}
 use Rattle.av_plain.proofs.World.{pages-set, lives-set, length-set_old}
 use Rattle.av_mem.specs.declared.mem.Mem.{Mem}
-use Rattle.av_mem.specs.Mem.{HasTables, Keeps, setting_by, view}
+use Rattle.av_pagetable.specs.Entries.{has}
+use Rattle.av_swap_laws.specs.Locks.{AreLocks, lock_count}
+use Rattle.av_mem.specs.Locked.{locks_in}
+use Rattle.av_mem.specs.Mem.{HasTables, Keeps, locks_of, setting_by, view}
 use Rattle.av_mem.specs.Steps.{KeepsRest}
 use Rattle.av_swap_laws.specs.Held.{AllCovered}
 use Rattle.av_mem.proofs.AnonLaws.{anons_stand, are_left, left_of}
@@ -57,6 +60,9 @@ use Rattle.av_mremap.specs.Areas.{HasRemap}
 use Rattle.av_mremap.specs.Entries.{HasRemapped}
 use Rattle.av_place.specs.Mremap.{StaySmall}
 use Rattle.av_step.specs.Step.{StepsBeside}
+use Rattle.av_kernel.specs.Lock.{locks_lost}
+use Rattle.av_kernel.proofs.LockedRanges.{IsRecounted, range-told}
+use Rattle.av_kernel.proofs.MremapLocks.{count-elsewhere, count-here}
 use Rattle.av_kernel.proofs.MapMarks.{marks_flags, marks_kept, marks_prot, page_marks}
 use Rattle.av_plain.proofs.Mremap.Entries.{came, grew, here_goes, here_stays, left as has_left, of_others, stays}
 use Rattle.av_place.proofs.PlaceLaws.{page_back}
@@ -215,12 +221,19 @@ module _ {d : Device} {old : Mem} {s : State} (keeps : Keeps d old s) {p a olen 
 
     -- ---- what stands then
 
-    -- the areas have changed, and after them the entries
-    module _ (spaces : AllSpaces) (anons : AnonSet)
-        (remap : HasRemap old (moved_on old old.tables spaces anons) p (after_mremap (chain_length s.anons) p from n to m left on))
+    -- the entries that go are counted no more (`off`), the areas have changed, and after them the entries
+    module _ (off : Mem) (spaces : AllSpaces) (anons : AnonSet) (same : IsRecounted old off)
+        (counts : (f : ℕ) → locks_of old f ≡ locks_of off f + locks_lost old p from n to m f)
+        (remapped : HasRemap off (moved_on off off.tables spaces anons) p (after_mremap (chain_length s.anons) p from n to m left on))
         (mid : Mem) (before notes : List Note)
-        (done : HasRemapped d (moved_on old old.tables spaces anons) mid s.ledger (remap_events s.ledger p from n to m) before notes)
-        (rest : KeepsRest (moved_on old old.tables spaces anons) mid) where
+        (done : HasRemapped d (moved_on off off.tables spaces anons) mid s.ledger (remap_events s.ledger p from n to m) before notes)
+        (rest : KeepsRest (moved_on off off.tables spaces anons) mid) where
+      remap : HasRemap old (moved_on old old.tables spaces anons) p (after_mremap (chain_length s.anons) p from n to m left on)
+      remap =
+          let h = subst (λ (k : Mem). HasRemap k (moved_on off off.tables spaces anons) p
+          (after_mremap (chain_length s.anons) p from n to m left on)) same.rest remapped in
+          record { areas = h.areas; alive = h.alive; number = h.number; apart = h.apart; anons = h.anons }
+
       abbrev events : List Event
       events = remap_events s.ledger p from n to m
 
@@ -313,7 +326,7 @@ module _ {d : Device} {old : Mem} {s : State} (keeps : Keeps d old s) {p a olen 
           by k false e = sym (ap (λ b. cond b true (lives s.world k)) e)
 
       tables_now : HasTables new
-      tables_now k = ap (λ (h : ℕ → Bool). h k) rest.parts.processes ∙ keeps.tables k
+      tables_now k = ap (λ (h : ℕ → Bool). h k) (rest.parts.processes ∙ ap (λ (x : Mem). has x.tables) same.rest) ∙ keeps.tables k
           ∙ alive_is old.spaces.processes k ∙ sym (alive_is spaces.processes k ∙ remap.alive k)
 
       -- ---- bytes
@@ -431,7 +444,8 @@ module _ {d : Device} {old : Mem} {s : State} (keeps : Keeps d old s) {p a olen 
         world = ap (λ x. set_process s.world p (process_after_mremap from n x m left q)) (sym (page_back to))
             ∙ world_as (setting_by d old) s.world s.ledger events command answer (events_to-load_nothing s.ledger p from n m (Some to));
         ledger = refl;
-        free = subst (λ free. ChoosesAll (setting_by d old) None s.ledger events free (free_of (view mid))) keeps.stands.free done.free;
+        free = subst (λ free. ChoosesAll (setting_by d old) None s.ledger events free (free_of (view mid))) keeps.stands.free
+            (subst (λ (v : View). ChoosesAll (setting_of v.frames d) None s.ledger events (free_of v) (free_of (view mid))) same.seen done.free);
         rmap = subst (λ r. IsRmapNext r s.world command answer (rmap_of next)) (sym silent)
             (next-plain (rmap_of s) s.world command answer (rmap_of next) refl (record {
               areas = ap (λ x. with_at p (after_mremap (chain_length s.anons) p from n x m left on) s.areas) (sym (page_back to));
@@ -454,14 +468,42 @@ module _ {d : Device} {old : Mem} {s : State} (keeps : Keeps d old s) {p a olen 
                 are refl refl keeps.stands.reach keeps.stands.slots keeps.stands.merged;
           }
 
+      -- an entry that moved kept its lock
+      locks_now : AreLocks (locks_of new) next.world l
+      locks_now f = by (to == from) refl (counts f)
+        where
+          free : (to == from) ≡ true → (page : ℕ) → from + n ≤ page → page < from + m → entry s.ledger (p, page) ≡ None
+          free here page low high =
+              let k = some s.world p a olen nlen mode to may goes in
+              no_entry page ((becomes_on.grows here (omega (arith, low, high))).free page (omega (arith, low, k)) high)
+
+          by : (b : Bool) → (to == from) ≡ b
+              → locks_of old f ≡ locks_of off f + (cond b 0 (locks_in old p to m f) + locks_in old p (from + m) (n - m) f)
+              → locks_of mid f ≡ lock_count next.world l f
+          by true here off_count =
+              let kept = ap (λ (locks : ℕ → ℕ). locks f) rest.parts.locks in
+              let counted = keeps.locks f in
+              let past = range-told old s keeps p (from + m) (n - m) f in
+              let gone = count-here s.world s.ledger p from n to m f left in_order here (free here) in
+              omega (arith, kept, counted, past, gone, off_count)
+          by false there off_count =
+              let kept = ap (λ (locks : ℕ → ℕ). locks f) rest.parts.locks in
+              let counted = keeps.locks f in
+              let target = range-told old s keeps p to m f in
+              let past = range-told old s keeps p (from + m) (n - m) f in
+              let gone = count-elsewhere s.world s.ledger p from n to m f left in_order there (becomes_on.moves there).apart in
+              omega (arith, kept, counted, target, past, gone, off_count)
+
       steps : IsAllowed → StepsBeside d old new s command reply
-      steps allowed = stepped old new s next command reply keeps (remap-step allowed) rest.parts.count
-          (swap_alike (moved_on old old.tables spaces anons) mid old new refl refl rest.parts.swap)
+      steps allowed = stepped old new s next command reply keeps (remap-step allowed)
+          (rest.parts.count ∙ ap (λ (v : View). v.frames) same.seen)
+          (swap_alike (moved_on off off.tables spaces anons) mid old new (sym (ap (λ (x : Mem). x.swap) same.rest)) refl rest.parts.swap)
           (stays_orderly d mid mid.tables spaces anons l refl done.stands) refl areas_now
           (anons_stand d old s keeps spaces anons remap.anons next.areas areas_now new refl refl)
-          (λ f. ap (λ h. h f) rest.homes ∙ keeps.stands.homes f) (done.items s.items keeps.stands.items) covered_now remap.anons.fit areas_stand tables_now
-          (bytes-left d (view old) (view new) s.world next.world s.ledger l rest.bytes
-          (remap-cached (setting_by d old) s.ledger p from n to m keeps.stands.sound.ledger) keeps.stands.parts.bytes kept_now)
+          (λ f. ap (λ h. h f) (rest.homes ∙ ap (λ (v : View). v.homes) same.seen) ∙ keeps.stands.homes f)
+          (done.items s.items (subst (λ (v : View). ItemsAre v s.ledger s.items) (sym same.seen) keeps.stands.items)) covered_now remap.anons.fit areas_stand tables_now
+          (bytes-left d (view old) (view new) s.world next.world s.ledger l (rest.bytes ∙ ap (λ (v : View). v.bytes) same.seen)
+          (remap-cached (setting_by d old) s.ledger p from n to m keeps.stands.sound.ledger) keeps.stands.parts.bytes kept_now) locks_now
 
       pub remaps : IsAllowed → StepsBeside d old mid s command reply
       remaps allowed = subst (λ k. StepsBeside d old k s command reply) (sym rest.parts.stay) (steps allowed)

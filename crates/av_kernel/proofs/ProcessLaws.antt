@@ -1,7 +1,7 @@
 -- A process that comes, and one that ends: its entries, its table and its areas have gone, and nothing of the others.
-use Rattle.std.proofs.Common.{◌≡◌, ℕ, suc, ◌+◌, nat_le, Bool, true, false, cond, not, T, [], ◌∷◌, length, Some, None, is_some, option_map, refl, sym, ap, subst, ◌∙◌, arith, ◌==◌, Option, List}
+use Rattle.std.proofs.Common.{◌≡◌, ◌⊎◌, inl, inr, ℕ, suc, ◌+◌, ◌<◌, ◌≤◌, nat_le, Bool, true, false, cond, not, T, [], ◌∷◌, length, Some, None, is_some, option_map, refl, sym, ap, subst, ◌∙◌, arith, ◌==◌, Option, List}
 use Rattle.std.proofs.lemmas.Bool.Decides.{nat_tests}
-use Rattle.std.proofs.lemmas.Bool.{false≢true}
+use Rattle.std.proofs.lemmas.Bool.{cases_lt, false≢true}
 use Rattle.std.specs.Prelude.{MatchOption, map}
 use Rattle.std.specs.Ordering.{nat_cmp, is_eq, is_lt}
 use Rattle.std.specs.FinMap.Entries.{is_sorted, below_all, find}
@@ -21,7 +21,7 @@ use Rattle.av_pagetable.specs.declared.pte.Pte.{Pte}
 use Rattle.av_pagetable.specs.declared.pte.Pte.TheVariants.{Empty}
 use Rattle.av_pagetable.specs.Entries.{ProcessTables, entry_at, has}
 use Rattle.av_plain.specs.Device.{Device}
-use Rattle.av_plain.specs.World.{World, Page, no_pages, lives, pages, set_process, end_process}
+use Rattle.av_plain.specs.World.{World, Page, is_locked_page, no_pages, lives, pages, set_process, end_process}
 use Rattle.av_plain.specs.Ledger.{Ledger, entry, names_frame}
 use Rattle.av_plain.specs.Event.{Event, after_all, notes_of}
 use Rattle.av_plain.specs.Fault.{asks_copy}
@@ -33,18 +33,27 @@ use Rattle.av_plain.proofs.AreasLeft.{rmap_after_all-zaps}
 use Rattle.av_plain.proofs.Covered.Zaps.{zaps-reach}
 use Rattle.av_plain.specs.Areas.{AreNext, none_on}
 use Rattle.av_vma.specs.Pages.{home_of, pages_in}
-use Rattle.av_plain.specs.Stands.{AreasAre, free_of, Pte as Plain, IsKept, entry_of, prot_of, AreasStand, TablesStand}
+use Rattle.av_plain.specs.Stands.{AreasAre, View, free_of, Pte as Plain, IsKept, entry_of, prot_of, AreasStand, TablesStand}
 use Rattle.av_plain.specs.Transcript.{State, IsStep, rmap_of}
 use Rattle.av_plain.proofs.Ledger.Order.{both_first, both_second}
 use Rattle.av_plain.proofs.World.{pages-set, lives-set, length-set_new}
 use Rattle.av_plain.proofs.Zap.{entry-ended, entry-others}
 use Rattle.av_plain.proofs.Sound.{no_entries}
+use Rattle.av_plain.proofs.Sound.Counts.{same-itself}
 use Rattle.av_plain.proofs.Sound.Zap.{process-ended, pages-ended}
 use Rattle.av_mem.specs.declared.mem.Mem.{Mem}
 use Rattle.av_spaces.specs.Spaces.{AllSpaces, Spaces, areas_of, pages_of, IsSpawned, IsEnded}
 use Rattle.av_plain.specs.Report.{range_of}
-use Rattle.av_mem.specs.Mem.{ranges_of, setting_by, plain, view, HasTables, Keeps, HasLedger}
+use Rattle.av_mem.specs.Locked.{locks_in}
+use Rattle.av_mem.specs.Mem.{locks_of, ranges_of, setting_by, plain, view, HasTables, Keeps, HasLedger}
+use Rattle.av_swap_laws.specs.Locks.{AreLocks}
+use Rattle.av_swap_laws.specs.LockRange.{lock_count_in}
+use Rattle.av_swap_laws.proofs.LockRange.{locked_at, range-all}
+use Rattle.av_swap_laws.proofs.Locks.{locks-process}
+use Rattle.av_pagetable.specs.Table.{page_bound}
+use Rattle.av_pagetable.proofs.Entries.{past_pages}
 use Rattle.av_kernel.specs.Process.{new_tests}
+use Rattle.av_kernel.proofs.LockedRanges.{IsRecounted, counted-off, locks-kept, recounted-zapped}
 use Rattle.av_step.specs.Step.{StepsBeside}
 use Rattle.av_mem.specs.Zap.{HasZapped}
 use Rattle.av_mem.specs.Steps.{KeepsRest}
@@ -190,7 +199,8 @@ module _ {d : Device} (old : Mem) (tables : ProcessTables) (spaces : AllSpaces) 
       (stays_orderly d old tables spaces old.anons s.ledger entries (orderly old s keeps))
       refl refl keeps.stands.items
       (λ q page other. refl) (cached-itself s.ledger) (λ page. kept-nothing d (view old) s.ledger (entry s.ledger (p, page))) (reach_of old s keeps)
-      (λ page home there is. absurd (no_entry page there)) (Spawn p) (answer_only Done) spawn-step spawn-on spawn-areas spawn-tables
+      (λ page home there is. absurd (no_entry page there))
+      (λ f. keeps.locks f ∙ sym (locks-kept s.world p no_pages s.ledger f (λ page there. absurd (no_entry page there)))) (Spawn p) (answer_only Done) spawn-step spawn-on spawn-areas spawn-tables
 
 -- ---- exit: the memories
 
@@ -236,9 +246,12 @@ lives-ended w p q = ap is_some (process-ended w p q) ∙ by (q == p)
 
 -- ---- exit: the end
 
-module _ {d : Device} (old mid : Mem) (tables : ProcessTables) (spaces : AllSpaces) (anons : AnonSet) (s : State) (p : ℕ) (before notes : List Note)
+-- its entries are counted no more (`off`) and have gone, and then its table and its areas
+module _ {d : Device} (old off mid : Mem) (tables : ProcessTables) (spaces : AllSpaces) (anons : AnonSet) (s : State) (p : ℕ) (before notes : List Note)
     (keeps : Keeps d old s) (alive : is_some (ranges_of old.spaces.processes p) ≡ true)
-    (taken : HasZapped d old mid s.ledger (zaps_of s.ledger (keys_of_process s.ledger p)) before notes) (rest : KeepsRest old mid)
+    (same : IsRecounted old off) (most : ℕ) (high : page_bound ≤ most)
+    (counts : (f : ℕ) → locks_of old f ≡ locks_of off f + locks_in old p 0 most f)
+    (zapped : HasZapped d off mid s.ledger (zaps_of s.ledger (keys_of_process s.ledger p)) before notes) (rest : KeepsRest off mid)
     (processes : has tables ≡ with_at p false (has mid.tables)) (entries : entry_at tables ≡ with_at p (λ page. Empty) (entry_at mid.tables))
     (ended : IsEnded mid.spaces.processes spaces.processes p) (stay : AnonsStay old.spaces old.anons spaces anons) where
   -- its entries go by these events
@@ -250,6 +263,15 @@ module _ {d : Device} (old mid : Mem) (tables : ProcessTables) (spaces : AllSpac
 
   abbrev new : Mem
   new = moved_on mid tables spaces anons
+
+  taken : HasZapped d old mid s.ledger events before notes
+  taken = recounted-zapped d old off same mid s.ledger events before notes zapped
+
+  same_spaces : mid.spaces ≡ old.spaces
+  same_spaces = spaces-stay rest.parts ∙ ap (λ (k : Mem). k.spaces) same.rest
+
+  same_tables : has mid.tables ≡ has old.tables
+  same_tables = rest.parts.processes ∙ ap (λ (k : Mem). has k.tables) same.rest
 
   abbrev next : State
   next = record {
@@ -276,7 +298,7 @@ module _ {d : Device} (old mid : Mem) (tables : ProcessTables) (spaces : AllSpac
     where
       by : (b : Bool) → pages_in (cond b None (areas_of mid.spaces.processes q)) page ≡ (cond b none_on (s.areas q)) page
       by true = refl
-      by false = ap (λ (x : AllSpaces). pages_of x.processes q page) (spaces-stay rest.parts) ∙ keeps.stands.areas q page
+      by false = ap (λ (x : AllSpaces). pages_of x.processes q page) same_spaces ∙ keeps.stands.areas q page
 
   exit-step : IsStep (setting_by d old) s (Exit p) reply next
   exit-step = record {
@@ -325,7 +347,7 @@ module _ {d : Device} (old mid : Mem) (tables : ProcessTables) (spaces : AllSpac
   areas_now : AreasStand (view new) (end_process s.world p)
   areas_now = record {
     alive = λ q. ap is_some (ended.areas q) ∙ lives_as q (q == p) ∙ sym (lives-ended s.world p q);
-    number = number _ _ _ _ (ended.number ∙ ap (λ (x : AllSpaces). length x.processes) (spaces-stay rest.parts)) keeps.stands.parts.areas.number
+    number = number _ _ _ _ (ended.number ∙ ap (λ (x : AllSpaces). length x.processes) same_spaces) keeps.stands.parts.areas.number
         (length_ended s.world p keeps.stands.sound.world.in_order alive_now);
     apart = all_apart spaces.processes ended.rising;
     covers = λ q page. ap (λ o. prot_of o page) (ranges_ended mid.spaces.processes spaces.processes p ended q) ∙ covered q page (q == p)
@@ -339,17 +361,17 @@ module _ {d : Device} (old mid : Mem) (tables : ProcessTables) (spaces : AllSpac
 
       lives_as : (q : ℕ) (b : Bool) → is_some (cond b None (areas_of mid.spaces.processes q)) ≡ cond b false (lives s.world q)
       lives_as q true = refl
-      lives_as q false = ap (λ (x : AllSpaces). is_some (areas_of x.processes q)) (spaces-stay rest.parts) ∙ keeps.stands.parts.areas.alive q
+      lives_as q false = ap (λ (x : AllSpaces). is_some (areas_of x.processes q)) same_spaces ∙ keeps.stands.parts.areas.alive q
 
       covered : (q page : ℕ) (b : Bool) → prot_of (cond b None (ranges_of mid.spaces.processes q)) page ≡ option_map (λ (x : Page). x.prot)
           (cond b None (pages s.world q page))
       covered q page true = refl
-      covered q page false = ap (λ (x : AllSpaces). prot_of (ranges_of x.processes q) page) (spaces-stay rest.parts) ∙ keeps.stands.parts.areas.covers q page
+      covered q page false = ap (λ (x : AllSpaces). prot_of (ranges_of x.processes q) page) same_spaces ∙ keeps.stands.parts.areas.covers q page
 
       flagged : (q page : ℕ) (b : Bool) → flags_at (cond b None (areas_of mid.spaces.processes q)) page ≡ option_map (λ (x : Page). x.flags)
           (cond b None (pages s.world q page))
       flagged q page true = refl
-      flagged q page false = ap (λ (x : AllSpaces). flags_at (areas_of x.processes q) page) (spaces-stay rest.parts)
+      flagged q page false = ap (λ (x : AllSpaces). flags_at (areas_of x.processes q) page) same_spaces
           ∙ keeps.stands.parts.areas.flags q page
 
   kept_now : (q page : ℕ) → IsKept (view old) d s.ledger (entry l (q, page)) (pages (end_process s.world p) q page)
@@ -366,8 +388,8 @@ module _ {d : Device} (old mid : Mem) (tables : ProcessTables) (spaces : AllSpac
     where
       has_as : (q : ℕ) (b : Bool) → cond b false (has mid.tables q) ≡ is_some (cond b None (ranges_of mid.spaces.processes q))
       has_as q true = refl
-      has_as q false = ap (λ (h : ℕ → Bool). h q) rest.parts.processes ∙ keeps.tables q
-          ∙ sym (ap (λ (x : AllSpaces). is_some (ranges_of x.processes q)) (spaces-stay rest.parts))
+      has_as q false = ap (λ (h : ℕ → Bool). h q) same_tables ∙ keeps.tables q
+          ∙ sym (ap (λ (x : AllSpaces). is_some (ranges_of x.processes q)) same_spaces)
 
   stands_now : HasLedger d new l
   stands_now = record {
@@ -402,13 +424,34 @@ module _ {d : Device} (old mid : Mem) (tables : ProcessTables) (spaces : AllSpac
       by true e = absurd (false≢true (sym (ap is_some (ap (λ n. entry l (n, k.1)) (is_number k.0 p e) ∙ entry-ended s.ledger p k.1)) ∙ there))
       by false e = is
 
+  -- nothing of it is locked, and it has no entries
+  locks_now : AreLocks (locks_of new) (end_process s.world p) l
+  locks_now = counted-off old s keeps new p 0 most (end_process s.world p) l
+      (λ f. counts f ∙ (λ i. sym rest.parts.locks i f + locks_in old p 0 most f))
+      (λ f. ap (λ c. c + lock_count_in s.world s.ledger p 0 most f) (locks-process (end_process s.world p) p s.ledger f bare)
+      ∙ range-all s.world (end_process s.world p) s.ledger p most f others bare (λ page there. below page there (cases_lt page most)))
+    where
+      bare : (page : ℕ) → is_locked_page (pages (end_process s.world p) p page) ≡ false
+      bare page = ap is_locked_page (pages-ended s.world p p page ∙ ap (λ b. cond b None (pages s.world p page)) (same-itself p))
+
+      others : (k : Key) → (k.0 == p) ≡ false → locked_at (end_process s.world p) k ≡ locked_at s.world k
+      others k other = ap is_locked_page (pages-ended s.world p k.0 k.1 ∙ ap (λ b. cond b None (pages s.world k.0 k.1)) other)
+
+      -- no page past those of a page table has an entry
+      below : (page : ℕ) → is_some (entry s.ledger (p, page)) ≡ true → (page < most) ⊎ (most ≤ page) → page < most
+      below page there (inl less) = less
+      below page there (inr past) = absurd (false≢true (sym (ap is_some (sym (keeps.stands.parts.ledger.tables.entries p page)
+          ∙ ap (λ e. entry_of (plain e)) (past_pages old.tables p page (omega (arith, past, high))))) ∙ there))
+
   pub exit-steps : StepsBeside d old new s (Exit p) reply
-  exit-steps = stepped old new s next (Exit p) reply keeps exit-step rest.parts.count (swap_alike old mid old new refl refl rest.parts.swap)
+  exit-steps = stepped old new s next (Exit p) reply keeps exit-step
+      (rest.parts.count ∙ ap (λ (v : View). v.frames) same.seen)
+      (swap_alike off mid old new (sym (ap (λ (k : Mem). k.swap) same.rest)) refl rest.parts.swap)
       stands_now refl
       exit-on (anons_stand d old s keeps spaces anons stay (with_at p none_on s.areas) exit-on new refl refl)
-      (λ f. ap (λ h. h f) rest.homes ∙ keeps.stands.homes f) (taken.items s.items keeps.stands.items)
+      (λ f. ap (λ h. h f) (rest.homes ∙ ap (λ (v : View). v.homes) same.seen) ∙ keeps.stands.homes f) (taken.items s.items keeps.stands.items)
       (reach_after old s keeps spaces anons stay l (with_at p none_on s.areas) exit-on homes_stay
       (zaps-reach s.ledger (rmap_of s) (keys_of_process s.ledger p) (reach_of old s keeps)))
       stay.fit areas_now has_now
-      (bytes-left d (view old) (view new) s.world (end_process s.world p) s.ledger l rest.bytes
-      (zaps-cached (setting_by d old) s.ledger (keys_of_process s.ledger p) keeps.stands.sound.ledger) keeps.stands.parts.bytes kept_now)
+      (bytes-left d (view old) (view new) s.world (end_process s.world p) s.ledger l (rest.bytes ∙ ap (λ (v : View). v.bytes) same.seen)
+      (zaps-cached (setting_by d old) s.ledger (keys_of_process s.ledger p) keeps.stands.sound.ledger) keeps.stands.parts.bytes kept_now) locks_now

@@ -1,9 +1,11 @@
 -- The protections and flags of a process's pages, and how the pages of a range go.
-use Rattle.std.specs.Prelude.{◌≡◌, ◌≢◌, ℕ, true, is_some, if◌then◌else◌, List, length, Option, None}
+use Rattle.std.specs.Prelude.{◌≡◌, ◌≢◌, ℕ, ◌+◌, true, is_some, if◌then◌else◌, List, length}
+use Rattle.std.specs.Prelude.{Option, None}
 use Rattle.std.specs.Prelude.{Some, false, IfSome, option_map}
 use Rattle.av_base.specs.declared.flags.Flags.{Flags}
 use Rattle.av_base.specs.declared.prot.Prot.{Prot}
 use Rattle.av_base.specs.Words.{with_at, within}
+use Rattle.av_pagetable.specs.Entries.{has}
 use Rattle.av_spaces.specs.Kin.{AnonsStay}
 use Rattle.av_spaces.specs.Spaces.{Spaces, areas_of, pages_of}
 use Rattle.av_vma.specs.Pages.{Effect, Pages, home_of}
@@ -13,8 +15,9 @@ use Rattle.av_plain.specs.Ledger.{Ledger}
 use Rattle.av_plain.specs.Event.{Event}
 use Rattle.av_plain.specs.Report.{AreApart}
 use Rattle.av_mem.specs.declared.mem.Mem.{Mem}
-use Rattle.av_mem.specs.Mem.{ranges_of}
-use Rattle.av_mem.specs.Steps.{KeepsRest}
+use Rattle.av_mem.specs.Locked.{locks_in}
+use Rattle.av_mem.specs.Mem.{locks_of, ranges_of, view}
+use Rattle.av_mem.specs.Steps.{KeepsSwap}
 use Rattle.av_mem.specs.Zap.{HasZapped}
 use Rattle.av_trace.specs.declared.note.Note.{Note}
 
@@ -60,8 +63,8 @@ HomesStay old new p from n = (page : ℕ) (home : ℕ × ℕ) → within from n 
     → home_of page (pages_of new p page) ≡ Some home
 
 -- the n pages of p from one on have gone, with their entries, by these events, whose notes were
--- added; its areas are these. The entries go first (`mid`); then areas and anon_vmas change, and
--- nothing else
+-- added; its areas are these, and so many fewer entries of locked pages are counted. What areas and
+-- anon_vmas have no part in stays
 pub record AreUnmapped (d : Device) (old new : Mem) (p page n : ℕ) (on : Pages) (l : Ledger)
     (events : List Event) (before now : List Note) : Type 0 where
   pub taken : HasZapped d old new l events before now
@@ -70,6 +73,8 @@ pub record AreUnmapped (d : Device) (old new : Mem) (p page n : ℕ) (on : Pages
   pub areas : GetsAreas old.spaces.processes new.spaces.processes p on
   pub anons : AnonsStay old.spaces old.anons new.spaces new.anons
   pub stay : HomesStay old.spaces.processes new.spaces.processes p page n
-  pub mid : Mem
-  pub rest : KeepsRest old mid
-  pub moved : new ≡ record mid { spaces = new.spaces; anons = new.anons }
+  pub locks : (f : ℕ) → locks_of old f ≡ locks_of new f + locks_in old p page n f
+  pub processes : has new.tables ≡ has old.tables
+  pub bytes : (view new).bytes ≡ (view old).bytes
+  pub homes : (view new).homes ≡ (view old).homes
+  pub swap : KeepsSwap old new

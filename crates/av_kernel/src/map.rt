@@ -17,7 +17,7 @@ ghost use Rattle.av_trace.specs.Reply.{IsCleared};
 ghost use Rattle.av_trace.specs.declared.command.Command.TheVariants as commands;
 
 use av_base::{PAGE_SIZE, Prot};
-use av_mem::{Mem, zap_range};
+use av_mem::{Mem, unlock_range, zap_range};
 use av_merge::Change;
 use av_place::{check_protect, find_place, is_no_range, is_too_long};
 use av_step::{Refusal, answer_with, check_lives};
@@ -149,6 +149,7 @@ fn unmap_pages(
         (zaps_of l (keys_in l process page pages)) notes.old notes.new) }
     ensures count { frame_count mem.new ≡ frame_count mem.old }
 {
+    unlock_range(mem, process, page, page + pages);
     zap_range(mem, process, page, page + pages, notes)?;
     mem.spaces.unmap(&mut mem.anons, process, page, pages)
 }

@@ -1,12 +1,14 @@
 //! The command `mremap`: a range of pages moves, shrinks or grows, with what it has.
 
+ghost use Rattle.std.specs.Prelude.{◌≡◌, ℕ, ◌+◌, ◌^◌, ◌<◌, ◌≤◌, ◌⊎◌};
+ghost use Rattle.av_kernel.specs.Lock.{locks_lost};
 ghost use Rattle.av_step.specs.Step.{DoesBeside, reply_in};
-ghost use Rattle.av_mem.specs.Mem.{IsSteady};
+ghost use Rattle.av_mem.specs.Mem.{IsSteady, locks_of, view};
 ghost use Rattle.av_trace.specs.Reply.{IsCleared};
 ghost use Rattle.av_trace.specs.declared.command.Command.TheVariants as commands;
 
 use av_base::PAGE_SIZE;
-use av_mem::Mem;
+use av_mem::{Mem, unlock_range};
 use av_mremap::{remap_areas, remap_entries};
 use av_place::{check_indices, check_remap, find_target, leaves_old};
 use av_step::{Refusal, answer_with, check_lives};
@@ -35,8 +37,28 @@ pub fn mremap(
     let to = find_target(&mem.spaces, process, from, pages, new_pages, mode)?;
     check_indices(&mem.spaces, process, from, pages, new_pages)?;
     let stays = leaves_old(mode);
+    unlock_lost(mem, process, from, pages, to, new_pages);
     remap_areas(mem, process, from, pages, to, new_pages, stays)?;
     remap_entries(mem, process, from, pages, to, new_pages, &mut reply.notes)?;
     answer_with(reply, Answer::MapAt(PAGE_SIZE * to));
     Ok(())
+}
+
+/// Takes the entries that go off the count of those of locked pages, while the areas still say
+/// which these are; an entry that moves keeps its lock.
+fn unlock_lost(mem: &mut Mem, process: u16, from: u64, pages: u64, to: u64, new_pages: u64)
+    requires steady { IsSteady mem.old }
+    requires few { from + pages < 2 ^ 64 }
+    requires new_few { from + new_pages < 2 ^ 64 }
+    requires new_range { (to ≡ from → ⊥) → to + new_pages < 2 ^ 64 }
+    requires apart { (to ≡ from → ⊥) → (to + new_pages ≤ from) ⊎ (from + pages ≤ to) }
+    ensures locks { (f : ℕ) → locks_of mem.old f
+        ≡ locks_of mem.new f + locks_lost mem.old process from pages to new_pages f }
+    ensures view { view mem.new ≡ view mem.old }
+    ensures rest { mem.new ≡ record mem.old { frames = mem.new.frames } }
+{
+    unlock_range(mem, process, from + new_pages, from + pages);
+    if to != from {
+        unlock_range(mem, process, to, to + new_pages);
+    }
 }

@@ -10,7 +10,7 @@ ghost use Rattle.av_trace.specs.declared.command.Command.TheVariants as commands
 
 use av_base::MOST_PROCESSES;
 use av_fork::{fork_areas, fork_entries};
-use av_mem::{Mem, zap_all};
+use av_mem::{Mem, unlock_range, zap_all};
 use av_spaces::Spaces;
 use av_step::{Refusal, answer_with, check_lives};
 use av_trace::{Answer, Errno, Reply};
@@ -76,6 +76,7 @@ pub fn exit(mem: &mut Mem, process: u16, reply: &mut Reply) -> Result<(), Refusa
     ensures { DoesBeside mem.old mem.new (commands.Exit process) (reply_in reply.new result) }
 {
     check_lives(mem, process)?;
+    unlock_range(mem, process, 0, u64::MAX);
     zap_all(mem, process, &mut reply.notes)?;
     mem.tables.exit(process);
     mem.spaces.exit(&mut mem.anons, process);

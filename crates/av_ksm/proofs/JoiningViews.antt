@@ -116,24 +116,5 @@ with-items k items same = record {
   lists = refl;
   items = same;
   swap = record { frames = refl; on = refl; bad = refl; closing = refl; priority = refl };
-}
-
-pub with-frames : (k : Mem) (frames : Store) → (shown frames).count ≡ (shown k.frames).count → KeepsParts k (record k { frames = frames })
-with-frames k frames same = record {
-  stay = refl;
-  processes = refl;
-  count = same;
-  lists = refl;
-  items = refl;
-  swap = record { frames = refl; on = refl; bad = refl; closing = refl; priority = refl };
-}
-
-pub with-tables : (k : Mem) (tables : ProcessTables) → has tables ≡ has k.tables → KeepsParts k (record k { tables = tables })
-with-tables k tables same = record {
-  stay = refl;
-  processes = same;
-  count = refl;
-  lists = refl;
-  items = refl;
-  swap = record { frames = refl; on = refl; bad = refl; closing = refl; priority = refl };
+  locks = refl;
 }

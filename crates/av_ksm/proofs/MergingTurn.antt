@@ -50,6 +50,23 @@ candidate-own w l k f is = by (entry l k) refl is
     by (Some (InSlot s)) at e = absurd (none-some f e)
     by (Some (InFrame g seen)) at e = tests g seen at (may_merge (pages w k.0 k.1)) (is_merged l g) refl (slot_of l g) refl (is_locked w l g) e
 
+-- and that isn't locked
+pub candidate-unlocked : (w : World) (l : Ledger) (k : Key) (f : ℕ) → candidate w l k ≡ Some f → is_locked w l f ≡ false
+candidate-unlocked w l k f is = by (entry l k) is
+  where
+    tests : (g : ℕ) (a b o c : Bool) → is_locked w l g ≡ c → cond (a && not b && o && not c) (Some g) None ≡ Some f → is_locked w l f ≡ false
+    tests g false b o c e i = absurd (none-some f i)
+    tests g true true o c e i = absurd (none-some f i)
+    tests g true false false c e i = absurd (none-some f i)
+    tests g true false true true e i = absurd (none-some f i)
+    tests g true false true false e i = ap (is_locked w l) (sym (some-is g f i)) ∙ e
+
+    by : (o : Option Entry) → candidate_by w l k o ≡ Some f → is_locked w l f ≡ false
+    by None i = absurd (none-some f i)
+    by (Some Zero) i = absurd (none-some f i)
+    by (Some (InSlot s)) i = absurd (none-some f i)
+    by (Some (InFrame g seen)) i = tests g (may_merge (pages w k.0 k.1)) (is_merged l g) (is_none (slot_of l g)) (is_locked w l g) refl i
+
 -- one that is known itself does nothing
 turn-none : (l : Ledger) (k : Key) (own f : ℕ) → (f == own) ≡ true → turn_notes l k own f ≡ []
 turn-none l k own f same = ap (λ b. cond b [] (cond (is_merged l f) (Joined k.0 (address_of k.1) f ∷ [])

@@ -22,12 +22,15 @@ use Rattle.av_plain.proofs.Sound.Sharing.{joined-kept, shared-kept}
 use Rattle.av_plain.proofs.Wrote.{device-itself, wrote-none}
 use Rattle.av_swap_laws.specs.Held.{Steps}
 use Rattle.av_swap_laws.proofs.Cache.{once-of}
+use Rattle.av_swap_laws.proofs.Locks.{locks-joined}
+use Rattle.av_swap_laws.specs.Locks.{AreLocks}
 use Rattle.av_mem.specs.declared.mem.Mem.{Mem}
 use Rattle.av_mem.specs.Between.{HasDone, KeepsBetween}
-use Rattle.av_mem.specs.Mem.{held_by, plain, setting_by, view}
+use Rattle.av_mem.specs.Mem.{held_by, locks_of, plain, setting_by, view}
 use Rattle.av_mem.specs.Steps.{KeepsParts}
 use Rattle.av_mem.proofs.HomeLaws.{root-is}
-use Rattle.av_mem.proofs.ServesLaws.{serves-note, setting-stays}
+use Rattle.av_mem.proofs.LockedLaws.{page-unlocked}
+use Rattle.av_mem.proofs.ServesLaws.{locks-stay, serves-note, setting-stays}
 use Rattle.av_ksm.specs.Join.{HasOwn, view_joined, view_shared}
 use Rattle.av_ksm.specs.Joining.{HasShared, item_by}
 use Rattle.av_ksm.proofs.JoinStep.{join-steps}
@@ -53,7 +56,8 @@ module _ (d : Device) (old new : Mem) (w : World) (r : Rmap) (l : Ledger) (h : K
       sound = subst (λ m. IsSound m (after_note (Shared f) l)) (sym (setting-stays old new parts d d (device-itself d)))
           (shared-kept m no_excuse l f h.sound (how_many-found (names_frame f) k l.entries (InFrame f shared.seen) here.names (same-itself f))
           (slot_of-none f l.cache own.uncached) (unmerged-none l f own.unmerged));
-      serves = serves-note old new d d None w w r l (Shared f) parts (device-itself d) h.sound.in_order (tt, tt) tt tt (sym still) h.serves steps;
+      serves = serves-note old new d d None w w r l (Shared f) parts (device-itself d) h.sound.in_order (tt, tt) tt tt (sym still)
+          (locks-stay old new w l (Shared f) parts refl h.serves.locks) h.serves steps;
     });
     free = (free_of (view new), steps.chosen, refl);
     same = device-itself d;
@@ -81,7 +85,7 @@ module _ (d : Device) (old new : Mem) (w : World) (r : Rmap) (l : Ledger) (h : K
   -- ---- a page joins it
 
   module _ (p f g : ℕ) (seen : Bool) (merged : is_merged l f ≡ true)
-      (same : (i : ℕ) → i < page_size → (view old).bytes f i ≡ (view old).bytes g i) where
+      (same : (i : ℕ) → i < page_size → (view old).bytes f i ≡ (view old).bytes g i) (unlocked : locks_of old g ≡ 0) where
     -- at the page of an address
     abbrev JoinDone : ℕ → ℕ → Type 0
     JoinDone a page = HasOwn l (p, page) g seen
@@ -95,7 +99,7 @@ module _ (d : Device) (old new : Mem) (w : World) (r : Rmap) (l : Ledger) (h : K
             (joined-kept m no_excuse l (p, page_of a) f g seen h.sound own.names apart (merged-some l f merged) (unmerged-none l g own.unmerged)
             (slot_of-none g l.cache own.uncached));
         serves = serves-note old new d d None w w r l (Joined p a f) parts (device-itself d) h.sound.in_order (tt, used)
-            (h.serves.at_pages p (page_of a) (ap is_some own.names)) tt (sym still) h.serves steps;
+            (h.serves.at_pages p (page_of a) (ap is_some own.names)) tt (sym still) locks-left h.serves steps;
       });
       free = (free_of (view new), steps.chosen, refl);
       same = device-itself d;
@@ -112,6 +116,11 @@ module _ (d : Device) (old new : Mem) (w : World) (r : Rmap) (l : Ledger) (h : K
             by : (b : Bool) → (f == g) ≡ b → b ≡ false
             by true e = absurd (false≢true (sym own.unmerged ∙ ap (is_merged l) (sym (same-is f g e)) ∙ merged))
             by false e = refl
+
+        -- the page isn't locked
+        locks-left : AreLocks (locks_of old) w (after_note (Joined p a f) l)
+        locks-left x = h.serves.locks x ∙ sym (locks-joined w p a f l x h.sound.in_order
+            (page-unlocked w l p (page_of a) g seen h.sound.in_order (sym (h.serves.locks g) ∙ unlocked) own.names))
 
         used : 0 < uses l f
         used = let some = merged-some l f merged in let n = h.sound.merged f in omega (arith, some, n)

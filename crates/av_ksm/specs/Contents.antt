@@ -46,7 +46,8 @@ pub record AreKept (n : ℕ) (held : FrameBytes) (known : List Known) (c : Conte
   pub rising : AreRising held c.row.items
   pub row_noted : EachIndex c.row.items (λ i. IsSome (noted c (slice_index c.row.items i)))
   -- what holds the same as none of them holds the same as none that is known
-  pub whole : (f : ℕ) → EachIndex c.row.items (λ i. hold_same held (slice_index c.row.items i) f ≡ false)
+  pub whole : (f : ℕ)
+      → EachIndex c.row.items (λ i. hold_same held (slice_index c.row.items i) f ≡ false)
       → first_like held known f ≡ None
 
 -- something is

@@ -18,7 +18,7 @@ ghost use Rattle.av_plain.specs.Ledger.{Ledger, is_merged};
 ghost use Rattle.av_plain.specs.World.{World};
 ghost use Rattle.av_mem.specs.Between.{HasDone, KeepsBetween};
 ghost use Rattle.av_mem.specs.Entries.{NamesFrame};
-ghost use Rattle.av_mem.specs.Mem.{frame_count, view, HasItems, HasLists};
+ghost use Rattle.av_mem.specs.Mem.{frame_count, locks_of, view, HasItems, HasLists};
 ghost use Rattle.av_mem.specs.Steps.{KeepsParts};
 ghost use Rattle.av_ksm.specs.Join.{HasOwn, view_joined, view_with_item};
 ghost use Rattle.av_ksm.specs.Joining.{item_by, HasShared};
@@ -70,6 +70,7 @@ pub fn join(
     requires itemed { HasItems mem.old }
     requires in_range { (own < frame_count mem.old) × (frame < frame_count mem.old) }
     requires rooted { ForSome home (λ home. IsSome (info_of mem.old.anons home.0)) }
+    requires unlocked { locks_of mem.old own ≡ 0 }
     ensures joined { OnOk result (view mem.new
         ≡ view_joined key.0 key.1 frame own (item_by mem.old home) (view mem.old)) }
     ensures none { OnErr result (view mem.new ≡ view mem.old) }

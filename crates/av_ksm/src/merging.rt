@@ -11,7 +11,7 @@ ghost use Rattle.av_plain.specs.Ledger.{Ledger, is_merged};
 ghost use Rattle.av_plain.specs.Merge.{merges};
 ghost use Rattle.av_plain.specs.World.{World};
 ghost use Rattle.av_mem.specs.Between.{HasBetween, KeepsBetween};
-ghost use Rattle.av_mem.specs.Mem.{frame_count, setting_by, view};
+ghost use Rattle.av_mem.specs.Mem.{frame_count, locks_of, setting_by, view};
 ghost use Rattle.av_mem.specs.Steps.{KeepsParts};
 ghost use Rattle.av_ksm.specs.Known.{turn_notes};
 ghost use Rattle.av_ksm.specs.Merging.{HasNoted, HasOther, HasTurned, IsAware, IsReady, MayTurn};
@@ -32,8 +32,8 @@ use std::alloc::{AllocError, Global};
 /// frame that is merged and of each page that joins one is added.
 ///
 /// Where no area is mergeable it costs nothing. Else it costs a step for each frame and each page
-/// with an entry, the reading of the bytes of each candidate's frame once, and each candidate's walk
-/// where an area is locked. Without memory part of the pages may have had their turn.
+/// with an entry, and the reading of the bytes of each candidate's frame once. Without memory part
+/// of the pages may have had their turn.
 pub fn merge_pages(mem: &mut Mem, alloc: Global, notes: &mut Notes) -> Result<(), AllocError>
     requires { HasBetween mem.old }
     ensures merges { OnOk result ((d : Device) (w : World) (r : Rmap) (l : Ledger)
@@ -107,7 +107,8 @@ fn join_like(
     page: Option<(u16, u64)>,
     notes: &mut Notes,
 ) -> Result<(), AllocError>
-    requires { StandsSo mem.old (λ _ l. HasOther l key own frame × IsReady l frame page) }
+    requires stands { StandsSo mem.old (λ _ l. HasOther l key own frame × IsReady l frame page) }
+    requires unlocked { locks_of mem.old own ≡ 0 }
     ensures joins { OnOk result ((d : Device) (w : World) (r : Rmap) (l : Ledger)
         → KeepsBetween d mem.old w r l → HasOther l key own frame → IsReady l frame page
         → ((i : ℕ) → i < page_size → (view mem.old).bytes frame i ≡ (view mem.old).bytes own i)
@@ -152,8 +153,9 @@ fn join_merged(
     frame: u32,
     notes: &mut Notes,
 ) -> Result<(), AllocError>
-    requires { StandsSo mem.old (λ _ l. HasOther l key own frame
+    requires stands { StandsSo mem.old (λ _ l. HasOther l key own frame
         × (is_merged l frame ≡ true)) }
+    requires unlocked { locks_of mem.old own ≡ 0 }
     ensures joins { OnOk result ((d : Device) (w : World) (r : Rmap) (l : Ledger)
         → KeepsBetween d mem.old w r l → HasOther l key own frame → is_merged l frame ≡ true
         → ((i : ℕ) → i < page_size → (view mem.old).bytes frame i ≡ (view mem.old).bytes own i)

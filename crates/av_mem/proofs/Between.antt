@@ -6,6 +6,7 @@ use Rattle.std.specs.Prelude.{slice_index}
 use Rattle.av_base.specs.Page.{page_size}
 use Rattle.av_base.specs.declared.slot.Slot.{Slot}
 use Rattle.av_spaces.specs.Kin.{AnonsFit}
+use Rattle.av_swap_laws.specs.Locks.{AreLocks}
 use Rattle.av_swapdev.specs.Header.{Layout}
 use Rattle.av_plain.specs.Areas.{Rmap}
 use Rattle.av_plain.specs.Device.{Device, IsSameDevice, as_told, device_by, headers_of, setting_of, Calls}
@@ -17,8 +18,8 @@ use Rattle.av_plain.specs.Transcript.{State, rmap_of}
 use Rattle.av_plain.specs.World.{Page, World, pages}
 use Rattle.av_plain.proofs.Device.{setting_same}
 use Rattle.av_mem.specs.declared.mem.Mem.{Mem}
-use Rattle.av_mem.specs.Mem.{HasItems, HasLists, HasTables, Keeps, SwapFits, frame_count, held_by, setting_by, view}
-use Rattle.av_mem.specs.Steps.{KeepsParts}
+use Rattle.av_mem.specs.Mem.{HasItems, HasLists, HasTables, Keeps, SwapFits, frame_count, held_by, locks_of, setting_by, view}
+use Rattle.av_mem.specs.Steps.{KeepsBut}
 use Rattle.av_mem.proofs.KeepsLaws.{keeps-serves}
 use Rattle.av_mem.proofs.ServesLaws.{anons-fit, lists-fit, swap-fits, tables-fit}
 use Rattle.av_mem.specs.Between.{IsBetween, KeepsBetween}
@@ -52,11 +53,12 @@ module _ (d : Device) (k : Mem) (w : World) (r : Rmap) (l : Ledger) where
   pub to-fit : KeepsBetween d k w r l → PartsFit d k
   to-fit h = record { lists = h.serves.lists; items = h.serves.items; tables = h.serves.tables; fit = h.serves.fit; swap = h.serves.swap }
 
-  pub of-amid : Amid (setting_by d k) (held_by d k w r l) → PartsFit d k → KeepsBetween d k w r l
-  of-amid a f = record {
+  pub of-amid : Amid (setting_by d k) (held_by d k w r l) → PartsFit d k → AreLocks (locks_of k) w l → KeepsBetween d k w r l
+  of-amid a f locks = record {
     sound = a.sound;
     serves = record {
       held = a.held;
+      locks = locks;
       areas = a.areas;
       are = a.are;
       anons = a.anons;
@@ -83,7 +85,7 @@ pub setting-stays : (d d' : Device) (old new : Mem) → IsSameDevice d d' → fr
 setting-stays d d' old new same count = ap (λ n. setting_of n d') count ∙ setting_same (frame_count old) d d' same
 
 -- where nothing changes beside the view, the parts fit still
-pub fit-stays : (d d' : Device) (old new : Mem) → IsSameDevice d d' → KeepsParts old new → PartsFit d old → PartsFit d' new
+pub fit-stays : {counts : ℕ → ℕ} (d d' : Device) (old new : Mem) → IsSameDevice d d' → KeepsBut counts old new → PartsFit d old → PartsFit d' new
 fit-stays d d' old new same parts h = record {
   lists = lists-fit old new parts h.lists;
   items = parts.items ∙ h.items ∙ sym parts.count;
@@ -167,6 +169,7 @@ module _ (d : Device) (k : Mem) (w : World) (r : Rmap) (l : Ledger) (n : Calls) 
         homes = h.serves.held.homes;
         items = h.serves.held.items;
       };
+      locks = h.serves.locks;
       areas = h.serves.areas;
       are = h.serves.are;
       anons = h.serves.anons;

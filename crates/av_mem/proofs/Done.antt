@@ -11,7 +11,8 @@ use Rattle.av_plain.specs.World.{World}
 use Rattle.av_plain.proofs.Access.{after_all-append, chooses-append, notes_of-append}
 use Rattle.av_plain.proofs.AreasLeft.{rmap_after_all-append}
 use Rattle.av_mem.specs.declared.mem.Mem.{Mem}
-use Rattle.av_mem.specs.Mem.{frame_count, held_by, setting_by, view}
+use Rattle.av_mem.specs.Mem.{frame_count, held_by, locks_of, setting_by, view}
+use Rattle.av_swap_laws.specs.Locks.{AreLocks}
 use Rattle.av_mem.specs.Between.{HasDone, KeepsBetween}
 use Rattle.av_mem.proofs.Amid.{Amid}
 use Rattle.av_mem.proofs.Between.{PartsFit, of-amid, setting-stays}
@@ -40,11 +41,11 @@ pub done-by : (d d' : Device) (old new : Mem) (w w' : World) (r r' : Rmap) (l l'
     → w' ≡ with_loads (setting_by d old) w l events → r' ≡ rmap_after_all l events r → l' ≡ after_all l events
     → IsSameDevice d d' → Wrote (pages_written (notes_of events)) d.history d'.history
     → frame_count new ≡ frame_count old → Amid (setting_by d old) (held_by d' new w' r' l') → PartsFit d' new
-    → ChoosesAll (setting_by d old) None l events (free_of (view old)) (free_of (view new)) → HasDone d d' old new w r l events
-done-by d d' old new w w' r r' l l' events world rmap ledger same wrote count amid fit chosen = record {
+    → AreLocks (locks_of new) w' l' → ChoosesAll (setting_by d old) None l events (free_of (view old)) (free_of (view new)) → HasDone d d' old new w r l events
+done-by d d' old new w w' r r' l l' events world rmap ledger same wrote count amid fit locks chosen = record {
   between = subst (λ x. KeepsBetween d' new x (rmap_after_all l events r) (after_all l events)) world
       (subst (λ x. KeepsBetween d' new w' x (after_all l events)) rmap (subst (KeepsBetween d' new w' r') ledger
-      (of-amid d' new w' r' l' (subst (λ m. Amid m (held_by d' new w' r' l')) (sym (setting-stays d d' old new same count)) amid) fit)));
+      (of-amid d' new w' r' l' (subst (λ m. Amid m (held_by d' new w' r' l')) (sym (setting-stays d d' old new same count)) amid) fit locks)));
   free = chosen;
   same = same;
   wrote = wrote;

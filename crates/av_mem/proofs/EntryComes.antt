@@ -4,18 +4,21 @@ use Rattle.av_base.specs.Words.{is_in, with_at, without}
 use Rattle.av_frames.specs.Store.{Shown, Store, shown as shown_frames, with_bytes, with_home, with_maps}
 use Rattle.av_lru.specs.Lists.{without_frame}
 use Rattle.av_pagetable.specs.declared.pte.Pte.TheVariants.{Here}
-use Rattle.av_pagetable.specs.Entries.{entry_at, with_entry}
+use Rattle.av_pagetable.specs.Entries.{ProcessTables, entry_at, has, with_entry}
 use Rattle.av_rmap.specs.Items.{shown as shown_items}
 use Rattle.av_swapcache.specs.Swap.{shown as shown_swap}
 use Rattle.av_plain.specs.Ledger.{InFrame}
 use Rattle.av_plain.specs.Stands.{Pte as Plain, View}
-use Rattle.av_plain.proofs.Sound.Counts.{same-is}
+use Rattle.av_plain.proofs.Sound.Counts.{same-is, same-itself}
 use Rattle.std.proofs.lemmas.Bool.Decides.{nat_tests}
 use Rattle.av_swap_laws.specs.Steps.{view_copy, view_copy_last, view_freed, view_new, view_seen, with_pte}
 use Rattle.av_mem.specs.declared.mem.Mem.{Mem}
 use Rattle.av_mem.specs.Entries.{HasFree, view_copied, view_settled, view_taken}
-use Rattle.av_mem.specs.Mem.{view, view_of_parts}
+use Rattle.av_mem.specs.Locked.{AreFew}
+use Rattle.av_mem.specs.Mem.{frame_count, locks_of, view, view_of_parts}
+use Rattle.av_mem.specs.Steps.{KeepsParts}
 use Rattle.av_mem.proofs.MemLaws.{plain_set}
+use Rattle.av_mem.proofs.StayLaws.{parts-then}
 use Rattle.av_mem.proofs.StepLaws.{SameRest, view-by}
 
 -- ---- the first free frame is taken
@@ -109,6 +112,35 @@ without-twice f g (x ∷ xs) = pushed (λ h. not (f == h)) x (without g xs) (not
     by true false h = h
     by false true h = h
     by false false h = h
+
+-- no entry of a locked page names a frame that is taken
+pub taken-unlocked : (k : Mem) (f : ℕ) → HasFree k → AreFew k → (left : List ℕ) → (view k).free ≡ f ∷ left → locks_of k f ≡ 0
+taken-unlocked k f free few left first =
+    let none = free.unmapped f (ap (is_in f) first ∙ ap (λ b. b || is_in f left) (same-itself f)) in
+    let most = few f in
+    omega (arith, none, most)
+
+-- what stays where frames and tables change, and the counts of locks don't
+pub parts-with : (k : Mem) (frames : Store) (tables : ProcessTables) → (shown_frames frames).count ≡ frame_count k → (shown_frames frames).locks ≡ locks_of k
+    → has tables ≡ has k.tables → KeepsParts k (record k { frames = frames; tables = tables })
+parts-with k frames tables count locks processes = record {
+  stay = refl;
+  processes = processes;
+  count = count;
+  lists = refl;
+  items = refl;
+  swap = record { frames = refl; on = refl; bad = refl; closing = refl; priority = refl };
+  locks = locks;
+}
+
+-- so it is over a copy
+pub copy-parts : (old mid : Mem) (fewer copied : Store) (tables : ProcessTables) (new : Mem) (g n : ℕ)
+    → shown_frames fewer ≡ with_maps g n (shown_frames old.frames) → KeepsParts (record old { frames = fewer }) mid
+    → (f h : ℕ) → shown_frames copied ≡ with_bytes f ((shown_frames mid.frames).bytes h) (shown_frames mid.frames) → has tables ≡ has mid.tables
+    → KeepsParts (record mid { frames = copied; tables = tables }) new → KeepsParts old new
+copy-parts old mid fewer copied tables new g n less taken f h copy processes settled =
+    parts-then (parts-with old fewer old.tables (ap (λ (s : Shown). s.count) less) (ap (λ (s : Shown). s.locks) less) refl)
+    (parts-then taken (parts-then (parts-with mid copied tables (ap (λ (s : Shown). s.count) copy) (ap (λ (s : Shown). s.locks) copy) processes) settled))
 
 -- the frame that was copied is another one than the copy
 pub copied-other : (v : View) (f g : ℕ) → 0 < v.maps g → v.maps f ≡ 0 → (g == f) ≡ false

@@ -35,6 +35,7 @@ keeps-serves d k s keeps = let stands = keeps.stands in record {
     homes = stands.homes;
     items = stands.items;
   };
+  locks = keeps.locks;
   areas = stands.parts.areas;
   are = stands.areas;
   anons = stands.anons;
@@ -68,6 +69,7 @@ serves-keeps d k w r l sound serves = record {
     slots = serves.held.covered.slots;
     merged = serves.held.covered.merged;
   };
+  locks = serves.locks;
   lists = serves.lists;
   items = serves.items;
   tables = serves.tables;
@@ -108,6 +110,7 @@ keeps-whenever sizes pages n n' k s h = let stands = h.stands in record {
     slots = stands.slots;
     merged = stands.merged;
   };
+  locks = h.locks;
   lists = h.lists;
   items = h.items;
   tables = h.tables;
@@ -128,6 +131,7 @@ serves-whenever sizes pages n n' closing k w r l h = record {
     homes = h.held.homes;
     items = h.held.items;
   };
+  locks = h.locks;
   areas = h.areas;
   are = h.are;
   anons = h.anons;

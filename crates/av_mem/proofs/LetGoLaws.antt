@@ -42,6 +42,7 @@ rest-none k = record {
     lists = refl;
     items = refl;
     swap = record { frames = refl; on = refl; bad = refl; closing = refl; priority = refl };
+    locks = refl;
   };
   bytes = refl;
   homes = refl;
@@ -57,6 +58,7 @@ rest-tables k tables same = record {
     lists = refl;
     items = refl;
     swap = record { frames = refl; on = refl; bad = refl; closing = refl; priority = refl };
+    locks = refl;
   };
   bytes = refl;
   homes = refl;

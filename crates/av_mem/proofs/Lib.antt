@@ -15,8 +15,8 @@ pub mod EntryComes
 pub mod EntryCounts
 pub mod ItemLaws
 pub mod LockedLaws
-pub mod Locks
-pub mod LockedFrames
+pub mod MergedLaws
+mod LockRuns
 pub mod PagesGone
 pub mod ZapRange
 pub mod EntryGoes
@@ -29,3 +29,4 @@ pub mod ComingBack
 pub mod Amid
 pub mod Between
 pub mod Done
+pub mod LocksCome

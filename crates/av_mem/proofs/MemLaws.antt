@@ -249,6 +249,7 @@ fresh-keeps d frames lists items tables spaces anons swap n is unlisted unmerged
     slots = slots-first m;
     merged = merged-first m;
   };
+  locks = λ f. ap (λ (s : Shown). s.locks f) is;
   lists = ap (λ (ls : Lists). ls.frames) unlisted ∙ sym (ap (λ (s : Shown). s.count) is);
   items = ap (λ (x : ShownItems). x.frames) unmerged ∙ sym (ap (λ (s : Shown). s.count) is);
   tables = λ p. none p ∙ sym (ap (λ (s : Spaces). is_some (ranges_of s p)) empty);

@@ -1,5 +1,5 @@
 -- What the memory system serves after an event that changes no areas: by the law of the event, and by what the code left as it was.
-use Rattle.std.proofs.Common.{◌≡◌, ℕ, ◌≤◌, T, Bool, List, [], ◌∷◌, Option, Some, None, is_some, IfSome, IsSomeAnd, refl, sym, ap, subst, ◌∙◌}
+use Rattle.std.proofs.Common.{◌≡◌, ℕ, ◌≤◌, T, Bool, true, List, [], ◌∷◌, Option, Some, None, is_some, IfSome, IsSomeAnd, refl, sym, ap, subst, ◌∙◌}
 use Rattle.std.specs.Prelude.{not, option_map, option_and_then}
 use Rattle.std.specs.FinMap.Entries.{find, is_sorted}
 use Rattle.std.specs.Ordering.{nat_cmp}
@@ -28,9 +28,11 @@ use Rattle.av_plain.proofs.Sound.There.{NoNew, lawful-no_new, there-by}
 use Rattle.av_spaces.specs.Kin.{AnonsFit}
 use Rattle.av_spaces.specs.Spaces.{AllSpaces, areas_of}
 use Rattle.av_swap_laws.specs.Held.{IsHeld, Steps}
+use Rattle.av_swap_laws.specs.Locks.{AreLocks}
+use Rattle.av_swap_laws.proofs.Locks.{keeps_names, locks-loads, locks-noted}
 use Rattle.av_swapcache.specs.Swap.{shown as shown_swap}
-use Rattle.av_mem.specs.Mem.{AgreesWith, AreByHeaders, HasLists, HasTables, Serves, SwapFits, anons_of, frame_count, held_by, ranges_of, setting_by, view}
-use Rattle.av_mem.specs.Steps.{KeepsParts}
+use Rattle.av_mem.specs.Mem.{AgreesWith, AreByHeaders, HasLists, HasTables, Serves, SwapFits, anons_of, frame_count, held_by, locks_of, ranges_of, setting_by, view}
+use Rattle.av_mem.specs.Steps.{KeepsBut, KeepsParts}
 use Rattle.av_mem.specs.declared.mem.Mem.{Mem}
 use Rattle.av_mem.proofs.StayLaws.{anons-stay, spaces-stay}
 
@@ -47,7 +49,7 @@ same-setting frames d d' same = λ i. record { frames = frames; sizes = same.siz
 
 -- ---- the parts that stay
 
-module _ (old new : Mem) (parts : KeepsParts old new) where
+module _ {counts : ℕ → ℕ} (old new : Mem) (parts : KeepsBut counts old new) where
   same_areas : (view new).areas ≡ (view old).areas
   same_areas = ap (λ (s : AllSpaces). areas_of s.processes) (spaces-stay parts)
 
@@ -107,14 +109,16 @@ module _ (old new : Mem) (parts : KeepsParts old new) where
 
   pub serves-after : (d d' : Device) (closing : Option ℕ) (w w' : World) (r r' : Rmap) (l : Ledger) (e : Event) → IsSameDevice d d'
       → T (is_sorted key_cmp l.entries) → IsLawfulEvent (setting_by d old) closing l e → NoNew (setting_by d old) l (after l e)
-      → IsTidy w' → AtPages w' (after l e) → r'.areas ≡ r.areas → r'.anons ≡ r.anons → Serves d closing old w r l
+      → IsTidy w' → AtPages w' (after l e) → r'.areas ≡ r.areas → r'.anons ≡ r.anons → AreLocks counts w' (after l e)
+      → Serves d closing old w r l
       → Steps (setting_by d old) closing e (held_by d old w r l) (held_by d' new w' r' (after l e))
       → Serves d' closing new w' r' (after l e)
-  serves-after d d' closing w w' r r' l e same sorted lawful none_new tidy at_pages areas anons h step =
+  serves-after d d' closing w w' r r' l e same sorted lawful none_new tidy at_pages areas anons locks h step =
       let m = setting_by d old in
       let is = setting-stays d d' same in
       record {
         held = subst (λ m. IsHeld m (held_by d' new w' r' (after l e))) (sym is) step.held;
+        locks = λ f. ap (λ (locks : ℕ → ℕ). locks f) parts.locks ∙ locks f;
         areas = step.areas h.areas;
         are = λ p page. ap (λ areas. pages_in (areas p) page) same_areas ∙ h.are p page ∙ ap (λ (on : Areas). on p page) (sym areas);
         anons = subst (AnonsStand (view new) r'.areas) (sym anons) (subst (λ on. AnonsStand (view new) on r.anons) (sym areas) (record {
@@ -168,12 +172,14 @@ same-areas-of l (Joined p a f) r h = (refl, refl)
 same-areas-of l (Moved from to) r h = (refl, refl)
 
 -- the memories, and the areas, anon_vmas and homes, are what the note makes of them
-pub serves-note : (old new : Mem) (d d' : Device) (closing : Option ℕ) (w w' : World) (r : Rmap) (l : Ledger) (note : Note) → KeepsParts old new
+pub serves-note : {counts : ℕ → ℕ} (old new : Mem) (d d' : Device) (closing : Option ℕ) (w w' : World) (r : Rmap) (l : Ledger) (note : Note)
+    → KeepsBut counts old new
     → IsSameDevice d d' → T (is_sorted key_cmp l.entries) → IsLawfulEvent (setting_by d old) closing l (Noted note) → Brings (is_mapped w) note
-    → PreparesNone note → w' ≡ with_loads (setting_by d old) w l (Noted note ∷ []) → Serves d closing old w r l
+    → PreparesNone note → w' ≡ with_loads (setting_by d old) w l (Noted note ∷ []) → AreLocks counts w (after_note note l)
+    → Serves d closing old w r l
     → Steps (setting_by d old) closing (Noted note) (held_by d old w r l) (held_by d' new w' (rmap_after_note l note r) (after_note note l))
     → Serves d' closing new w' (rmap_after_note l note r) (after_note note l)
-serves-note old new d d' closing w w' r l note parts same sorted lawful brings still loads h step =
+serves-note {counts = counts} old new d d' closing w w' r l note parts same sorted lawful brings still loads locks h step =
     let m = setting_by d old in
     let areas = same-areas-of l note r still in
     serves-after old new parts d d' closing w w' r (rmap_after_note l note r) l (Noted note) same sorted lawful
@@ -181,4 +187,10 @@ serves-note old new d d' closing w w' r l note parts same sorted lawful brings s
     (subst IsTidy (sym loads) (tidy-loads m w l (Noted note ∷ []) h.tidy))
     (λ p page is. ap (λ w. is_some (pages w p page)) loads ∙ map_count-loads m w l (Noted note ∷ []) p page
     ∙ noted-at (is_mapped w) l note brings (λ k. h.at_pages k.0 k.1) (p, page) is)
-    areas.0 areas.1 h step
+    areas.0 areas.1 (subst (λ w. AreLocks counts w (after_note note l)) (sym loads)
+    (λ f. locks f ∙ sym (locks-loads m w l (after_note note l) (Noted note ∷ []) f))) h step
+
+-- where the note changes no frame that an entry names, the counts stay
+pub locks-stay : (old new : Mem) (w : World) (l : Ledger) (note : Note) → KeepsParts old new → keeps_names note ≡ true
+    → AreLocks (locks_of old) w l → AreLocks (locks_of old) w (after_note note l)
+locks-stay old new w l note parts keeps h = λ f. h f ∙ sym (locks-noted w note l f keeps)

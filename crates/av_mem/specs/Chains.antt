@@ -8,7 +8,6 @@ use Rattle.av_pagetable.specs.Entries.{entry_at}
 use Rattle.av_rmap.specs.Covered.{IsCoveredFrom}
 use Rattle.av_rmap.specs.View.{View, view_with}
 use Rattle.av_rmap.specs.Items.{AreCovered, is_merged}
-use Rattle.av_rmap.specs.Locked.{IsLocked}
 use Rattle.av_rmap.specs.Walk.{HasSoMany, names_frame, names_slot}
 use Rattle.av_spaces.specs.Spaces.{AreNumbered}
 use Rattle.av_vma.specs.Areas.{area_of}
@@ -41,11 +40,6 @@ places k f =
 -- each entry that names the frame is reached from there
 abbrev pub AreFound : Mem → ℕ → Type 0
 AreFound k f = AreNumbered k.spaces → AreCovered (reach k) (names_frame f) (places k f)
-
--- a page of the frame's is locked
-abbrev pub HasLocked : Mem → ℕ → Type 0
-HasLocked k f = (key : Key) × (names_frame f (entry_at k.tables key.0 key.1) ≡ true)
-    × IsLocked (reach k) key.0 key.1
 
 -- as many entries name the frame as its map count says
 abbrev pub AreCounted : Mem → ℕ → Type 0

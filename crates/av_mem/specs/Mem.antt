@@ -19,6 +19,7 @@ use Rattle.av_frames.specs.Store.{Shown, shown}
 use Rattle.av_lru.specs.Lists.{Lists}
 use Rattle.av_rmap.specs.Items.{Shown as ShownItems, shown as shown_items}
 use Rattle.av_swap_laws.specs.Held.{Held, IsHeld}
+use Rattle.av_swap_laws.specs.Locks.{AreLocks}
 use Rattle.av_swapcache.specs.Swap.{HasAreas, Shown as ShownSwap, header_at, shown as shown_swap}
 use Rattle.av_swapdev.specs.Header.{Layout}
 use Rattle.av_swapdev.specs.declared.header.Header.{Header}
@@ -89,6 +90,10 @@ view k = view_of_parts (shown k.frames) k.lists (shown_items k.items)
 abbrev pub frame_count : Mem → ℕ
 frame_count k = (shown k.frames).count
 
+-- how many entries of locked pages name each frame
+abbrev pub locks_of : Mem → ℕ → ℕ
+locks_of k = (shown k.frames).locks
+
 -- what does not change in a run over this device
 abbrev pub setting_by : Device → Mem → Setting
 setting_by d k = setting_of (frame_count k) d
@@ -130,9 +135,11 @@ pub record SwapFits (d : Device) (closing : Option ℕ) (k : Mem) : Type 0 where
   pub by_headers : AreByHeaders (headers_of d) (shown_swap k.swap)
 
 -- the memory system over this device stands for the memories, the ledger, what is free, the areas,
--- the anon_vmas, among which there is chain order, and the homes and items
+-- the anon_vmas, among which there is chain order, and the homes and items; and the entries of
+-- locked pages are counted
 pub record Keeps (d : Device) (k : Mem) (s : State) : Type 0 where
   pub stands : Stands (setting_by d k) (view k) d s
+  pub locks : AreLocks (locks_of k) s.world s.ledger
   pub lists : HasLists k
   pub items : HasItems k
   pub tables : HasTables k
@@ -191,6 +198,7 @@ held_by d k w r l = record { view = view k; device = d; world = w; ledger = l; r
 pub record Serves (d : Device) (closing : Option ℕ) (k : Mem) (w : World) (r : Rmap) (l : Ledger)
     : Type 0 where
   pub held : IsHeld (setting_by d k) (held_by d k w r l)
+  pub locks : AreLocks (locks_of k) w l
   pub areas : AreasStand (view k) w
   pub are : AreasAre (view k) r.areas
   pub anons : AnonsStand (view k) r.areas r.anons

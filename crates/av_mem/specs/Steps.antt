@@ -1,10 +1,10 @@
 -- What a step of the memory system leaves as it was.
-use Rattle.std.specs.Prelude.{◌≡◌}
+use Rattle.std.specs.Prelude.{◌≡◌, ℕ}
 use Rattle.av_pagetable.specs.Entries.{has}
 use Rattle.av_rmap.specs.Items.{shown as shown_items}
 use Rattle.av_swapcache.specs.Swap.{shown}
 use Rattle.av_mem.specs.declared.mem.Mem.{Mem}
-use Rattle.av_mem.specs.Mem.{frame_count, view}
+use Rattle.av_mem.specs.Mem.{frame_count, locks_of, view}
 
 -- which swap areas are on, with their bad pages and priorities, and which is closing
 pub record KeepsSwap (old new : Mem) : Type 0 where
@@ -15,8 +15,9 @@ pub record KeepsSwap (old new : Mem) : Type 0 where
   pub priority : (shown new.swap).priority ≡ (shown old.swap).priority
 
 -- all but the parts that `stay` names, so today the areas and the anon_vmas; and of those that it
--- names: which processes have a table, the number of frames, and of swap which areas are on
-pub record KeepsParts (old new : Mem) : Type 0 where
+-- names: which processes have a table, the number of frames, and of swap which areas are on. These
+-- are then the counts of the entries of locked pages
+pub record KeepsBut (counts : ℕ → ℕ) (old new : Mem) : Type 0 where
   pub stay : new ≡ record old {
     frames = new.frames;
     tables = new.tables;
@@ -29,6 +30,11 @@ pub record KeepsParts (old new : Mem) : Type 0 where
   pub lists : new.lists.frames ≡ old.lists.frames
   pub items : (shown_items new.items).frames ≡ (shown_items old.items).frames
   pub swap : KeepsSwap old new
+  pub locks : locks_of new ≡ counts
+
+-- the counts are as they were, too
+abbrev pub KeepsParts : Mem → Mem → Type 0
+KeepsParts old new = KeepsBut (locks_of old) old new
 
 -- these, and the bytes and the homes of the frames
 pub record KeepsRest (old new : Mem) : Type 0 where

@@ -10,8 +10,9 @@ ghost use Rattle.av_swapcache.specs.Swap.{HasAreas, IsUncached, is_flying};
 ghost use Rattle.av_swapcache.specs.Swap.{shown as shown_swap};
 ghost use Rattle.av_spaces.specs.Kin.{info_of};
 ghost use Rattle.av_mem.specs.Cache.{Ends, Loads, Puts, home_by};
-ghost use Rattle.av_mem.specs.Mem.{HasItems, HasLists, HasRoom, frame_count, view};
-ghost use Rattle.av_mem.specs.Steps.{KeepsParts};
+ghost use Rattle.av_mem.specs.Locked.{AreFew, locks_more};
+ghost use Rattle.av_mem.specs.Mem.{HasItems, HasLists, HasRoom, frame_count, locks_of, view};
+ghost use Rattle.av_mem.specs.Steps.{KeepsBut, KeepsParts};
 
 use crate::mem::Mem;
 use av_base::Slot;
@@ -149,8 +150,10 @@ impl Mem {
         requires cached { (view self.old).find slot ≡ Some frame }
         requires named { 0 < (view self.old).entries slot }
         requires few { (view self.old).maps frame < 2 ^ 64 - 1 }
+        requires locks { AreFew self.old }
         ensures mapped { view self.new ≡ view_map process page frame slot (view self.old) }
-        ensures parts { KeepsParts self.old self.new }
+        ensures parts { KeepsBut (locks_more self.old (process, page) frame (locks_of self.old))
+            self.old self.new }
     {
         let entry = Pte::Here {
             frame,
@@ -160,5 +163,6 @@ impl Mem {
         self.tables.change(process, page, entry);
         self.frames.map_up(frame);
         self.swap.entry_down(slot, 1);
+        self.lock_up((process, page), frame);
     }
 }

@@ -17,8 +17,9 @@ ghost use Rattle.av_mem.specs.Entries.{view_more_each, view_taken, DropsOrphan, 
 ghost use Rattle.av_mem.specs.Entries.{HasLedgerBy, HasRoomFor, IsInUse, IsTaken, IsWithin};
 ghost use Rattle.av_mem.specs.Entries.{LetsGo, NamesFrame, Table, view_copied};
 ghost use Rattle.av_mem.specs.Entries.{view_settled};
-ghost use Rattle.av_mem.specs.Mem.{frame_count, plain, view, HasItems, HasLists, HasRoom};
-ghost use Rattle.av_mem.specs.Steps.{KeepsParts, KeepsRest};
+ghost use Rattle.av_mem.specs.Locked.{AreFew, has_lock, locks_less, locks_more};
+ghost use Rattle.av_mem.specs.Mem.{frame_count, locks_of, plain, view, HasItems, HasLists, HasRoom};
+ghost use Rattle.av_mem.specs.Steps.{KeepsBut, KeepsParts, KeepsRest};
 
 use crate::mem::Mem;
 use av_base::Slot;
@@ -37,15 +38,18 @@ pub fn take_frame_of_zeros(
     requires table { has mem.old.tables key.0 ≡ true }
     requires below { key.1 < top_page }
     requires free { HasFree mem.old }
+    requires few { AreFew mem.old }
     ensures taken { IfOk result (λ f. IsTaken mem.old mem.new f (λ left.
         view_seen key.0 key.1 f true
         (view_new key.0 key.1 f true left (λ i. 0) home (view mem.old)))) }
-    ensures parts { OnOk result (KeepsParts mem.old mem.new) }
+    ensures parts { IfOk result (λ f.
+        KeepsBut (locks_more mem.old key f (locks_of mem.old)) mem.old mem.new) }
     ensures count { frame_count mem.new ≡ frame_count mem.old }
 {
     let frame = take_frame(mem, home);
     mem.tables.set(key.0, key.1, accessed_entry(frame, true))?;
     mem.frames.zero(frame);
+    mem.lock_up(key, frame);
     Ok(frame)
 }
 
@@ -62,15 +66,20 @@ pub fn take_frame_for_copy(
     requires mapped { 0 < (view mem.old).maps from }
     requires itemed { HasItems mem.old }
     requires in_range { from < frame_count mem.old }
+    requires few { AreFew mem.old }
+    requires locked { has_lock mem.old key ≡ true → 0 < locks_of mem.old from }
     ensures taken { IsTaken mem.old mem.new result (λ left. view_seen key.0 key.1 result true
         (view_copied key.0 key.1 from result left home (view mem.old))) }
-    ensures parts { KeepsParts mem.old mem.new }
+    ensures parts { KeepsBut (locks_more mem.old key result
+        (locks_less mem.old key from (locks_of mem.old))) mem.old mem.new }
 {
     mem.frames.map_down(from);
     let frame = take_frame(mem, home);
     mem.tables.change(key.0, key.1, accessed_entry(frame, true));
     mem.frames.copy(from, frame);
     settle(mem, from);
+    mem.lock_down(key, from);
+    mem.lock_up(key, frame);
     frame
 }
 

@@ -9,11 +9,12 @@
 //! a write begins or ends, a slot is dropped, a page is loaded and mapped) makes of the view
 //! exactly what av_swap_laws has a law of.
 //!
-//! Entries are found from a frame's home, and those of a merged frame from its items: `walk`,
-//! `is_locked` and `unsee` serve each frame. `unmap` and `namers` go by the home alone, since a
-//! merged frame is never cached. `locked_frames` goes the other way: by the areas that are locked
-//! and the entries of their pages, to the frames. Proved: they are those that have a locked page,
-//! each once, rising; and where it finds no memory, an area is locked.
+//! Entries are found from a frame's home, and those of a merged frame from its items: `walk` and
+//! `unsee` serve each frame. `unmap` and `namers` go by the home alone, since a merged frame is
+//! never cached. Whether a frame is locked takes no look at an entry: how many entries of locked
+//! pages name each is counted, where an entry comes (`entries`, `Mem::map`), and by range where
+//! pages are locked, unlocked or about to go (`lock_range`, `unlock_range`). Proved: the counts are
+//! those of the entries, in all that the memory system stands for.
 //!
 //! `entries` has the calls through which entries of frames and slots come and go: they keep the
 //! counts. Beside them only the steps of swap change how many entries name a frame or a slot, and
@@ -33,7 +34,7 @@
 //! with the number of its steps. It is one call of av_rmap's `walk_frame` or `walk_merged`, which
 //! look through the trait `Look` alone, no more often than they take steps. Not proved: that
 //! nothing which holds a `Mem`, `walk` among it, asks the tables past that trait; and how often
-//! `unmap`, `unsee`, `is_locked`, `locked_frames` and `namers` look, whose steps nobody counts.
+//! `unmap`, `unsee`, `namers` and the counting of a range look, whose steps nobody counts.
 //! `unsee` does not look where the tables have a mark that no entry of the frame is seen, and
 //! leaves one: that there ever is one is not proved either.
 #![tactic(auto)]
@@ -48,5 +49,6 @@ mod order;
 pub mod walk;
 mod zap;
 
+pub use locked::{lock_range, unlock_range};
 pub use mem::Mem;
 pub use zap::{zap_all, zap_range};

@@ -1,35 +1,21 @@
-//! Which frames are merged, and which have a locked page.
+//! Which frames are merged, and how the entries of locked pages are counted.
 
-ghost use Rattle.std.specs.Prelude.{◌≡◌, ◌<◌, ◌||◌, ℕ, true, IfOk, OnErr, OnOk, MatchBool};
-ghost use Rattle.std.specs.BTreeSet.{contains};
-ghost use Rattle.std.specs.List.{list_any};
-ghost use Rattle.std.specs.List.Sorted.{IsStrictlyIncreasing, IsStrictlySortedBy};
-ghost use Rattle.std.specs.Ordering.{nat_cmp};
-ghost use Rattle.av_base.specs.Words.{is_in};
-ghost use Rattle.av_plain.specs.Fault.{is_locked};
-ghost use Rattle.av_plain.specs.Device.{Device};
-ghost use Rattle.av_plain.specs.Areas.{Rmap};
-ghost use Rattle.av_plain.specs.Ledger.{Ledger};
-ghost use Rattle.av_plain.specs.World.{World};
+ghost use Rattle.std.specs.Prelude.{◌≡◌, ◌+◌, ◌-◌, ◌<◌, ◌≤◌, ◌==◌, ◌^◌, ℕ, true, nat_lt};
+ghost use Rattle.std.specs.List.{All};
+ghost use Rattle.av_base.specs.Words.{how_many};
+ghost use Rattle.av_chain.specs.Links.{one_if};
+ghost use Rattle.av_frames.specs.Store.{shown};
 ghost use Rattle.av_rmap.specs.Items.{is_merged};
 ghost use Rattle.av_rmap.specs.Walk.{names_frame};
-ghost use Rattle.av_vma.specs.Areas.{area_of, is_locked as is_area_locked};
-ghost use Rattle.av_spaces.specs.Kin.{AnonsFit};
-ghost use Rattle.av_spaces.specs.Spaces.{AreNumbered};
-ghost use Rattle.av_mem.specs.Chains.{AreFound, HasLocked};
-ghost use Rattle.av_mem.specs.Locked.{is_frame_of};
-ghost use Rattle.av_mem.specs.Mem.{HasItems, frame_count, view};
+ghost use Rattle.av_mem.specs.Entries.{AreWithin};
+ghost use Rattle.av_mem.specs.Locked.{IsBelow, IsCounted, MayCount, has_lock, locks_in};
+ghost use Rattle.av_mem.specs.Locked.{locks_less, locks_more, names_in};
+ghost use Rattle.av_mem.specs.Mem.{HasItems, frame_count, locks_of, view};
 
 use crate::mem::Mem;
-use av_base::{PAGE_SIZE, Steps};
-use av_pagetable::{PageTable, Pte, Tables};
-use av_rmap::locked::any_locked;
-use av_rmap::stores::Stores;
-use av_vma::Area;
-use std::alloc::{AllocError, Global};
-use std::collections::BTreeSet;
-use std::marker::Brand;
-use std::sync::ledger::{Blank, Ledger};
+use av_base::PAGE_SIZE;
+use av_frames::Frames;
+use av_pagetable::{Pte, RUN};
 
 impl Mem {
     /// Whether a frame is merged: it has items.
@@ -41,125 +27,200 @@ impl Mem {
         self.items.is_merged(frame)
     }
 
-    /// Whether a page whose entry names the frame is locked. Where no area is locked it is meant to
-    /// look at none; nobody counts its looks.
+    /// Whether a page whose entry names the frame is locked. It is counted: no entry is looked at.
+    #[inline(always)]
     pub fn is_locked(&self, frame: u32) -> bool
-        requires anons { AnonsFit self.now.spaces self.now.anons }
-        requires itemed { HasItems self.now }
-        requires in_range { frame < frame_count self.now }
-        requires found { AreFound self.now frame }
-        ensures locked { MatchBool result (HasLocked self.now frame)
-            (HasLocked self.now frame → ⊥) }
-        ensures numbered { AreNumbered self.now.spaces }
+        requires { frame < frame_count self.now }
+        ensures { result ≡ nat_lt 0 (locks_of self.now frame) }
     {
-        self.spaces.by_number().any_locked() && self.has_locked::<Brand>(frame, Blank::new(1))
+        self.frames.is_locked(frame)
     }
 
-    /// The frames that have a locked page, each once, rising. Where no area is locked it looks at
-    /// none and takes no memory; else it goes over all areas, and over the entries of those that
-    /// are locked.
-    pub fn locked_frames(&self) -> Result<Vec<u32>, AllocError>
-        ensures rising { IfOk result (λ frames. IsStrictlyIncreasing frames.items) }
-        ensures locked { IfOk result (λ frames. (f : ℕ) → MatchBool (is_in f frames.items)
-            (HasLocked self.now f) (HasLocked self.now f → ⊥)) }
-        ensures some { OnErr result ((number : ℕ)
-            × (is_area_locked (area_of self.now.spaces.areas number) ≡ true)) }
-        ensures numbered { AreNumbered self.now.spaces }
+    /// Whether a page is locked. Where no area is, none is looked for.
+    #[inline]
+    fn is_locked_page(&self, key: (u16, u64)) -> bool
+        ensures { result ≡ has_lock self.now key }
     {
-        let areas = self.spaces.locked_areas()?;
-        let alloc = *areas.allocator();
-        let locked = areas.as_slice();
-        if locked.is_empty() {
-            return Ok(Vec::new(alloc));
+        if !self.spaces.by_number().any_locked() {
+            return false;
         }
-        frames_of(alloc, &self.tables, locked)
-    }
-
-    // The same.
-    fn has_locked<L: Ledger>(&self, frame: u32, blank: Blank) -> bool
-        requires name { blank.name ≡ L.name }
-        requires parts { blank.parts ≡ L.parts }
-        requires some { 0 < blank.parts }
-        requires anons { AnonsFit self.now.spaces self.now.anons }
-        requires itemed { HasItems self.now }
-        requires in_range { frame < frame_count self.now }
-        requires found { AreFound self.now frame }
-        ensures locked { MatchBool result (HasLocked self.now frame)
-            (HasLocked self.now frame → ⊥) }
-        ensures numbered { AreNumbered self.now.spaces }
-    {
-        let mut steps = Steps::<L>::open(blank);
-        let stores = Stores {
-            areas: self.spaces.by_number(),
-            anons: &self.anons,
-            tables: &self.tables,
-        };
-        if self.items.is_merged(frame) {
-            return any_locked(&stores, frame, self.items.of(frame), &mut steps);
-        }
-        match self.frames.home(frame) {
-            Some(home) => any_locked(&stores, frame, &[home], &mut steps),
+        match self.spaces.area(key.0, key.1) {
+            Some(area) => area.flags.locked,
             None => false,
         }
     }
-}
 
-/// The frames that entries of the areas' pages name, each once, rising.
-fn frames_of(
-    alloc: Global,
-    tables: &Tables<PageTable>,
-    areas: &[Area],
-) -> Result<Vec<u32>, AllocError>
-    ensures rising { IfOk result (λ frames. IsStrictlyIncreasing frames.items) }
-    ensures these { IfOk result (λ frames. (f : ℕ) → is_in f frames.items
-        ≡ list_any (is_frame_of tables.now f) areas.now) }
-{
-    let mut frames = BTreeSet::new(alloc);
-    for area in areas {
-        add_frames(&mut frames, tables, area)?;
+    /// Counts the entry of a page, which names the frame now, where the page is locked.
+    pub(crate) fn lock_up(&mut self, key: (u16, u64), frame: u32)
+        requires in_range { frame < frame_count self.old }
+        requires room { locks_of self.old frame < 2 ^ 64 - 1 }
+        ensures locks { locks_of self.new ≡ locks_more self.old key frame (locks_of self.old) }
+        ensures view { view self.new ≡ view self.old }
+        ensures rest { self.new ≡ record self.old { frames = self.new.frames } }
+    {
+        if self.is_locked_page(key) {
+            self.frames.lock_up(frame);
+        }
     }
-    list_of(alloc, &frames)
+
+    /// Takes the entry of a page, which names the frame no longer, off the count, where the page is
+    /// locked.
+    pub(crate) fn lock_down(&mut self, key: (u16, u64), frame: u32)
+        requires in_range { frame < frame_count self.old }
+        requires some { has_lock self.old key ≡ true → 0 < locks_of self.old frame }
+        ensures locks { locks_of self.new ≡ locks_less self.old key frame (locks_of self.old) }
+        ensures view { view self.new ≡ view self.old }
+        ensures rest { self.new ≡ record self.old { frames = self.new.frames } }
+    {
+        if self.is_locked_page(key) {
+            self.frames.lock_down(frame);
+        }
+    }
 }
 
-/// The numbers of a set in their order.
-fn list_of(alloc: Global, set: &BTreeSet<u32>) -> Result<Vec<u32>, AllocError>
-    ensures items { IfOk result (λ list. list.items ≡ set.now.keys) }
-    ensures rising { IsStrictlySortedBy nat_cmp set.now.keys }
-{
-    set.iter().copied().collect(alloc)
+/// Which way entries of locked pages are counted.
+#[derive(Clone, Copy, Drop)]
+enum Way {
+    Up,
+    Down,
 }
 
-/// Adds the frames that entries of an area's pages name. A page without an entry costs nothing.
-fn add_frames(
-    frames: &mut BTreeSet<u32>,
-    tables: &Tables<PageTable>,
-    area: &Area,
-) -> Result<(), AllocError>
-    ensures { OnOk result ((f : ℕ) → contains nat_cmp frames.new f
-        ≡ (contains nat_cmp frames.old f || is_frame_of tables.now f area.now)) }
+/// Counts the entries of the locked pages of a process from page `from` to below `past`, as where
+/// their areas were locked. Where no area is locked it looks at nothing; else it looks up each area
+/// of the range that has entries, and at the entries of those that are locked.
+pub fn lock_range(mem: &mut Mem, process: u16, from: u64, past: u64)
+    requires within { AreWithin (view mem.old) }
+    requires room { (f : ℕ) →
+        locks_of mem.old f + locks_in mem.old process from (past - from) f < 2 ^ 64 }
+    ensures locks { (f : ℕ) → locks_of mem.new f
+        ≡ locks_of mem.old f + locks_in mem.old process from (past - from) f }
+    ensures view { view mem.new ≡ view mem.old }
+    ensures rest { mem.new ≡ record mem.old { frames = mem.new.frames } }
 {
-    let past = area.end / PAGE_SIZE;
-    let mut next = area.start / PAGE_SIZE;
-    while let Some(page) = tables.next_from(area.pid, next) {
+    count_range(mem, process, from, past, Way::Up);
+}
+
+/// Takes them off the count, as where their areas are about to be unlocked, or to go.
+pub fn unlock_range(mem: &mut Mem, process: u16, from: u64, past: u64)
+    requires within { AreWithin (view mem.old) }
+    requires some { (f : ℕ) →
+        locks_in mem.old process from (past - from) f ≤ locks_of mem.old f }
+    ensures locks { (f : ℕ) → locks_of mem.old f
+        ≡ locks_of mem.new f + locks_in mem.old process from (past - from) f }
+    ensures view { view mem.new ≡ view mem.old }
+    ensures rest { mem.new ≡ record mem.old { frames = mem.new.frames } }
+{
+    count_range(mem, process, from, past, Way::Down);
+}
+
+/// Counts the entries of the locked pages of a range, area by area.
+fn count_range(mem: &mut Mem, process: u16, from: u64, past: u64, way: Way)
+    requires within { AreWithin (view mem.old) }
+    requires may { (f : ℕ) → MayCount way (locks_of mem.old f)
+        (locks_in mem.old process from (past - from) f) }
+    ensures locks { (f : ℕ) → IsCounted way (locks_of mem.old f) (locks_of mem.new f)
+        (locks_in mem.old process from (past - from) f) }
+    ensures view { view mem.new ≡ view mem.old }
+    ensures rest { mem.new ≡ record mem.old { frames = mem.new.frames } }
+{
+    if !mem.spaces.by_number().any_locked() {
+        return;
+    }
+    let mut next = from;
+    while let Some(page) = mem.tables.next_from(process, next) {
         if page >= past {
-            return Ok(());
+            return;
         }
-        add_frame(frames, tables.get(area.pid, page))?;
-        next = page + 1;
+        next = count_area(mem, process, page, past, way);
     }
-    Ok(())
 }
 
-/// Adds the frame that an entry names, if it names one.
-fn add_frame(frames: &mut BTreeSet<u32>, entry: Pte) -> Result<(), AllocError>
-    ensures { OnOk result ((f : ℕ) → contains nat_cmp frames.new f
-        ≡ (contains nat_cmp frames.old f || names_frame f entry)) }
+/// Counts the entries of one area from a page on, if it is locked, and tells where it ends.
+fn count_area(mem: &mut Mem, process: u16, from: u64, past: u64, way: Way) -> u64
+    requires some { from < past }
+    requires within { AreWithin (view mem.old) }
+    requires may { (f : ℕ) → MayCount way (locks_of mem.old f)
+        (locks_in mem.old process from (past - from) f) }
+    ensures goes_on { (from < result) × (result ≤ past) }
+    ensures locks { (f : ℕ) → IsCounted way (locks_of mem.old f) (locks_of mem.new f)
+        (locks_in mem.old process from (result - from) f) }
+    ensures view { view mem.new ≡ view mem.old }
+    ensures rest { mem.new ≡ record mem.old { frames = mem.new.frames } }
 {
-    match entry {
-        Pte::Here { frame, .. } => {
-            frames.insert(frame)?;
-            Ok(())
+    let Some(area) = mem.spaces.area(process, from) else {
+        return from + 1;
+    };
+    let end = past.min(area.end / PAGE_SIZE);
+    if area.flags.locked {
+        count_entries(mem, process, from, end, way);
+    }
+    end
+}
+
+/// Counts all entries of a range of pages, by runs.
+fn count_entries(mem: &mut Mem, process: u16, from: u64, past: u64, way: Way)
+    requires within { AreWithin (view mem.old) }
+    requires may { (f : ℕ) → MayCount way (locks_of mem.old f)
+        (names_in mem.old process from (past - from) f) }
+    ensures locks { (f : ℕ) → IsCounted way (locks_of mem.old f) (locks_of mem.new f)
+        (names_in mem.old process from (past - from) f) }
+    ensures view { view mem.new ≡ view mem.old }
+    ensures rest { mem.new ≡ record mem.old { frames = mem.new.frames } }
+{
+    let mut run = [Pte::Empty; RUN];
+    let mut next = from;
+    while let Some(page) = mem.tables.next_from(process, next) {
+        if page >= past {
+            return;
         }
-        Pte::Empty | Pte::Zero | Pte::Away { .. } => Ok(()),
+        let read = mem.tables.read_run(process, page, &mut run);
+        let len = read.min((past - page) as usize);
+        next = page + len as u64;
+        count_each(&mut mem.frames, &run[..len], way);
+    }
+}
+
+/// Counts the entries of a run.
+fn count_each(frames: &mut Frames, run: &[Pte], way: Way)
+    requires in_range { All (IsBelow (shown frames.old).count) run.now }
+    requires may { (f : ℕ) → MayCount way ((shown frames.old).locks f)
+        (how_many (names_frame f) run.now) }
+    ensures locks { (f : ℕ) → IsCounted way ((shown frames.old).locks f)
+        ((shown frames.new).locks f) (how_many (names_frame f) run.now) }
+    ensures rest { shown frames.new
+        ≡ record (shown frames.old) { locks = (shown frames.new).locks } }
+{
+    for entry in run {
+        count_one(frames, *entry, way);
+    }
+}
+
+/// Counts an entry, if it names a frame.
+fn count_one(frames: &mut Frames, entry: Pte, way: Way)
+    requires in_range { IsBelow (shown frames.old).count entry }
+    requires may { (f : ℕ) → MayCount way ((shown frames.old).locks f)
+        (one_if (names_frame f entry)) }
+    ensures locks { (f : ℕ) → IsCounted way ((shown frames.old).locks f)
+        ((shown frames.new).locks f) (one_if (names_frame f entry)) }
+    ensures rest { shown frames.new
+        ≡ record (shown frames.old) { locks = (shown frames.new).locks } }
+{
+    if let Pte::Here { frame, .. } = entry {
+        count_frame(frames, frame, way);
+    }
+}
+
+/// Counts an entry that names the frame.
+fn count_frame(frames: &mut Frames, frame: u32, way: Way)
+    requires in_range { frame < (shown frames.old).count }
+    requires may { MayCount way ((shown frames.old).locks frame) 1 }
+    ensures locks { (f : ℕ) → IsCounted way ((shown frames.old).locks f)
+        ((shown frames.new).locks f) (one_if (f == frame)) }
+    ensures rest { shown frames.new
+        ≡ record (shown frames.old) { locks = (shown frames.new).locks } }
+{
+    match way {
+        Way::Up => frames.lock_up(frame),
+        Way::Down => frames.lock_down(frame),
     }
 }

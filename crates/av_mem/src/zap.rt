@@ -1,5 +1,6 @@
 //! How the entries of a range of pages go: each frame that no other entry names becomes free, and
-//! each slot that nothing uses any more is dropped.
+//! each slot that nothing uses any more is dropped. The counts of entries of locked pages stay:
+//! they are taken off before (`unlock_range`).
 
 ghost use Rattle.std.specs.Prelude.{◌≡◌, ℕ, ◌-◌, ◌<◌, ◌≤◌, false, length, OnOk};
 ghost use Rattle.av_pagetable.specs.Entries.{entry_at};

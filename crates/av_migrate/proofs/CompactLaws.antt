@@ -28,16 +28,16 @@ use Rattle.av_plain.proofs.Sound.Changes.{free-is}
 use Rattle.av_plain.proofs.Sound.Frames.{move-is}
 use Rattle.av_plain.proofs.Wrote.{device-itself, wrote-none}
 use Rattle.av_mem.specs.Between.{HasBetween, KeepsBetween}
-use Rattle.av_mem.specs.Mem.{IsSteady, frame_count, setting_by, view}
-use Rattle.av_mem.specs.Steps.{KeepsParts}
+use Rattle.av_mem.specs.Mem.{IsSteady, frame_count, locks_of, setting_by, view}
+use Rattle.av_mem.specs.Steps.{KeepsBut, KeepsParts}
 use Rattle.av_mem.specs.Walk.{areas_at, areas_at_all, areas_of_frame}
 use Rattle.av_mem.specs.declared.mem.Mem.{Mem}
 use Rattle.av_mem.proofs.KeepsLaws.{serves-keeps, state_by}
 use Rattle.av_mem.proofs.ServesLaws.{setting-stays}
-use Rattle.av_mem.proofs.StayLaws.{anons-stay, parts-then, spaces-stay}
+use Rattle.av_mem.proofs.StayLaws.{anons-stay, counts-are, parts-but, spaces-stay}
 use Rattle.av_migrate.specs.Compact as specs
 use Rattle.av_migrate.specs.Compact.{HasCompacted, steps_of, steps_of_all}
-use Rattle.av_migrate.specs.Move.{MayMove, view_moved, view_ordered}
+use Rattle.av_migrate.specs.Move.{MayMove, locks_moved, view_moved, view_ordered}
 use Rattle.av_migrate.specs.Next.{AreNext, IsNext}
 use Rattle.av_migrate.proofs.MoveStands.{without-in}
 use Rattle.av_command_laws.proofs.NextMove.{MovesSoFar, next-none, next-some, so_far-all, so_far-more}
@@ -52,7 +52,7 @@ pub record SoFar (d : Device) (old now : Mem) (w : World) (r : Rmap) (l : Ledger
 
 -- frames below the first number are in use, those from the second on are free, and those between have moved nowhere
 pub record Going (old now : Mem) (low past : ℕ) (before notes : List Note) (taken taken' : ℕ) : Type 0 where
-  pub parts : KeepsParts old now
+  pub parts : KeepsBut (locks_of now) old now
   pub within : past ≤ frame_count old
   pub used : (f : ℕ) → f < low → is_in f (view now).free ≡ false
   pub free : (f : ℕ) → past ≤ f → f < frame_count old → is_in f (view now).free ≡ true
@@ -80,6 +80,7 @@ going-start old notes taken = record {
     lists = refl;
     items = refl;
     swap = record { frames = refl; on = refl; bad = refl; closing = refl; priority = refl };
+    locks = refl;
   };
   within = omega arith;
   used = λ f below. absurd (omega (arith, below));
@@ -104,7 +105,7 @@ going-steady old now low past before notes taken taken' g has =
     )
 
 -- a walk takes the steps that it would have taken before
-walk-stays : (old now : Mem) (f : ℕ) → KeepsParts old now → (view now).homes f ≡ (view old).homes f → (view now).items f ≡ (view old).items f
+walk-stays : {counts : ℕ → ℕ} (old now : Mem) (f : ℕ) → KeepsBut counts old now → (view now).homes f ≡ (view old).homes f → (view now).items f ≡ (view old).items f
     → areas_of_frame now f ≡ areas_of_frame old f
 walk-stays old now f parts homes items =
     (λ i. cond (is_merged (items i)) (areas_at_all now (items i)) (areas_at now (homes i)))
@@ -192,7 +193,7 @@ module _ (old now : Mem) (low past : ℕ) (before notes : List Note) (taken take
         (λ f below. sym (free-now d w r l keeps f (let a = next.above in let b = below-count in omega (arith, a, b, below))) ∙ low-used f below)
         (λ f above below. sym (free-now d w r l keeps f below) ∙ high-free f above below)
 
-    module _ (new : Mem) (seen : view new ≡ view_moved from to (view now)) (parts : KeepsParts now new) where
+    module _ (new : Mem) (seen : view new ≡ view_moved from to (view now)) (parts : KeepsBut (locks_moved from to (locks_of now)) now new) where
       free-then : (f : ℕ) → is_in f (view new).free ≡ ((f == from) || cond (f == to) false (is_in f (view now).free))
       free-then f = ap (λ (v : View). is_in f v.free) seen ∙ ap (λ b. (f == from) || b) (without-in to f (view now).free)
 
@@ -211,7 +212,7 @@ module _ (old now : Mem) (low past : ℕ) (before notes : List Note) (taken take
                 ∙ rmap_after_all-append l events (note_events (Moved from to ∷ [])) r))
                 (subst (λ x. KeepsBetween d new w (rmap_after_all (after_all l events) (note_events (Moved from to ∷ [])) here) x)
                 (sym (after_notes-append l g.added (Moved from to ∷ [])))
-                (moved-between d now new parts w here ledger s.between from to may seen));
+                (moved-between d now new from to parts w here ledger s.between may seen));
             free = subst (λ es. ChoosesAll (setting_by d old) None l es (free_of (view old)) (free_of (view new)))
                 (sym (note_events-append g.added (Moved from to ∷ [])))
                 (chooses-append (setting_by d old) None l events (note_events (Moved from to ∷ [])) (free_of (view old)) (free_of (view now))
@@ -220,7 +221,7 @@ module _ (old now : Mem) (low past : ℕ) (before notes : List Note) (taken take
                 (sym (note_events-all l g.added)) (
                   free_of (view new),
                   subst (λ m. Chooses m None ledger (Noted (Moved from to)) (free_of (view now)) (free_of (view new))) (one-setting d w r l keeps)
-                      (moved-chosen d now new parts w here ledger s.between from to may seen),
+                      (moved-chosen d now new from to parts w here ledger s.between may seen),
                   refl,
                 )));
           }
@@ -228,7 +229,7 @@ module _ (old now : Mem) (low past : ℕ) (before notes : List Note) (taken take
       pub going-more : (notes' : List Note) → notes' ≡ notes ++ Moved from to ∷ [] → (now_taken : ℕ) → now_taken ≡ taken' + areas_of_frame now from
           → Going old new (to + 1) from before notes' taken now_taken
       going-more notes' told now_taken steps = record {
-        parts = parts-then g.parts parts;
+        parts = counts-are (sym parts.locks) (parts-but g.parts parts);
         within = let b = below-count in omega (arith, b);
         used = λ f below. free-then f ∙ gone f below;
         free = λ f low high. free-then f ∙ here f low high;

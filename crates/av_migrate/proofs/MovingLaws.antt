@@ -129,4 +129,5 @@ module _ (old new : Mem) (rest : new ≡ record old { frames = new.frames }) (or
     lists = refl;
     items = refl;
     swap = record { frames = refl; on = refl; bad = refl; closing = refl; priority = refl };
+    locks = ap (λ (f : ShownFrames). f.locks) ordered;
   })

@@ -33,6 +33,10 @@ view_moved from to v = record v {
 abbrev pub view_ordered : View → View
 view_ordered v = record v { free = filter (λ f. is_in f v.free) (range_with_len 0 v.frames) }
 
+-- the counts of entries of locked pages go along
+abbrev pub locks_moved : ℕ → ℕ → (ℕ → ℕ) → ℕ → ℕ
+locks_moved from to locks = with_at from 0 (with_at to (locks from) locks)
+
 -- a frame in use may go over to one of the machine's that is free
 pub record MayMove (m : Setting) (l : Ledger) (from to : ℕ) : Type 0 where
   pub free : uses l to ≡ 0

@@ -4,10 +4,10 @@
 ghost use Rattle.std.specs.Prelude.{◌≡◌, ◌+◌, ◌<◌, OnErr, OnOk, false, true};
 ghost use Rattle.av_base.specs.Words.{is_in};
 ghost use Rattle.av_pagetable.specs.Entries.{entry_at, has, with_entry};
-ghost use Rattle.av_mem.specs.Mem.{IsSteady, frame_count, view};
-ghost use Rattle.av_mem.specs.Steps.{KeepsParts};
+ghost use Rattle.av_mem.specs.Mem.{IsSteady, frame_count, locks_of, view};
+ghost use Rattle.av_mem.specs.Steps.{KeepsBut};
 ghost use Rattle.av_mem.specs.Walk.{areas_of_frame};
-ghost use Rattle.av_migrate.specs.Move.{view_moved};
+ghost use Rattle.av_migrate.specs.Move.{locks_moved, view_moved};
 ghost use Rattle.av_migrate.specs.Point.{with_frame, with_frame_at};
 
 use av_base::Steps;
@@ -34,7 +34,8 @@ pub fn move_frame<L: Ledger>(
     requires free { is_in to (view mem.old).free ≡ true }
     ensures moved { OnOk result (view mem.new ≡ view_moved from to (view mem.old)) }
     ensures counted { OnOk result (steps.new ≡ steps.old + areas_of_frame mem.old from) }
-    ensures parts { OnOk result (KeepsParts mem.old mem.new) }
+    ensures parts { OnOk result (KeepsBut (locks_moved from to (locks_of mem.old))
+        mem.old mem.new) }
     ensures none { OnErr result (mem.new ≡ mem.old) }
 {
     let keys = walk(mem, alloc, from, steps)?;

@@ -1,5 +1,5 @@
 -- The areas of a process that lives have changed, once or twice: they are what the definitions make of them.
-use Rattle.std.proofs.Common.{◌≡◌, ℕ, ◌+◌, ◌-◌, ◌<◌, ◌≤◌, Bool, true, false, cond, Option, Some, None, is_some, option_map, refl, sym, ap, subst, ◌∙◌, arith, ◌==◌, nat_lt}
+use Rattle.std.proofs.Common.{◌≡◌, ℕ, ◌+◌, ◌-◌, ◌<◌, ◌≤◌, Bool, true, false, cond, Option, Some, None, IfSome, is_some, option_map, refl, sym, ap, subst, ◌∙◌, arith, ◌==◌, nat_lt}
 use Rattle.std.proofs.lemmas.Bool.Decides.{nat_tests}
 use Rattle.av_base.specs.Limits.{low_page, top_page}
 use Rattle.av_base.specs.Words.{with_at}
@@ -12,20 +12,20 @@ use Rattle.av_anon.specs.declared.anons.Anons.{Anons as AnonSet}
 use Rattle.av_merge.specs.Kin.{lengths}
 use Rattle.av_merge.proofs.Lengths.{AreAlike}
 use Rattle.av_merge.proofs.MremapLengths.{grow_alike, left_alike, move_alike}
-use Rattle.av_spaces.specs.Kin.{AnonsStay}
+use Rattle.av_spaces.specs.Kin.{AnonsFit, AnonsStay}
 use Rattle.av_spaces.specs.Spaces.{AllSpaces, AreThese, IsChanged, Spaces, areas_of, is_taken, pages_of}
 use Rattle.av_spaces.proofs.Kin.{stay_both, stay_same}
 use Rattle.av_spaces.proofs.Rising.{laid}
-use Rattle.av_plain.specs.Device.{Device}
 use Rattle.av_plain.specs.Areas.{chain_length}
 use Rattle.av_plain.specs.Mremap.{after_mremap, with_old_range}
+use Rattle.av_plain.specs.Report.{AreApart}
 use Rattle.av_plain.specs.Transcript.{State}
 use Rattle.av_plain.proofs.Mremap.Areas.{room}
 use Rattle.av_mem.specs.declared.mem.Mem.{Mem}
-use Rattle.av_mem.specs.Mem.{Keeps}
+use Rattle.av_mem.specs.Mem.{ranges_of}
 use Rattle.av_mem.proofs.AnonLaws.{lengths_alike}
 use Rattle.av_mem.proofs.MemLaws.{all_apart}
-use Rattle.av_mremap.specs.Areas.{HasRemap}
+use Rattle.av_mremap.specs.Areas.{HasAreas, HasRemap}
 
 equal : (a b : ℕ) → (a == b) ≡ true → a ≡ b
 equal a b h = grind (arith, nat_tests, h)
@@ -49,6 +49,29 @@ same_on old p on on' same q page = by (q == p)
     by : (b : Bool) → (cond b on (pages_of old q)) page ≡ (cond b on' (pages_of old q)) page
     by true = same page
     by false = refl
+
+-- ---- what areas and anon_vmas are before
+
+module _ (k : Mem) (s : State) (held : HasAreas k s) where
+  areas_there : (p page : ℕ) → pages_of k.spaces.processes p page ≡ s.areas p page
+  areas_there p page = ap (λ (x : AllSpaces). pages_of x.processes p page) held.spaces
+      ∙ held.keeps.stands.areas p page
+
+  apart_there : (p : ℕ) → IfSome (ranges_of k.spaces.processes p) AreApart
+  apart_there p = subst (λ (x : AllSpaces). IfSome (ranges_of x.processes p) AreApart)
+      (sym held.spaces) (held.keeps.stands.parts.areas.apart p)
+
+  fit_there : AnonsFit k.spaces k.anons
+  fit_there = subst (λ (x : AllSpaces). AnonsFit x k.anons) (sym held.spaces)
+      (subst (AnonsFit held.whole.spaces) (sym held.anons) held.keeps.anons)
+
+  -- so are the lengths of chains once areas have changed
+  alike_there : (spaces : AllSpaces) (anons : AnonSet) → AnonsStay k.spaces k.anons spaces anons
+      → (p : ℕ)
+      → AreAlike (lengths spaces.areas anons) (chain_length s.anons) (pages_of spaces.processes p)
+  alike_there spaces anons stay = lengths_alike held.device held.whole s held.keeps spaces anons
+      (subst (λ (x : AllSpaces). AnonsStay x held.whole.anons spaces anons) held.spaces
+      (subst (λ (x : AnonSet). AnonsStay k.spaces x spaces anons) held.anons stay))
 
 -- ---- one change
 
@@ -79,23 +102,23 @@ module _ (old : Mem) (spaces : AllSpaces) (anons : AnonSet) (p : ℕ) (alive : i
       lives q false e = ap is_some (h.others q (other q p e))
 
 -- nothing has changed
-pub unchanged : (d : Device) (old : Mem) (s : State) → Keeps d old s → (p : ℕ) → HasRemap old old p (s.areas p)
-unchanged d old s keeps p = record {
+pub unchanged : (old : Mem) (s : State) → HasAreas old s → (p : ℕ) → HasRemap old old p (s.areas p)
+unchanged old s held p = record {
   areas = λ q page. by q page (q == p) refl;
   alive = λ q. refl;
   number = refl;
-  apart = keeps.stands.parts.areas.apart;
-  anons = stay_same old.spaces old.anons keeps.anons;
+  apart = apart_there old s held;
+  anons = stay_same old.spaces old.anons (fit_there old s held);
 }
   where
     by : (q page : ℕ) (b : Bool) → (q == p) ≡ b → pages_of old.spaces.processes q page ≡ with_at p (s.areas p) (pages_of old.spaces.processes) q page
-    by q page true e = keeps.stands.areas q page ∙ ap (λ n. s.areas n page) (equal q p e)
+    by q page true e = areas_there old s held q page ∙ ap (λ n. s.areas n page) (equal q p e)
         ∙ ap (λ b. (cond b (s.areas p) (pages_of old.spaces.processes q)) page) (sym e)
     by q page false e = ap (λ b. (cond b (s.areas p) (pages_of old.spaces.processes q)) page) (sym e)
 
 -- ---- the changes of an mremap
 
-module _ (d : Device) (old : Mem) (s : State) (keeps : Keeps d old s) (p : ℕ) (alive : is_some (areas_of old.spaces.processes p) ≡ true) where
+module _ (old : Mem) (s : State) (held : HasAreas old s) (p : ℕ) (alive : is_some (areas_of old.spaces.processes p) ≡ true) where
   abbrev on : Pages
   on = pages_of old.spaces.processes p
 
@@ -107,11 +130,11 @@ module _ (d : Device) (old : Mem) (s : State) (keeps : Keeps d old s) (p : ℕ) 
   was = lengths old.spaces.areas old.anons
 
   alike_before : AreAlike was len on
-  alike_before = lengths_alike d old s keeps old.spaces old.anons (stay_same old.spaces old.anons keeps.anons) p
+  alike_before = alike_there old s held old.spaces old.anons (stay_same old.spaces old.anons (fit_there old s held)) p
 
   module _ (spaces : AllSpaces) (anons : AnonSet) (stay : AnonsStay old.spaces old.anons spaces anons) (from n m : ℕ) where
     shrunk_is : nat_lt m n ≡ true → (page : ℕ) → after_unmap (from + m) (from + m + (n - m)) on page ≡ after_resize len from n m (s.areas p) page
-    shrunk_is e page = (λ i. after_unmap (from + m) (past i) (λ o. keeps.stands.areas p o i) page)
+    shrunk_is e page = (λ i. after_unmap (from + m) (past i) (λ o. areas_there old s held p o i) page)
         ∙ ap (λ b. (cond b (after_unmap (from + m) (from + n) (s.areas p))
         (cond (nat_lt n m) (after_grow len (from + m) (s.areas p (from + n - 1)) (s.areas p)) (s.areas p))) page) (sym e)
       where
@@ -127,7 +150,7 @@ module _ (d : Device) (old : Mem) (s : State) (keeps : Keeps d old s) (p : ℕ) 
     grown_is : nat_lt m n ≡ false → nat_lt n m ≡ true → (page : ℕ)
         → after_grow was (from + m) (on (from + n - 1)) on page ≡ after_resize len from n m (s.areas p) page
     grown_is e f page = grow_alike was len on refl alike_before (from + m) (from + n - 1) page
-        ∙ (λ i. after_grow len (from + m) (keeps.stands.areas p (from + n - 1) i) (λ o. keeps.stands.areas p o i) page)
+        ∙ (λ i. after_grow len (from + m) (areas_there old s held p (from + n - 1) i) (λ o. areas_there old s held p o i) page)
         ∙ (λ i. (cond (sym e i) (after_unmap (from + m) (from + n) (s.areas p))
         (cond (sym f i) (after_grow len (from + m) (s.areas p (from + n - 1)) (s.areas p)) (s.areas p))) page)
 
@@ -154,7 +177,7 @@ module _ (d : Device) (old : Mem) (s : State) (keeps : Keeps d old s) (p : ℕ) 
       (h : IsChanged old.spaces.processes spaces.processes p (AreThese (after_move was from n to m on))) where
     moved_is : (page : ℕ) → after_move was from n to m on page ≡ after_move len from n to m (s.areas p) page
     moved_is page = move_alike was len on refl alike_before from n to m page
-        ∙ (λ i. after_move len from n to m (λ o. keeps.stands.areas p o i) page)
+        ∙ (λ i. after_move len from n to m (λ o. areas_there old s held p o i) page)
 
     -- which of the two the areas become
     elsewhere : (stays : Bool) → (to == from) ≡ false → (page : ℕ)
@@ -184,10 +207,10 @@ module _ (d : Device) (old : Mem) (s : State) (keeps : Keeps d old s) (p : ℕ) 
     moved_pages = λ i page. (h.pages page ∙ moved_is page) i
 
     laid_before : AreLaid (s.areas p)
-    laid_before = subst AreLaid (λ i page. keeps.stands.areas p page i) (laid old.spaces.processes p h.were_rising)
+    laid_before = subst AreLaid (λ i page. areas_there old s held p page i) (laid old.spaces.processes p h.were_rising)
 
     move_before : IsMove from n to m (s.areas p)
-    move_before = subst (IsMove from n to m) (λ i page. keeps.stands.areas p page i) move
+    move_before = subst (IsMove from n to m) (λ i page. areas_there old s held p page i) move
 
     pub target_taken : n ≤ m → (page : ℕ) → to ≤ page → page < to + n → is_taken spaces.processes p page ≡ true
     target_taken fits page low high =
@@ -211,7 +234,7 @@ module _ (d : Device) (old : Mem) (s : State) (keeps : Keeps d old s) (p : ℕ) 
       mapped_is : (page : ℕ) → pages_left (lengths spaces.areas anons) p (pages_from to from (pages_of spaces.processes p)) from n
           (pages_of spaces.processes p) page ≡ pages_left len p (s.areas p) from n (after_move len from n to m (s.areas p)) page
       mapped_is page = left_alike (lengths spaces.areas anons) len p (pages_from to from (pages_of spaces.processes p)) refl from n
-          (pages_of spaces.processes p) (lengths_alike d old s keeps spaces anons stay p) page
+          (pages_of spaces.processes p) (alike_there old s held spaces anons stay p) page
           ∙ (λ i. pages_left len p (pages_from to from (moved_pages i)) from n (moved_pages i) page)
           ∙ ap (λ on. on page) (left_by_marks len p (pages_from to from (after_move len from n to m (s.areas p))) (s.areas p) from n
           (after_move len from n to m (s.areas p)) as_before)
@@ -224,9 +247,9 @@ module _ (d : Device) (old : Mem) (s : State) (keeps : Keeps d old s) (p : ℕ) 
           (after_mremap len p from n to m true (s.areas p)) (λ page. mapped_is page ∙ elsewhere true e page)
 
 -- as many pages as before change nothing
-pub unchanged_size : (d : Device) (old : Mem) (s : State) → Keeps d old s → (p from n m : ℕ) → n ≤ m → m ≤ n
+pub unchanged_size : (old : Mem) (s : State) → HasAreas old s → (p from n m : ℕ) → n ≤ m → m ≤ n
     → HasRemap old old p (after_resize (chain_length s.anons) from n m (s.areas p))
-unchanged_size d old s keeps p from n m more less = subst (HasRemap old old p) (sym is) (unchanged d old s keeps p)
+unchanged_size old s held p from n m more less = subst (HasRemap old old p) (sym is) (unchanged old s held p)
   where
     not_less : (a b : ℕ) → b ≤ a → nat_lt a b ≡ false
     not_less a b h = grind (arith, nat_tests, h)

@@ -2,12 +2,10 @@
 
 ghost use Rattle.std.specs.Prelude.{◌≡◌, ℕ, ◌+◌, ◌-◌, ◌<◌, ◌≤◌, true, is_some, OnOk};
 ghost use Rattle.av_base.specs.Limits.{top_page};
-ghost use Rattle.av_mremap.specs.Areas.{HasRemap};
+ghost use Rattle.av_mremap.specs.Areas.{HasAreas, HasRemap};
 ghost use Rattle.av_plain.specs.Areas.{chain_length};
-ghost use Rattle.av_plain.specs.Device.{Device};
 ghost use Rattle.av_plain.specs.Mremap.{after_mremap};
 ghost use Rattle.av_plain.specs.Transcript.{State};
-ghost use Rattle.av_mem.specs.Mem.{IsSteady, Keeps};
 ghost use Rattle.av_spaces.specs.Spaces.{areas_of, pages_of};
 ghost use Rattle.av_vma.specs.Mremap.{IsGrowth, IsMove, after_resize};
 
@@ -20,6 +18,8 @@ use std::alloc::AllocError;
 /// offset, so that each page keeps its linear index. Then the old range is mapped again, if it
 /// stays: each page like the one that moved from it, but not locked.
 ///
+/// The entries of locked pages that go are off their counts before: the areas tell them no more.
+///
 /// Costs by the areas that move or go. Without memory nothing is promised of areas and anon_vmas.
 pub fn remap_areas(
     mem: &mut Mem,
@@ -30,7 +30,7 @@ pub fn remap_areas(
     new_pages: u64,
     stays: bool,
 ) -> Result<(), AllocError>
-    requires steady { IsSteady mem.old }
+    requires steady { (s : State) × HasAreas mem.old s }
     requires lives { is_some (areas_of mem.old.spaces.processes process) ≡ true }
     requires some { 1 ≤ pages }
     requires shrinks { to ≡ from → new_pages < pages → from + pages ≤ top_page }
@@ -39,7 +39,7 @@ pub fn remap_areas(
     requires whole { stays ≡ true → pages ≤ new_pages }
     requires moves { (to ≡ from → ⊥) → IsMove from pages to new_pages
         (pages_of mem.old.spaces.processes process) }
-    ensures remaps { (d : Device) (s : State) → Keeps d mem.old s →
+    ensures remaps { (s : State) → HasAreas mem.old s →
         OnOk result (HasRemap mem.old mem.new process (after_mremap (chain_length s.anons)
         process from pages to new_pages stays (s.areas process))) }
     ensures rest { mem.new
@@ -65,13 +65,13 @@ fn resize_areas(
     pages: u64,
     new_pages: u64,
 ) -> Result<(), AllocError>
-    requires steady { IsSteady mem.old }
+    requires steady { (s : State) × HasAreas mem.old s }
     requires lives { is_some (areas_of mem.old.spaces.processes process) ≡ true }
     requires some { 1 ≤ pages }
     requires shrinks { new_pages < pages → from + pages ≤ top_page }
     requires grows { pages < new_pages → IsGrowth (from + pages - 1)
         (from + new_pages) (pages_of mem.old.spaces.processes process) }
-    ensures resizes { (d : Device) (s : State) → Keeps d mem.old s →
+    ensures resizes { (s : State) → HasAreas mem.old s →
         OnOk result (HasRemap mem.old mem.new process (after_resize (chain_length s.anons)
         from pages new_pages (s.areas process))) }
     ensures rest { mem.new

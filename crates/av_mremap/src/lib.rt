@@ -6,8 +6,8 @@
 //! mremap, whose notes are told, and what is free follows them.
 //!
 //! `remap_areas` lets a range of pages move, shrink or grow, as far as areas go. Proved for every
-//! state that the memory system stands for: it has the areas then that the definitions leave after
-//! an mremap, and no anon_vma is made or changes its kin.
+//! state whose areas and anon_vmas the memory system has: it has the areas then that the
+//! definitions leave after an mremap, and no anon_vma is made or changes its kin.
 #![tactic(auto)]
 
 mod areas;

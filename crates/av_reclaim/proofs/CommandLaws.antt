@@ -1,12 +1,10 @@
 -- From what the loops promise of the system that they drive to what is promised of what was lent to it.
-use Rattle.std.proofs.Common.{◌≡◌, ℕ, T, List, Option, None, false, sym, ap, subst, ◌∙◌}
-use Rattle.std.specs.FinMap.Entries.{is_sorted}
+use Rattle.std.proofs.Common.{◌≡◌, ℕ, List, Option, None, false, sym, ap, subst, ◌∙◌}
 use Rattle.av_trace.specs.declared.note.Note.{Note}
 use Rattle.av_plain.specs.Areas.{Rmap, rmap_after_all}
 use Rattle.av_plain.specs.Choice.{ChoosesAll}
 use Rattle.av_plain.specs.Device.{Device, IsSameDevice, as_told, Wrote}
 use Rattle.av_plain.specs.Event.{after_notes, note_events}
-use Rattle.av_base.specs.Keys.{key_cmp}
 use Rattle.av_plain.specs.Ledger.{Ledger, Setting}
 use Rattle.av_plain.specs.Fault.{sparing}
 use Rattle.av_plain.specs.Load.{with_loads}
@@ -19,10 +17,10 @@ use Rattle.av_evict.specs.declared.pass.SeekEnd.{SeekEnd}
 use Rattle.av_evict.specs.Pass.{IsNext}
 use Rattle.av_evict.specs.System.{Always, Gives, Goes, IsAt, Stays, spares}
 use Rattle.av_mem.specs.Between.{HasDone, IsBetween, KeepsBetween}
-use Rattle.av_mem.specs.Mem.{Serves, frame_count, setting_by, view}
+use Rattle.av_mem.specs.Mem.{Serves, frame_count, locks_of, setting_by, view}
 use Rattle.av_mem.specs.declared.mem.Mem.{Mem}
 use Rattle.av_mem.proofs.KeepsLaws.{serves-whenever}
-use Rattle.av_mem.proofs.Locks.{locks}
+use Rattle.av_mem.proofs.LockedLaws.{locked-told}
 use Rattle.av_reclaim.specs.Commands.{HasAdded}
 use Rattle.av_reclaim.specs.Driver.{closing_of, view_of}
 
@@ -93,11 +91,11 @@ done names names' d d' old new w r l notes serves goes =
     }
 
 -- what a pass leaves alone is what the definitions say, where no swap area is closing
-spares-so : (names : List ℕ) (d : Device) (k : Mem) (w : World) (r : Rmap) (l : Ledger) → T (is_sorted key_cmp l.entries) → Serves d None k w r l
-    → (pinned : Option ℕ) → spares (view_of names d k) pinned ≡ sparing w l pinned
-spares-so names d k w r l sorted serves pinned = λ i. record {
+spares-so : (names : List ℕ) (d : Device) (k : Mem) (w : World) (r : Rmap) (l : Ledger) → Serves d None k w r l → (pinned : Option ℕ)
+    → spares (view_of names d k) pinned ≡ sparing w l pinned
+spares-so names d k w r l serves pinned = λ i. record {
   pinned = pinned;
-  locked = locks d None k w r l sorted serves i;
+  locked = λ f. locked-told (locks_of k) w l f serves.locks i;
   closing = serves.swap.closed i;
 }
 
@@ -113,7 +111,7 @@ added names names' d d₁ d' old k₁ new before now pinned Q Asked asks gives l
     subst (λ k. HasAdded Asked d d' old k w r l before now) (sym is.1) (subst (λ x. HasAdded Asked d x old k₁ w r l before now) (sym is.0) (record {
       added = out.0;
       notes = out.1;
-      asked = asks w l out.0 (subst (λ (spared : Spared). Q spared l out.0) (spares-so names d old w r l between.sound.in_order serves pinned) out.2);
+      asked = asks w l out.0 (subst (λ (spared : Spared). Q spared l out.0) (spares-so names d old w r l serves pinned) out.2);
       done = done names names' d d₁ old k₁ w r l out.0 serves out.3;
       failures = out.3.happened.failures;
     }))

@@ -24,7 +24,7 @@ use Rattle.av_mem.specs.Cache.{Ends, GoesFirst}
 use Rattle.av_mem.specs.Mem.{Serves, held_by, setting_by, view}
 use Rattle.av_mem.specs.Steps.{KeepsParts}
 use Rattle.av_mem.specs.declared.mem.Mem.{Mem}
-use Rattle.av_mem.proofs.ServesLaws.{anons-fit, lists-fit, setting-stays, swap-fits, tables-fit}
+use Rattle.av_mem.proofs.ServesLaws.{anons-fit, lists-fit, locks-stay, setting-stays, swap-fits, tables-fit}
 use Rattle.av_reclaim.specs.Driver.{closing_of, end_of, view_of}
 use Rattle.av_reclaim.proofs.OneNote.{one-still, step-stays}
 use Rattle.av_reclaim.proofs.StepMakes.{by-view, same-world}
@@ -62,6 +62,7 @@ module _ (names : List ℕ) (d d' : Device) (old new : Mem) (sizes : d'.sizes �
         lawful = (tt, tt);
         brings = λ w r c. tt;
         still = tt;
+        locks = λ w r c. locks-stay old new w l (Written s) parts refl c.locks;
         failures = still d.failures d'.failures ends.4;
         wrote = wrote-one d.history d'.history s ends.5;
       }) (λ w. same-world (is_some (setting_by d old).headers) w) (λ w r h. by-view d d' old new l (Written s) (view_done f s (view old)) w r ends.3
@@ -77,6 +78,7 @@ module _ (names : List ℕ) (d d' : Device) (old new : Mem) (sizes : d'.sizes �
         lawful = (tt, tt);
         brings = λ w r c. tt;
         still = tt;
+        locks = λ w r c. locks-stay old new w l (Failed s) parts refl c.locks;
         failures = ends.4;
         wrote = wrote-one d.history d'.history s ends.5;
       }) (λ w. same-world (is_some (setting_by d old).headers) w) (λ w r h. by-view d d' old new l (Failed s) (view_fail f s (view old)) w r ends.3
@@ -93,6 +95,7 @@ serves-same d old new w r l is parts h =
     subst (λ c. Serves d c new w r l) (sym parts.swap.closing) (record {
       held = subst (λ m. IsHeld m (held_by d new w r l)) (sym same)
           (subst (λ (v : View). IsHeld m (record { view = v; device = d; world = w; ledger = l; rmap = r })) (sym is) h.held);
+      locks = λ f. ap (λ (locks : ℕ → ℕ). locks f) parts.locks ∙ h.locks f;
       areas = subst (λ (v : View). AreasStand v w) (sym is) h.areas;
       are = subst (λ (v : View). AreasAre v r.areas) (sym is) h.are;
       anons = subst (λ (v : View). AnonsStand v r.areas r.anons) (sym is) h.anons;

@@ -1,3 +1,4 @@
+mod Both
 pub mod OneNote
 pub mod StepMakes
 pub mod FinishMakes

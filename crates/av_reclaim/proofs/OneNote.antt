@@ -13,9 +13,10 @@ use Rattle.av_plain.specs.World.{World}
 use Rattle.av_plain.proofs.FreeLists.{IsLawfulEvent}
 use Rattle.av_plain.proofs.Sound.Pages.{Brings}
 use Rattle.av_swap_laws.specs.Held.{Steps}
+use Rattle.av_swap_laws.specs.Locks.{AreLocks}
 use Rattle.av_evict.specs.System.{HasHappened, Stays, any_slot}
 use Rattle.av_mem.specs.Mem.{Serves, held_by, setting_by}
-use Rattle.av_mem.specs.Steps.{KeepsParts}
+use Rattle.av_mem.specs.Steps.{KeepsBut}
 use Rattle.av_mem.specs.declared.mem.Mem.{Mem}
 use Rattle.av_mem.proofs.ServesLaws.{PreparesNone, is_mapped, serves-note, setting-stays}
 use Rattle.av_reclaim.specs.Driver.{closing_of, view_of}
@@ -27,13 +28,14 @@ pub record StandsBy (d : Device) (k : Mem) (l : Ledger) : Type 0 where
   pub rmap : Rmap
   pub serves : Serves d (closing_of k) k world rmap l
 
--- what a step owes beside the law: it leaves areas and device, and takes and brings what it may
-pub record Owes (d d' : Device) (old new : Mem) (l : Ledger) (note : Note) : Type 0 where
-  pub parts : KeepsParts old new
+-- what a step owes beside the law: it leaves areas and device, takes and brings what it may, and counts the entries of locked pages
+pub record Owes (counts : ℕ → ℕ) (d d' : Device) (old new : Mem) (l : Ledger) (note : Note) : Type 0 where
+  pub parts : KeepsBut counts old new
   pub same : IsSameDevice d d'
   pub lawful : IsLawfulEvent (setting_by d old) (closing_of old) l (Noted note)
   pub brings : (w : World) (r : Rmap) → Serves d (closing_of old) old w r l → Brings (is_mapped w) note
   pub still : PreparesNone note
+  pub locks : (w : World) (r : Rmap) → Serves d (closing_of old) old w r l → AreLocks counts w (after_note note l)
   pub failures : RoseBy (fails (note ∷ [])) d.failures d'.failures
   pub wrote : Wrote (pages_written (note ∷ [])) d.history d'.history
 
@@ -53,7 +55,7 @@ StepsStill d d' old new l note = (w : World) (r : Rmap) → Serves d (closing_of
     → Steps (setting_by d old) (closing_of old) (Noted note) (held_by d old w r l) (held_by d' new w (rmap_after_note l note r) (after_note note l))
 
 -- what no step changes
-pub step-stays : (names : List ℕ) (d d' : Device) (old new : Mem) → KeepsParts old new → IsSameDevice d d'
+pub step-stays : {counts : ℕ → ℕ} (names : List ℕ) (d d' : Device) (old new : Mem) → KeepsBut counts old new → IsSameDevice d d'
     → Stays (view_of names d old) (view_of names d' new)
 step-stays names d d' old new parts same = record {
   setting = setting-stays old new parts d d' same;
@@ -64,7 +66,8 @@ step-stays names d d' old new parts same = record {
   history = same.history;
 }
 
-pub one-happened : (names : List ℕ) (d d' : Device) (old new : Mem) (l : Ledger) (note : Note) → StandsBy d old l → Owes d d' old new l note
+pub one-happened : {counts : ℕ → ℕ} (names : List ℕ) (d d' : Device) (old new : Mem) (l : Ledger) (note : Note) → StandsBy d old l
+    → Owes counts d d' old new l note
     → StepsBy d d' old new l note → HasHappened (view_of names d old) (view_of names d' new) l (note ∷ [])
 one-happened names d d' old new l note stood owes law = record {
   stands = (world_with d old stood.world l note, rmap_after_note l note stood.rmap, next stood.world stood.rmap stood.serves);
@@ -79,10 +82,11 @@ one-happened names d d' old new l note stood owes law = record {
         → Serves d' (closing_of new) new (world_with d old w l note) (rmap_after_note l note r) (after_note note l)
     next w r c = subst (λ k. Serves d' k new (world_with d old w l note) (rmap_after_note l note r) (after_note note l)) (sym owes.parts.swap.closing)
         (serves-note old new d d' (closing_of old) w (world_with d old w l note) r l note owes.parts owes.same stood.sound.in_order owes.lawful
-        (owes.brings w r c) owes.still refl c (law w r c))
+        (owes.brings w r c) owes.still refl (owes.locks w r c) c (law w r c))
 
 -- where the note brings nothing that a page claims
-pub one-still : (names : List ℕ) (d d' : Device) (old new : Mem) (l : Ledger) (note : Note) → StandsBy d old l → Owes d d' old new l note
+pub one-still : {counts : ℕ → ℕ} (names : List ℕ) (d d' : Device) (old new : Mem) (l : Ledger) (note : Note) → StandsBy d old l
+    → Owes counts d d' old new l note
     → ((w : World) → world_with d old w l note ≡ w) → StepsStill d d' old new l note
     → HasHappened (view_of names d old) (view_of names d' new) l (note ∷ [])
 one-still names d d' old new l note stood owes still law = one-happened names d d' old new l note stood owes

@@ -32,6 +32,7 @@ use Rattle.av_mem.specs.Cache.{Puts}
 use Rattle.av_mem.specs.Mem.{Serves, area_of, held_by, setting_by, view}
 use Rattle.av_mem.specs.Steps.{KeepsParts}
 use Rattle.av_mem.specs.declared.mem.Mem.{Mem}
+use Rattle.av_mem.proofs.ServesLaws.{locks-stay}
 use Rattle.av_mem.proofs.SwapSums.{each-free}
 use Rattle.av_reclaim.specs.Driver.{closing_of, view_of}
 use Rattle.av_reclaim.proofs.FinishMakes.{none-makes}
@@ -196,6 +197,7 @@ put-makes names d old new f (Some s) h parts = λ l sound stood may.
       lawful = (gives, used);
       brings = λ w r c. tt;
       still = tt;
+      locks = λ w r c. locks-stay old new w l (Put f s) parts refl c.locks;
       failures = stands-still d.failures;
       wrote = wrote-none d.history;
     }) (λ w. same-world (is_some m.headers) w)

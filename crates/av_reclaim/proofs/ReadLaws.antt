@@ -1,18 +1,15 @@
 -- What a memory system tells of a ledger that it serves.
-use Rattle.std.proofs.Common.{◌≡◌, ℕ, zero, suc, ◌+◌, ◌<◌, ◌≤◌, min, ◌⊎◌, inl, inr, T, Bool, true, false, cond, ◌==◌, ◌&&◌, ◌||◌, nat_lt, List, [], ◌∷◌, ◌++◌, length, map, filter, reverse, Option, Some, None, is_some, refl, sym, ap, subst, ◌∙◌, arith}
+use Rattle.std.proofs.Common.{◌≡◌, ℕ, zero, suc, ◌+◌, ◌<◌, ◌≤◌, min, ◌⊎◌, inl, inr, T, Bool, true, false, cond, ◌==◌, ◌&&◌, ◌||◌, nat_lt, List, [], ◌∷◌, ◌++◌, map, filter, reverse, Option, Some, None, is_some, refl, sym, ap, subst, ◌∙◌, arith}
 use Rattle.std.proofs.lemmas.Bool.Decides.{nat_tests}
 use Rattle.std.proofs.lemmas.Bool.{false≢true}
 use Rattle.std.proofs.lemmas.List.{append_assoc, append-nil, reverse-append}
 use Rattle.std.specs.FinMap.Entries.{is_sorted}
-use Rattle.std.specs.List.{AllByRecursion, list_any, range_with_len}
-use Rattle.std.specs.List.Sorted.{IsStrictlyIncreasing, IsStrictlySortedBy}
-use Rattle.std.specs.Ordering.{nat_cmp}
-use Rattle.std.specs.declared.cmp.Ordering.TheVariants.{Less}
-use Rattle.std.proofs.lemmas.Map.Keys.{sorted_from_strictly_increasing, sorted_head, sorted_tail}
+use Rattle.std.specs.List.{list_any, range_with_len}
 use Rattle.std.specs.Prelude.{MatchBool, MatchOption, slice_get}
 use Rattle.av_base.specs.Keys.{Key, key_cmp, same_key}
 use Rattle.av_base.proofs.Keys.{same_key-itself}
 use Rattle.av_base.specs.Words.{how_many, is_in}
+use Rattle.av_base.specs.declared.slot.Slot.{Slot}
 use Rattle.av_frames.specs.Store.{first_of}
 use Rattle.av_lru.specs.Lists.{frame_before, last_of}
 use Rattle.av_pagetable.specs.declared.pte.Pte.{Pte}
@@ -23,25 +20,22 @@ use Rattle.av_rmap.specs.Walk.{names_seen as pte_seen}
 use Rattle.av_plain.specs.Areas.{Rmap}
 use Rattle.av_plain.specs.Choice.{ListsFree}
 use Rattle.av_plain.specs.Device.{Device}
-use Rattle.av_plain.specs.Fault.{is_locked}
-use Rattle.av_plain.specs.Ledger.{Entry, Ledger, Setting, has_free, is_free, is_merged, map_count, names_frame, slot_of, walk}
+use Rattle.av_plain.specs.Ledger.{Entry, Ledger, Setting, has_free, is_free, is_merged, slot_of}
 use Rattle.av_plain.specs.Reclaim.{is_referenced, names_seen}
 use Rattle.av_plain.specs.Sound.{IsSoundBut, uses}
 use Rattle.av_plain.specs.Stands.{entry_of}
-use Rattle.av_plain.specs.World.{World, is_locked_page, pages}
+use Rattle.av_plain.specs.World.{World}
 use Rattle.av_plain.proofs.Event.{how_many-same}
 use Rattle.av_plain.proofs.Ledger.{how_many-append}
-use Rattle.av_plain.proofs.Ledger.Walk.{keys-filter, length-keys, passes}
+use Rattle.av_plain.proofs.Ledger.Walk.{keys-filter, passes}
 use Rattle.av_plain.proofs.Sound.Changes.{any-counts}
 use Rattle.av_plain.proofs.Sound.Counts.{same-itself, same-turned}
 use Rattle.av_swap_laws.proofs.From.{first-is}
-use Rattle.av_evict.specs.Standing.{cached_count, merged_count}
+use Rattle.av_evict.specs.Standing.{cached_count, locked_cached_count, locked_merged_count, merged_count}
 use Rattle.av_evict.specs.System.{any_slot}
-use Rattle.av_mem.specs.Mem.{Serves, frame_count, plain, setting_by, view}
+use Rattle.av_mem.specs.Mem.{Serves, frame_count, locks_of, plain, setting_by, view}
 use Rattle.av_mem.specs.declared.mem.Mem.{Mem}
-use Rattle.av_mem.specs.Locked.{locked_by}
-use Rattle.av_mem.proofs.LockedLaws.{merged-is}
-use Rattle.av_mem.proofs.Locks.{locks}
+use Rattle.av_mem.proofs.MergedLaws.{merged-is}
 use Rattle.av_mem.proofs.ReachLaws.{reaches-served}
 
 -- ---- the first and the last of a list
@@ -238,88 +232,16 @@ merged-many d closing k w r l sound h =
     (λ f. merged-told d closing k w r l f sound h)
     ∙ ap (λ n. how_many (is_merged l) (range_with_len 0 n)) h.items
 
--- ---- the frames of locked pages
+-- ---- how many frames of locked pages are cached, and how many merged
 
--- what stands behind the first of a rising list is above it
-above : (x f : ℕ) (ys : List ℕ) → AllByRecursion (λ y. nat_cmp x y ≡ Less) ys → is_in f ys ≡ true → x < f
-above x f [] all h = absurd (false≢true h)
-above x f (y ∷ ys) all h = by (f == y) refl h (above x f ys all.1)
-  where
-    less : (x f y : ℕ) → nat_cmp x y ≡ Less → (f == y) ≡ true → x < f
-    less x f y e same = grind (arith, nat_tests, e, same)
+module _ (d : Device) (closing : Option ℕ) (k : Mem) (w : World) (r : Rmap) (l : Ledger) (h : Serves d closing k w r l) where
+  pub locked-cached-many : how_many (λ f. nat_lt 0 (locks_of k f) && is_some ((view k).slot f)) (range_with_len 0 (frame_count k))
+      ≡ locked_cached_count (setting_by d k) (λ f. nat_lt 0 (locks_of k f)) l
+  locked-cached-many = how_many-same _ _ (range_with_len 0 (frame_count k))
+      (λ f. ap (λ (o : Option Slot). nat_lt 0 (locks_of k f) && is_some o) (h.held.ledger.frames.slots f))
 
-    by : (b : Bool) → (f == y) ≡ b → (b || is_in f ys) ≡ true → (is_in f ys ≡ true → x < f) → x < f
-    by true same h more = less x f y all.0 same
-    by false other h more = more h
-
--- a rising list of the numbers of a range that pass a test
-rising-passes : (test : ℕ → Bool) (n a : ℕ) (xs : List ℕ) → IsStrictlySortedBy nat_cmp xs → ((f : ℕ) → a ≤ f → f < a + n → is_in f xs ≡ test f)
-    → ((f : ℕ) → is_in f xs ≡ true → (a ≤ f) × (f < a + n)) → xs ≡ filter test (range_with_len a n)
-rising-passes test zero a [] sorted same within = refl
-rising-passes test zero a (x ∷ xs) sorted same within = let at = within x (ap (λ b. b || is_in x xs) (same-itself x)) in absurd (omega (arith, at.0, at.1))
-rising-passes test (suc n) a xs sorted same within =
-    by xs sorted same within (test a) refl (λ ys s h i. rising-passes test n (a + 1) ys s h i)
-  where
-    other : (f a : ℕ) → a + 1 ≤ f → (f == a) ≡ false
-    other f a more = grind (arith, nat_tests, more)
-
-    is-same : (f a : ℕ) → (f == a) ≡ true → f ≡ a
-    is-same f a e = grind (arith, nat_tests, e)
-
-    not-same : (f a : ℕ) → a ≤ f → (f ≡ a → ⊥) → a + 1 ≤ f
-    not-same f a low other = omega (arith, low, other)
-
-    either : (b c : Bool) → (b || c) ≡ true → b ≡ false → c ≡ true
-    either true c h e = cc
-    either false c h e = h
-
-    second : (b c : Bool) → c ≡ true → (b || c) ≡ true
-    second true c h = refl
-    second false c h = h
-
-    by : (xs : List ℕ) → IsStrictlySortedBy nat_cmp xs → ((f : ℕ) → a ≤ f → f < a + suc n → is_in f xs ≡ test f)
-        → ((f : ℕ) → is_in f xs ≡ true → (a ≤ f) × (f < a + suc n)) → (b : Bool) → test a ≡ b
-        → ((ys : List ℕ) → IsStrictlySortedBy nat_cmp ys → ((f : ℕ) → a + 1 ≤ f → f < a + 1 + n → is_in f ys ≡ test f)
-        → ((f : ℕ) → is_in f ys ≡ true → (a + 1 ≤ f) × (f < a + 1 + n)) → ys ≡ filter test (range_with_len (a + 1) n))
-        → xs ≡ cond b (a ∷ filter test (range_with_len (a + 1) n)) (filter test (range_with_len (a + 1) n))
-    by xs sorted same within false e rest = rest xs sorted (λ f low high. same f (omega (arith, low)) (omega (arith, high)))
-        (λ f h. let at = within f h in let more = not-same f a at.0 (λ is. false≢true (sym e ∙ sym (same a (omega arith) (omega arith))
-        ∙ ap (λ g. is_in g xs) (sym is) ∙ h)) in (more, omega (arith, at.1)))
-    by [] sorted same within true e rest = absurd (false≢true (same a (omega arith) (omega arith) ∙ e))
-    by (x ∷ ys) sorted same within true e rest = here (a == x) refl
-      where
-        first : (a == x) ≡ true → x ≡ a
-        first h = sym (is-same a x h)
-
-        ahead : AllByRecursion (λ y. nat_cmp x y ≡ Less) ys
-        ahead = sorted_head nat_cmp x ys sorted
-
-        here : (b : Bool) → (a == x) ≡ b → ◌≡◌ {A = List ℕ} (x ∷ ys) (a ∷ filter test (range_with_len (a + 1) n))
-        here true h = λ i. first h i ∷ rest ys (sorted_tail nat_cmp x ys sorted)
-            (λ f low high. ap (λ b. b || is_in f ys) (sym (let o : (f == x) ≡ false = other f x (let z = first h in omega (arith, z, low)) in o))
-            ∙ same f (omega (arith, low)) (omega (arith, high)))
-            (λ f in_ys. let at = within f (second (f == x) (is_in f ys) in_ys) in let up = above x f ys ahead in_ys in let z = first h in
-            (omega (arith, up, z), omega (arith, at.1))) i
-        here false h =
-            let in_ys = either (a == x) (is_in a ys) (same a (omega arith) (omega arith) ∙ e) h in
-            let up = above x a ys ahead in_ys in
-            let at = within x (ap (λ b. b || is_in x ys) (same-itself x)) in
-            absurd (omega (arith, up, at.0))
-
--- a frame of a locked page is mapped, so it is one of the machine's
-locked-in-range : (m : Setting) (w : World) (l : Ledger) → IsSoundBut m any_slot l → (f : ℕ) → is_locked w l f ≡ true → f < m.frames
-locked-in-range m w l sound f h = sound.in_range f (by (walk l f) refl h)
-  where
-    by : (ks : List Key) → walk l f ≡ ks → list_any (λ (k : Key). is_locked_page (pages w k.0 k.1)) ks ≡ true → 0 < uses l f
-    by [] e h = absurd (false≢true h)
-    by (k ∷ ks) e h = let n : map_count l f ≡ suc (length ks) = sym (length-keys (names_frame f) l.entries) ∙ ap length e in omega (arith, n)
-
-pub locked-frames : (d : Device) (closing : Option ℕ) (k : Mem) (w : World) (r : Rmap) (l : Ledger) → IsSoundBut (setting_by d k) any_slot l
-    → Serves d closing k w r l → (fs : List ℕ) → IsStrictlyIncreasing fs → ((f : ℕ) → is_in f fs ≡ locked_by k f)
-    → fs ≡ filter (locked_by k) (range_with_len 0 (frame_count k))
-locked-frames d closing k w r l sound h fs rising told =
-    rising-passes (locked_by k) (frame_count k) 0 fs (sorted_from_strictly_increasing fs rising) (λ f low high. told f)
-    (λ f is. (omega arith, below f (sym (ap (λ (locked : ℕ → Bool). locked f) (locks d closing k w r l sound.in_order h)) ∙ sym (told f) ∙ is)))
-  where
-    below : (f : ℕ) → is_locked w l f ≡ true → f < 0 + frame_count k
-    below f is = let less = locked-in-range (setting_by d k) w l sound f is in omega (arith, less)
+  pub locked-merged-many : IsSoundBut (setting_by d k) any_slot l
+      → how_many (λ f. nat_lt 0 (locks_of k f) && has_items ((view k).items f)) (range_with_len 0 (frame_count k))
+      ≡ locked_merged_count (setting_by d k) (λ f. nat_lt 0 (locks_of k f)) l
+  locked-merged-many sound = how_many-same _ _ (range_with_len 0 (frame_count k))
+      (λ f. ap (λ b. nat_lt 0 (locks_of k f) && b) (merged-told d closing k w r l f sound h))

@@ -1,5 +1,5 @@
 -- Frames that are kept or age, and slots whose writes begin or that are dropped.
-use Rattle.std.proofs.Common.{◌≡◌, ℕ, ◌+◌, ◌≤◌, ◌<◌, min, ◌^◌, ◌-◌, ◌⊎◌, inl, inr, Bool, true, false, cond, ◌==◌, ◌&&◌, ◌||◌, List, [], ◌∷◌, Option, Some, None, is_some, option_map, refl, sym, ap, subst, ◌∙◌, arith}
+use Rattle.std.proofs.Common.{◌≡◌, ℕ, ◌+◌, ◌≤◌, ◌<◌, min, ◌^◌, ◌-◌, ◌⊎◌, inl, inr, Bool, true, false, cond, ◌==◌, ◌&&◌, ◌||◌, nat_lt, List, [], ◌∷◌, Option, Some, None, is_some, option_map, refl, sym, ap, subst, ◌∙◌, arith}
 use Rattle.std.proofs.lemmas.Bool.Decides.{nat_tests}
 use Rattle.std.specs.List.{list_any}
 use Rattle.std.specs.Prelude.{is_none}
@@ -23,13 +23,16 @@ use Rattle.av_swap_laws.specs.Steps.{view_drop, view_keep, view_start, view_to_a
 use Rattle.av_swap_laws.proofs.Cache.{cached-own, frame-slot, once-of, slot-frame}
 use Rattle.av_swap_laws.proofs.Few.{together-few}
 use Rattle.av_swap_laws.proofs.From.{cached-in_range, cached-there}
+use Rattle.av_swap_laws.proofs.Locks.{locks-unmapped}
 use Rattle.av_swap_laws.proofs.Whole.{age-steps, drop-steps, keep-steps, start-steps, unmap-steps}
 use Rattle.av_swapcache.specs.Swap.{IsUncached, shown}
 use Rattle.av_evict.specs.Steps.{IsUsed, MayDrop, MayStart, MayUnmap}
 use Rattle.av_evict.specs.System.{Makes, Stays, any_slot}
-use Rattle.av_mem.specs.Mem.{Serves, held_by, setting_by, view}
-use Rattle.av_mem.specs.Steps.{KeepsParts}
+use Rattle.av_mem.specs.Mem.{Serves, held_by, locks_of, setting_by, view}
+use Rattle.av_mem.specs.Steps.{KeepsBut, KeepsParts}
 use Rattle.av_mem.specs.declared.mem.Mem.{Mem}
+use Rattle.av_mem.proofs.LockedLaws.{locked-told}
+use Rattle.av_mem.proofs.ServesLaws.{locks-stay}
 use Rattle.av_reclaim.specs.Driver.{closing_of, view_of}
 use Rattle.av_reclaim.proofs.OneNote.{one-still, step-stays}
 use Rattle.av_plain.proofs.Wrote.{wrote-none, device-itself}
@@ -41,7 +44,8 @@ same-world true w = refl
 same-world false w = refl
 
 -- a step of the memory system alone changes none of what stays
-pub mem-stays : (names : List ℕ) (d : Device) (old new : Mem) → KeepsParts old new → Stays (view_of names d old) (view_of names d new)
+pub mem-stays : {counts : ℕ → ℕ} (names : List ℕ) (d : Device) (old new : Mem) → KeepsBut counts old new
+    → Stays (view_of names d old) (view_of names d new)
 mem-stays names d old new parts = step-stays names d d old new parts (device-itself d)
 
 pub stands-still : (a : ℕ) → min (a + 0) (2 ^ 64 - 1) ≤ a
@@ -110,6 +114,7 @@ keep-makes names d old new f cause is parts = λ l sound stood may. one-still na
       lawful = (tt, tt);
       brings = λ w r c. tt;
       still = tt;
+      locks = λ w r c. locks-stay old new w l (Kept f cause) parts refl c.locks;
       failures = stands-still d.failures;
       wrote = wrote-none d.history;
     }) (λ w. same-world (is_some (setting_by d old).headers) w) (λ w r h. by-view d d old new l (Kept f cause) (view_keep f cause (view old)) w r is
@@ -124,6 +129,7 @@ age-makes names d old new f is parts = λ l sound stood may. one-still names d d
       lawful = (tt, tt);
       brings = λ w r c. tt;
       still = tt;
+      locks = λ w r c. locks-stay old new w l (Aged f) parts refl c.locks;
       failures = stands-still d.failures;
       wrote = wrote-none d.history;
     }) (λ w. same-world (is_some (setting_by d old).headers) w)
@@ -141,6 +147,7 @@ start-makes names d old new f s is parts = λ l sound stood may. let once = once
       lawful = (tt, tt);
       brings = λ w r c. tt;
       still = tt;
+      locks = λ w r c. locks-stay old new w l (Started s) parts refl c.locks;
       failures = stands-still d.failures;
       wrote = wrote-none d.history;
     }) (λ w. same-world (is_some (setting_by d old).headers) w) (λ w r h. by-view d d old new l (Started s) (view_start f s (view old)) w r is
@@ -166,6 +173,7 @@ drop-makes names d old new f s is parts = λ l sound stood may. let once = once-
       lawful = (tt, tt);
       brings = λ w r c. tt;
       still = tt;
+      locks = λ w r c. locks-stay old new w l (Dropped s) parts refl c.locks;
       failures = stands-still d.failures;
       wrote = wrote-none d.history;
     }) (λ w. same-world (is_some (setting_by d old).headers) w) (λ w r h. by-view d d old new l (Dropped s) (view_drop f s (view old)) w r is
@@ -184,17 +192,18 @@ in-use d closing k w r l f s sound h at =
     none true = refl
     none false = refl
 
--- ---- a frame is unmapped
+-- ---- a frame of which no page is locked is unmapped
 
 pub unmap-makes : (names : List ℕ) (d : Device) (old new : Mem) (f : ℕ) (s : Slot) → view new ≡ view_unmap f s (view old)
-    → KeepsParts old new → Makes (view_of names d old) (view_of names d new) (MayUnmap f s) (Unmapped f ∷ [])
-unmap-makes names d old new f s is parts = λ l sound stood may.
+    → KeepsParts old new → nat_lt 0 (locks_of old f) ≡ false → Makes (view_of names d old) (view_of names d new) (MayUnmap f s) (Unmapped f ∷ [])
+unmap-makes names d old new f s is parts unlocked = λ l sound stood may.
     one-still names d d old new l (Unmapped f) (record { sound = sound; world = stood.0; rmap = stood.1; serves = stood.2 }) (record {
       parts = parts;
       same = device-itself d;
       lawful = (tt, tt);
       brings = λ w r c. tt;
       still = tt;
+      locks = λ w r c g. c.locks g ∙ sym (locks-unmapped w f l g (sym (locked-told (locks_of old) w l f c.locks) ∙ unlocked));
       failures = stands-still d.failures;
       wrote = wrote-none d.history;
     }) (λ w. same-world (is_some (setting_by d old).headers) w) (λ w r h. by-view d d old new l (Unmapped f) (view_unmap f s (view old)) w r is

@@ -1,5 +1,5 @@
 -- The memory system with its device, as the loops of reclaim see it.
-use Rattle.std.specs.Prelude.{ℕ, false, true, List, Option}
+use Rattle.std.specs.Prelude.{ℕ, false, true, List, Option, nat_lt}
 use Rattle.av_evict.specs.declared.system.WriteEnd.{WriteEnd}
 use Rattle.av_evict.specs.System.{SystemView}
 use Rattle.av_plain.specs.Areas.{Rmap}
@@ -9,9 +9,8 @@ use Rattle.av_plain.specs.World.{World}
 use Rattle.av_swapcache.specs.declared.swap.Finished.{Finished}
 use Rattle.av_swapcache.specs.declared.swap.Finished.TheVariants.{Done, Failed}
 use Rattle.av_swapcache.specs.Swap.{shown}
-use Rattle.av_mem.specs.Mem.{Serves, setting_by, view}
+use Rattle.av_mem.specs.Mem.{Serves, locks_of, setting_by, view}
 use Rattle.av_mem.specs.declared.mem.Mem.{Mem}
-use Rattle.av_mem.specs.Locked.{locked_by}
 
 -- the swap area that is closing, if one is
 abbrev pub closing_of : Mem → Option ℕ
@@ -28,7 +27,7 @@ view_of names d k = record {
   failures = d.failures;
   history = d.history;
   names = names;
-  locked = locked_by k;
+  locked = λ f. nat_lt 0 (locks_of k f);
   stands = λ l. (w : World) × (r : Rmap) × Serves d (closing_of k) k w r l;
   claims = Serves d (closing_of k) k;
 }

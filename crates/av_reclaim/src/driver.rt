@@ -1,9 +1,13 @@
 //! The memory system with its device, in single steps.
 
-ghost use Rattle.std.specs.Prelude.{◌≡◌, ◌∷◌, []};
+ghost use Rattle.std.specs.Prelude.{◌≡◌, ◌&&◌, ◌<◌, ◌∷◌, [], nat_lt};
+ghost use Rattle.std.specs.List.{range_with_len};
+ghost use Rattle.av_base.specs.Words.{how_many};
+ghost use Rattle.av_rmap.specs.Items.{is_merged};
 ghost use Rattle.av_plain.specs.Device.{as_told, seen_by};
-ghost use Rattle.av_mem.proofs.Locks.{locks as locked_so};
-ghost use Rattle.av_reclaim.specs.Driver.{closing_of, end_of, view_of};
+ghost use Rattle.av_mem.specs.Mem.{HasItems, frame_count, locks_of, view};
+ghost use Rattle.av_mem.proofs.LockedLaws.{locked-told as locked_so};
+ghost use Rattle.av_reclaim.specs.Driver.{end_of, view_of};
 
 use av_base::Slot;
 use av_evict::{System, WriteEnd};
@@ -26,9 +30,8 @@ impl<'a, D: SwapDev> System for Driver<'a, D> {
     ghost view = { λ s told. view_of (s.mem.ghost_name ∷ s.dev.ghost_name ∷ []) (as_told told
         (seen_by D.sizes D.pages D.failures D.history s.dev.now)) s.mem.now };
 
-    ghost locks = { λ s told l sound stood w r claims. locked_so (as_told told
-        (seen_by D.sizes D.pages D.failures D.history s.dev.now))
-        (closing_of s.mem.now) s.mem.now w r l sound.in_order claims };
+    ghost locks = { λ s told l sound stood w r claims i f.
+        locked_so (locks_of s.mem.now) w l f claims.locks i };
 
     fn frames(&self) -> u32 {
         self.mem.frames.count()
@@ -54,8 +57,16 @@ impl<'a, D: SwapDev> System for Driver<'a, D> {
         self.mem.is_locked(frame)
     }
 
-    fn locked_frames(&self) -> Result<Vec<u32>, AllocError> {
-        self.mem.locked_frames()
+    fn locked_len(&self) -> u32 {
+        self.mem.frames.locked_len()
+    }
+
+    fn locked_cached_len(&self) -> u32 {
+        self.mem.frames.locked_cached_len()
+    }
+
+    fn locked_merged_len(&self) -> u32 {
+        locked_merged_len(&*self.mem)
     }
 
     fn is_merged(&self, frame: u32) -> bool {
@@ -154,6 +165,34 @@ impl<'a, D: SwapDev> System for Driver<'a, D> {
         self.mem.unsee(frame);
         self.mem.to_head(frame);
     }
+}
+
+/// How many frames with a locked page are merged. Where no frame has one, or none is merged, it
+/// looks at none.
+fn locked_merged_len(mem: &Mem) -> u32
+    requires { HasItems mem.now }
+    ensures { result ≡ how_many
+        (λ f. nat_lt 0 (locks_of mem.now f) && is_merged ((view mem.now).items f))
+        (range_with_len 0 (frame_count mem.now)) }
+{
+    if mem.frames.locked_len() == 0 || mem.items.merged_len() == 0 {
+        return 0;
+    }
+    let mut len = 0;
+    for frame in 0..mem.frames.count() {
+        len += u32::from(is_locked_merged(mem, frame));
+    }
+    len
+}
+
+/// Whether a frame has a locked page and is merged.
+fn is_locked_merged(mem: &Mem, frame: u32) -> bool
+    requires itemed { HasItems mem.now }
+    requires in_range { frame < frame_count mem.now }
+    ensures { result ≡ nat_lt 0 (locks_of mem.now frame)
+        && is_merged ((view mem.now).items frame) }
+{
+    mem.is_locked(frame) && mem.is_merged(frame)
 }
 
 /// How the write of a slot ended.

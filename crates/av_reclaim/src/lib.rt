@@ -1,9 +1,9 @@
 //! Reclaim, age, completion and the search for a free frame, over the memory system and its device.
 //!
 //! `Driver` lends both to the loops of `av_evict`, which drive them in single steps. The commands
-//! call those loops. Which frames are those of locked pages is said by a search of all areas
-//! (`locked_by` of av_mem): they are those that the definitions name, whatever the memory system
-//! stands for, and no step changes them.
+//! call those loops. Which frames are those of locked pages is said by a count that is kept of
+//! each: they are those that the definitions name, whatever the memory system stands for, and no
+//! step changes them.
 //!
 //! Proved for whatever the memory system stands for, and whether the device's pages are told or
 //! not: the notes that a command adds are those of the definitions' `Reclaims`, `Ages`,

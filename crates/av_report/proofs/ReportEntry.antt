@@ -23,7 +23,7 @@ use Rattle.av_mem.specs.declared.mem.Mem.{Mem}
 use Rattle.av_plain.proofs.Ledger.{how_many-found}
 use Rattle.av_plain.proofs.Sound.Counts.{same-itself}
 use Rattle.av_mem.specs.Mem.{IsSteady, Keeps, frame_count, plain, setting_by, view}
-use Rattle.av_mem.proofs.LockedLaws.{merged-is}
+use Rattle.av_mem.proofs.MergedLaws.{merged-is}
 use Rattle.av_mem.proofs.ReachLaws.{reaches-kept}
 use Rattle.av_rmap.specs.Items.{is_merged as has_items}
 use Rattle.av_mem.proofs.MemLaws.{lives_is, mapped_is, taken_has}

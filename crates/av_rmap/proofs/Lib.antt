@@ -3,7 +3,6 @@ pub mod Counting
 pub mod Entries
 pub mod ItemLemmas
 pub mod LinkedAreas
-pub mod LockedLemmas
 pub mod LookLemmas
 pub mod MergedLemmas
 pub mod NextAreas

@@ -2,7 +2,6 @@ pub mod Changed
 pub mod Covered
 pub mod ItemLists
 pub mod Items
-pub mod Locked
 pub mod Looks
 pub mod Seen
 pub mod Sorted

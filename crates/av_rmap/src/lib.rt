@@ -26,10 +26,6 @@
 //! `clear_seen_items` takes as many, and does what `clear_seen` does wherever each entry is reached
 //! from an item.
 //!
-//! `any_locked` answers whether a page whose entry names a frame is locked, by the frame's items or
-//! its home. Proved: with such an entry if it says yes, and that there is none if it says no; it
-//! takes no more steps than a walk has looks in areas that are locked.
-//!
 //! Each of these takes its areas from `Looks`, one after the other, in the order of the spans.
 //!
 //! `Stores` shows areas, anon_vmas and page tables as they are kept, and `StoresMut` lends the
@@ -42,7 +38,6 @@
 pub mod covered;
 mod item_list;
 pub mod items;
-pub mod locked;
 pub mod look;
 mod looks;
 pub mod merged;

@@ -1,11 +1,10 @@
 //! What a walk reads: spans, areas and page tables, and nothing else; and the one thing that is
 //! written: an entry that is there.
 
-ghost use Rattle.std.specs.Prelude.{◌≡◌, ◌+◌, true, take, IfSome, IsSome, IsSomeAnd};
+ghost use Rattle.std.specs.Prelude.{◌≡◌, ◌+◌, true, take, IfSome, IsSomeAnd};
 ghost use Rattle.av_interval.specs.Batch.{overlaps_past};
 ghost use Rattle.av_pagetable.specs.Entries.{with_entry};
 ghost use Rattle.av_interval.specs.Search.{IsOrdered};
-ghost use Rattle.av_vma.specs.Areas.{is_locked};
 ghost use Rattle.av_rmap.specs.View.{View};
 ghost use Rattle.av_rmap.specs.Walk.{holds, page_at};
 
@@ -29,11 +28,6 @@ pub trait Look<L: Ledger> {
     fn place(&self, area: u64, index: u64) -> (u16, u64)
         requires { IsSomeAnd ((view self.now).areas area) (λ a. holds index a ≡ true) }
         ensures { IfSome ((view self.now).areas area) (λ a. result ≡ (a.pid, page_at index a)) };
-
-    /// Whether the pages of an area are locked.
-    fn is_locked(&self, area: u64) -> bool
-        requires { IsSome ((view self.now).areas area) }
-        ensures { result ≡ is_locked ((view self.now).areas area) };
 
     /// The entry of a page. This is the one call that takes a step.
     fn look(&self, process: u16, page: u64, steps: &mut Steps<L>) -> Pte

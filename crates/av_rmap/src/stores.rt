@@ -37,10 +37,6 @@ impl<'a, L: Ledger> Look<L> for Stores<'a> {
         (area.pid, area.start / PAGE_SIZE + (index - area.pgoff))
     }
 
-    fn is_locked(&self, area: u64) -> bool {
-        self.areas.get(area).flags.locked
-    }
-
     #[inline(always)]
     fn look(&self, process: u16, page: u64, steps: &mut Steps<L>) -> Pte {
         steps.tick();
@@ -78,10 +74,6 @@ impl<'a, L: Ledger> Look<L> for StoresMut<'a> {
 
     fn place(&self, area: u64, index: u64) -> (u16, u64) {
         Look::<L>::place(&self.stores(), area, index)
-    }
-
-    fn is_locked(&self, area: u64) -> bool {
-        Look::<L>::is_locked(&self.stores(), area)
     }
 
     #[inline(always)]

@@ -6,4 +6,3 @@ pub mod Trees
 pub mod Kin
 pub mod Numbers
 pub mod Lent
-pub mod LockedAreas

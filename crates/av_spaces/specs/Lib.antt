@@ -3,4 +3,3 @@ pub mod Kin
 pub mod Lending
 pub mod Spaces
 pub mod Trees
-pub mod Locked

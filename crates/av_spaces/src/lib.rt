@@ -8,7 +8,6 @@
 //! not meet. Of the anon_vmas: a call makes none but `prepare` and `fork`, and no call changes root
 //! or parent of one; those that are left are those that an area is linked to, and there is chain
 //! order. A fork goes area by area, by rising address, and each sees what the earlier ones left.
-//! `locked_areas` gives the areas of all processes that are locked, each of them and no other.
 //! Not proved: how much time a call takes. Each trace that maps, forks or moves runs it.
 #![tactic(auto)]
 

@@ -3,9 +3,8 @@
 ghost use Rattle.std.specs.Prelude.{◌≡◌, ℕ, ◌+◌, ◌-◌, ◌^◌, ◌<◌, ◌≤◌, [], Some, None, true, false};
 ghost use Rattle.std.specs.Prelude.{is_some, option_map, slice_set, length, IsSome, IsSomeAnd};
 ghost use Rattle.std.specs.Prelude.{OnOk, OnErr, IfOk, IfSome};
-ghost use Rattle.std.specs.List.{AllByRecursion};
 ghost use Rattle.std.specs.Borrow.{sem};
-ghost use Rattle.av_vma.specs.Areas.{area_of, is_locked};
+ghost use Rattle.av_vma.specs.Areas.{area_of};
 ghost use Rattle.av_base.specs.Flags.{no_flags};
 ghost use Rattle.av_base.specs.Limits.{low_page, top_page};
 ghost use Rattle.av_vma.specs.Fork.{areas_to_fork};
@@ -20,7 +19,6 @@ ghost use Rattle.av_merge.specs.Kin.{lengths};
 ghost use Rattle.av_spaces.specs.Fork.{AreKept, GoInTurn, IsForked};
 ghost use Rattle.av_spaces.specs.Kin.{AnonsPrepare, AnonsStay, InOrder, chain_at};
 ghost use Rattle.av_spaces.specs.Lending.{LendsTree};
-ghost use Rattle.av_spaces.specs.Locked.{AreLockedAreas, locked_by, spans_in};
 ghost use Rattle.av_spaces.specs.Spaces.{areas_of, pages_of, is_taken, AllRising, AreNumbered};
 ghost use Rattle.av_spaces.specs.Spaces.{AreThese, AreRising, IsSpawned, IsChanged, IsEnded};
 ghost use Rattle.av_vma.specs.Mremap.{IsGrowth, IsMove, after_grow, after_move, pages_from};
@@ -455,21 +453,6 @@ impl Spaces {
         areas_at(self.alloc, &self.areas, &spans)
     }
 
-    /// The locked areas of all processes. Where none is locked it looks at none, and takes no
-    /// memory; else it takes time linear in the number of all areas.
-    pub fn locked_areas(&self) -> Result<Vec<Area>, AllocError>
-        ensures areas { IfOk result (λ areas. AreLockedAreas self.now.areas areas.items) }
-        ensures some { OnErr result ((number : ℕ)
-            × (is_locked (area_of self.now.areas number) ≡ true)) }
-        ensures numbered { AreNumbered self.now }
-    {
-        if !self.areas.any_locked() {
-            return Ok(Vec::new(self.alloc));
-        }
-        let spans = all_spans(self.alloc, &self.trees)?;
-        locked_at(self.alloc, &self.areas, &spans)
-    }
-
     /// The chain of the area that holds a page: the numbers of the anon_vmas that it is linked to,
     /// rising. It is empty where the page isn't mapped. Once the area is found, it takes time
     /// linear in the length of the chain.
@@ -558,34 +541,6 @@ fn areas_at(alloc: Global, areas: &Areas, spans: &[Span]) -> Result<Vec<Area>, A
     let mut list = Vec::new(alloc);
     for span in spans {
         list.push(areas.get(span.area))?;
-    }
-    Ok(list)
-}
-
-/// The spans of all trees.
-fn all_spans(alloc: Global, trees: &[Option<Tree>]) -> Result<Vec<Span>, AllocError>
-    ensures { IfOk result (λ spans. spans.items ≡ spans_in trees.now) }
-{
-    let mut spans = Vec::new(alloc);
-    for tree in trees {
-        if let Some(tree) = tree {
-            tree.append_to(&mut spans)?;
-        }
-    }
-    Ok(spans)
-}
-
-/// Those of the areas of these spans that are locked.
-fn locked_at(alloc: Global, areas: &Areas, spans: &[Span]) -> Result<Vec<Area>, AllocError>
-    requires { AllByRecursion (λ s. IsSome (area_of areas.now s.area)) spans.now }
-    ensures { IfOk result (λ list. list.items ≡ locked_by (area_of areas.now) spans.now) }
-{
-    let mut list = Vec::new(alloc);
-    for span in spans {
-        let area = areas.get(span.area);
-        if area.flags.locked {
-            list.push(area)?;
-        }
     }
     Ok(list)
 }

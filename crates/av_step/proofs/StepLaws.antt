@@ -35,6 +35,7 @@ use Rattle.av_plain.proofs.Covered.Swap.{Reach}
 use Rattle.av_plain.proofs.Covered.Zaps.{next-reach}
 use Rattle.av_plain.proofs.Device.{setting-layouts}
 use Rattle.av_swap_laws.specs.Held.{AllCovered}
+use Rattle.av_swap_laws.specs.Locks.{AreLocks}
 use Rattle.av_mem.proofs.AnonLaws.{anons_stand, are_left, left_of}
 use Rattle.av_plain.proofs.FreeSteps.{step-lists}
 use Rattle.av_plain.proofs.Refusal.{refused-areas, refused-next}
@@ -46,7 +47,7 @@ use Rattle.av_pagetable.specs.declared.pte.Pte.{Pte}
 use Rattle.av_mem.specs.declared.mem.Mem.{Mem}
 use Rattle.av_spaces.specs.Spaces.{AllSpaces, areas_of, pages_of as areas_on}
 use Rattle.av_plain.proofs.Transcript.{is_fork, next-plain}
-use Rattle.av_mem.specs.Mem.{anon_vma, ranges_of, setting_by, plain, view, frame_count, HasTables, IsSteady, Keeps, HasLedger, IsSteadyAt}
+use Rattle.av_mem.specs.Mem.{anon_vma, ranges_of, setting_by, plain, view, frame_count, locks_of, HasTables, IsSteady, Keeps, HasLedger, IsSteadyAt}
 use Rattle.av_mem.specs.Steps.{KeepsSwap}
 use Rattle.av_swapcache.specs.Swap.{shown as shown_swap}
 use Rattle.av_step.specs.declared.refusal.Refusal.{Refusal}
@@ -289,28 +290,30 @@ pub keeps-next : {d : Device} (old new : Mem) (s next : State) → Keeps d old s
     → AreasAre (view new) next.areas → AnonsStand (view new) next.areas next.anons → HomesAre (view new) next.homes
     → ItemsAre (view new) next.ledger next.items → AllCovered next.ledger (rmap_of next) →
     AnonsFit new.spaces new.anons → AreasStand (view new) next.world → HasTables new → BytesStand (view new) d next.world next.ledger
-    → Keeps d new next
-keeps-next {d} old new s next keeps sound lists same_count swap stands free areas_now anons_now homes_now items_now covered fit areas tables bytes = record {
-  stands = record {
-    over = record { sizes = refl; headers = refl };
-    sound = subst (λ n. AllSound (setting_of n d) next.world next.ledger) (sym same_count) sound;
-    parts = record { ledger = stands.parts; areas = areas; bytes = bytes; headers = headers };
-    free = free;
-    lists = subst (λ n. ListsAll (setting_of n d) next.ledger next.free) (sym same_count) lists;
-    areas = areas_now;
-    anons = anons_now;
-    homes = homes_now;
-    items = items_now;
-    reach = covered.frames;
-    slots = covered.slots;
-    merged = covered.merged;
-  };
-  lists = stands.lists;
-  items = stands.items;
-  tables = tables;
-  anons = fit;
-  swap = fits-kept d None old new swap same_count keeps.swap;
-}
+    → AreLocks (locks_of new) next.world next.ledger → Keeps d new next
+keeps-next {d} old new s next keeps sound lists same_count swap stands free areas_now anons_now homes_now items_now covered fit areas tables bytes
+    locks = record {
+      stands = record {
+        over = record { sizes = refl; headers = refl };
+        sound = subst (λ n. AllSound (setting_of n d) next.world next.ledger) (sym same_count) sound;
+        parts = record { ledger = stands.parts; areas = areas; bytes = bytes; headers = headers };
+        free = free;
+        lists = subst (λ n. ListsAll (setting_of n d) next.ledger next.free) (sym same_count) lists;
+        areas = areas_now;
+        anons = anons_now;
+        homes = homes_now;
+        items = items_now;
+        reach = covered.frames;
+        slots = covered.slots;
+        merged = covered.merged;
+      };
+      locks = locks;
+      lists = stands.lists;
+      items = stands.items;
+      tables = tables;
+      anons = fit;
+      swap = fits-kept d None old new swap same_count keeps.swap;
+    }
   where
     same_on : next.ledger.on ≡ s.ledger.on
     same_on = sym stands.parts.swap.on ∙ areas-kept old new swap ∙ keeps.stands.parts.ledger.swap.on
@@ -335,13 +338,13 @@ pub stepped : {d : Device} (old new : Mem) (s next : State) (command : Command) 
     → AreasAre (view new) next.areas → AnonsStand (view new) next.areas next.anons → HomesAre (view new) next.homes
     → ItemsAre (view new) next.ledger next.items → AllCovered next.ledger (rmap_of next) →
     AnonsFit new.spaces new.anons → AreasStand (view new) next.world → HasTables new → BytesStand (view new) d next.world next.ledger
-    → StepsBeside d old new s command reply
+    → AreLocks (locks_of new) next.world next.ledger → StepsBeside d old new s command reply
 stepped {d} old new s next command reply keeps step same_count swap stands free areas_now anons_now homes_now items_now covered fit areas
-    tables bytes = record {
+    tables bytes locks = record {
       next = next;
       step = step;
       keeps = keeps-next old new s next keeps (after-sound old s next command reply keeps step) (after-lists old s next command reply keeps step)
-          same_count swap stands free areas_now anons_now homes_now items_now covered fit areas tables bytes;
+          same_count swap stands free areas_now anons_now homes_now items_now covered fit areas tables bytes locks;
     }
 
 -- ---- what reverse mapping goes by, after areas changed
@@ -384,7 +387,7 @@ module _ {d : Device} (old new : Mem) (s : State) (p : ℕ) (now : Process) (on 
     (others : (q page : ℕ) → (q == p) ≡ false → entry l (q, page) ≡ entry s.ledger (q, page))
     (cached : KeepsCached s.ledger l) (kept : (page : ℕ) → IsKept (view old) d s.ledger (entry l (p, page)) (now page))
     (reach : Reach l (rmap_of s)) (home : (page : ℕ) (home : ℕ × ℕ) → is_some (entry l (p, page)) ≡ true →
-    home_of page (s.areas p page) ≡ Some home → home_of page (on page) ≡ Some home) where
+    home_of page (s.areas p page) ≡ Some home → home_of page (on page) ≡ Some home) (locks : AreLocks (locks_of new) (set_process s.world p now) l) where
   kept-all : (q page : ℕ) → IsKept (view old) d s.ledger (entry l (q, page)) (pages (set_process s.world p now) q page)
   kept-all q page = subst (IsKept (view old) d s.ledger (entry l (q, page)))
       (sym (pages-set s.world p now q page ∙ ap (λ b. cond b (now page) (pages s.world q page)) (at_number q p))) (by (q == p) refl)
@@ -410,7 +413,7 @@ module _ {d : Device} (old new : Mem) (s : State) (p : ℕ) (now : Process) (on 
       (anons_stand d old s keeps new.spaces new.anons stay (with_at p on s.areas) areas_now new refl refl)
       (λ f. ap (λ h. h f) homes ∙ keeps.stands.homes f) items
       (reach_after old s keeps new.spaces new.anons stay l (with_at p on s.areas) areas_now home-all reach) stay.fit areas tables
-      (bytes-left d (view old) (view new) s.world (set_process s.world p now) s.ledger l bytes cached keeps.stands.parts.bytes kept-all)
+      (bytes-left d (view old) (view new) s.world (set_process s.world p now) s.ledger l bytes cached keeps.stands.parts.bytes kept-all) locks
 
   pub changed : (command : Command) (reply : Reply)
       → IsStep (setting_by d old) s command reply (state_after s p now on l (free_of (view new)) new.anons) →

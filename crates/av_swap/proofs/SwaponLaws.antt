@@ -129,6 +129,7 @@ alike-keeps d k swap s same keeps = record {
     on = map (area_of h.priority) h.on;
     slots = h.slots;
   }) d s) (sym same) keeps.stands;
+  locks = keeps.locks;
   lists = keeps.lists;
   items = keeps.items;
   tables = keeps.tables;
@@ -351,6 +352,7 @@ module _ (d : Device) (k : Mem) (swap : SwapStore) (s : State) (area pages : ℕ
         slots = on-step.held.covered.slots;
         merged = on-step.held.covered.merged;
       };
+      locks = keeps.locks;
       lists = keeps.lists;
       items = keeps.items;
       tables = keeps.tables;

@@ -8,6 +8,7 @@ pub mod Write
 pub mod Drop
 pub mod Keep
 pub mod Load
+pub mod LockRange
 pub mod Map
 pub mod Free
 pub mod FreeNotes
@@ -33,3 +34,4 @@ pub mod Walks
 pub mod Homes
 pub mod Sound
 pub mod Few
+pub mod Locks

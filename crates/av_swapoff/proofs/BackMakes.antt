@@ -1,9 +1,10 @@
 -- The page of a slot is loaded, and the entry that names the slot names its frame: what the memory system with its device makes of both.
-use Rattle.std.proofs.Common.{◌≡◌, ℕ, ◌+◌, ◌<◌, ◌≤◌, Bool, true, false, cond, List, [], ◌∷◌, Option, Some, None, IfSome, is_some, refl, sym, ap, subst, ◌∙◌}
+use Rattle.std.proofs.Common.{◌≡◌, ℕ, ◌+◌, ◌<◌, ◌≤◌, ◌==◌, ◌&&◌, Bool, true, false, cond, T, List, [], ◌∷◌, Option, Some, None, IfSome, is_some, refl, sym, ap, subst, ◌∙◌}
+use Rattle.std.specs.FinMap.Entries.{is_sorted}
 use Rattle.std.specs.Prelude.{Ok, Err, Result, slice_index}
 use Rattle.std.specs.Result.{result_ok}
 use Rattle.std.proofs.lemmas.Bool.{false≢true}
-use Rattle.av_base.specs.Keys.{Key}
+use Rattle.av_base.specs.Keys.{Key, key_cmp}
 use Rattle.av_base.specs.Page.{address_of, page_of, page_size}
 use Rattle.av_base.specs.declared.slot.Slot.{Slot}
 use Rattle.av_io.specs.Count.{Rose}
@@ -16,20 +17,26 @@ use Rattle.av_plain.specs.Areas.{Rmap, rmap_after_note}
 use Rattle.av_plain.specs.Choice.{ListsFree}
 use Rattle.av_plain.specs.Device.{Device, IsSameDevice, as_told, Calls, Wrote, device_by}
 use Rattle.av_plain.specs.Event.{Noted, after_note}
-use Rattle.av_plain.specs.Ledger.{Ledger, is_free, slot_count, slot_entries}
+use Rattle.av_plain.specs.Ledger.{InSlot, Ledger, entry, is_free, slot_count, slot_entries}
 use Rattle.av_plain.specs.Stands.{View}
-use Rattle.av_plain.specs.World.{World}
+use Rattle.av_plain.specs.World.{World, is_locked_page, pages}
+use Rattle.av_plain.proofs.Ledger.NoSwap.{key_at-address}
 use Rattle.av_swap_laws.specs.Held.{Steps}
+use Rattle.av_swap_laws.specs.Locks.{AreLocks, lock_count}
 use Rattle.av_swap_laws.specs.Steps.{view_map}
 use Rattle.av_swap_laws.proofs.From.{first-is}
+use Rattle.av_swap_laws.proofs.Locks.{locks-mapped}
 use Rattle.av_swap_laws.proofs.Parts.{named-slot}
 use Rattle.av_evict.specs.System.{Knows, Makes, Tells, any_slot}
 use Rattle.av_mem.specs.Cache.{HasLoaded, Loads, home_by}
-use Rattle.av_mem.specs.Mem.{Serves, held_by, setting_by, view}
-use Rattle.av_mem.specs.Steps.{KeepsParts}
+use Rattle.av_mem.specs.Locked.{locks_more}
+use Rattle.av_mem.specs.Mem.{Serves, held_by, locks_of, setting_by, view}
+use Rattle.av_mem.specs.Steps.{KeepsBut, KeepsParts}
 use Rattle.av_mem.specs.declared.mem.Mem.{Mem}
 use Rattle.av_mem.proofs.ComingBack.{back-at, back-loaded, back-mapped, back-used, got-told, seen-loaded, seen-mapped, seen-same, told-still}
 use Rattle.av_mem.proofs.KeepsLaws.{serves-whenever}
+use Rattle.av_mem.proofs.LocksCome.{locks-come}
+use Rattle.av_mem.proofs.ServesLaws.{locks-stay}
 use Rattle.av_reclaim.specs.Driver.{closing_of, view_of}
 use Rattle.av_reclaim.proofs.FinishMakes.{none-moved}
 use Rattle.av_reclaim.proofs.OneNote.{one-happened, one-still, world_with}
@@ -47,8 +54,16 @@ counts-as d closing k w r l s h = (λ i. counted (h.held.ledger.swap.counts s i)
 
 -- ---- an entry names the frame
 
+-- which counts, where its page is locked
+map-locks : (d : Device) (closing : Option ℕ) (k : Mem) (w : World) (r : Rmap) (l : Ledger) (q : Key) (s : Slot) (f : ℕ)
+    → T (is_sorted key_cmp l.entries) → Serves d closing k w r l → entry l q ≡ Some (InSlot s)
+    → AreLocks (locks_more k q f (locks_of k)) w (after_note (Mapped q.0 (address_of q.1) f) l)
+map-locks d closing k w r l q s f sorted h named = locks-come k w l h.areas h.locks q f (after_note (Mapped q.0 (address_of q.1) f) l)
+    (λ g. locks-mapped w q.0 (address_of q.1) f l s g sorted (ap (entry l) (key_at-address q) ∙ named)
+    ∙ ap (λ (k : Key). lock_count w l g + cond (is_locked_page (pages w k.0 k.1) && g == f) 1 0) (key_at-address q))
+
 pub map-makes : (names : List ℕ) (d : Device) (old new : Mem) (q : Key) (s : Slot) (f : ℕ) → view new ≡ view_map q.0 q.1 f s (view old)
-    → KeepsParts old new → Makes (view_of names d old) (view_of names d new) (MayMap s f q) (Mapped q.0 (address_of q.1) f ∷ [])
+    → KeepsBut (locks_more old q f (locks_of old)) old new → Makes (view_of names d old) (view_of names d new) (MayMap s f q) (Mapped q.0 (address_of q.1) f ∷ [])
 map-makes names d old new q s f is parts = λ l sound stood may.
     one-still names d d old new l (Mapped q.0 (address_of q.1) f)
     (record { sound = sound; world = stood.0; rmap = stood.1; serves = stood.2 }) (record {
@@ -58,6 +73,7 @@ map-makes names d old new q s f is parts = λ l sound stood may.
       brings = λ w r c. c.at_pages q.0 (page_of (address_of q.1))
           (ap is_some (back-at d (closing_of old) old w r l any_slot sound c q s may.named f may.cached));
       still = tt;
+      locks = λ w r c. map-locks d (closing_of old) old w r l q s f sound.in_order c may.named;
       failures = stands-still d.failures;
       wrote = wrote-none d.history;
     }) (λ w. same-world (is_some (setting_by d old).headers) w) (λ w r h. by-view d d old new l (Mapped q.0 (address_of q.1) f)
@@ -92,6 +108,7 @@ loaded-makes names d old new q s f home homed pages at is load got parts = λ l 
       lawful = (named-slot l q s may.named, tt);
       brings = λ w r c. tt;
       still = tt;
+      locks = λ w r c. locks-stay old new w l (Loaded s f) parts refl c.locks;
       failures = stands-still d.failures;
       wrote = wrote-none d.history;
     }) (λ w r h. subst (λ (v : View). Steps (setting_by d old) (closing_of old) (Noted (Loaded s f)) (held_by d old w r l) (record {

@@ -44,6 +44,7 @@ module _ (k : Mem) (swap : SwapStore) (c : Option ℕ) (same : shown_swap swap �
       → Serves d c (with_swap k swap) w r l
   serves-closing d before w r l h = record {
     held = subst (λ (v : View). IsHeld (setting_by d k) (record { view = v; device = d; world = w; ledger = l; rmap = r })) (sym view-closing) h.held;
+    locks = h.locks;
     areas = subst (λ (v : View). AreasStand v w) (sym view-closing) h.areas;
     are = subst (λ (v : View). AreasAre v r.areas) (sym view-closing) h.are;
     anons = subst (λ (v : View). AnonsStand v r.areas r.anons) (sym view-closing) h.anons;
@@ -129,6 +130,7 @@ module _ (d : Device) (k : Mem) (swap : SwapStore) (area : ℕ) (same : shown_sw
       → Serves d None (with_swap k swap) w r (after l (TurnedOff area))
   serves-off sorted none = record {
     held = step-off.held;
+    locks = h.locks;
     areas = step-off.areas h.areas;
     are = h.are;
     anons = record { next = h.anons.next; kin = h.anons.kin; chains = h.anons.chains };

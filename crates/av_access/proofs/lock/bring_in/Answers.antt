@@ -1,5 +1,5 @@
 -- Each page that is served, or passed over, came in; one that stops ends it.
-use Rattle.std.proofs.Common.{◌≡◌, ◌+◌, ◌-◌, ◌<◌, ◌≤◌, Some, refl, sym, subst, ap, ◌∙◌, arith}
+use Rattle.std.proofs.Common.{◌+◌, ◌<◌, refl, sym, subst, ◌∙◌, arith}
 use Rattle.av_step.specs.Step.{IsSteadyFor}
 use Rattle.av_plain.proofs.Wrote.{device-itself, device-on}
 use Rattle.av_access.proofs.AccessParts.{none_left}

@@ -2,10 +2,24 @@ use Rattle.std.proofs.Common.{false, true, ap, sym, ◌∙◌}
 use Rattle.av_evict.specs.Standing.{gets_turn}
 use Rattle.av_evict.specs.System.{spares}
 use Rattle.av_evict.specs.Turn.{IsTurn, IsTurnIfAny, MayTurn, MayTurnNow}
-use Rattle.av_evict.proofs.StandingLaws.{standing-turn, standing-unlocked}
+use Rattle.av_evict.proofs.StandingLaws.{locked-no_turn, standing-turn, standing-unlocked}
 use Rattle.av_evict.proofs.SystemLaws.{gives-as, gives-none, loose}
 use Rattle.av_evict.proofs.TurnLaws.{no-turn, stuck-turn, turn-if_any, turn-now}
 use Rattle.av_evict.proofs.turn.turn_if_any.Goals as goal
+
+pub is_locked-requires-clause-in_range : goal.is_locked-requires-clause-in_range
+is_locked-requires-clause-in_range g c = let at = c.requires in at.1.in_range c.args.frame at.3.used
+
+pub is_locked-requires-clause-stands : goal.is_locked-requires-clause-stands
+is_locked-requires-clause-stands g c = let at = c.requires in (at.0, loose _ _ at.0 at.1, at.2, tt)
+
+pub returns-then-is_locked-clause-gives : goal.returns-then-is_locked-clause-gives
+returns-then-is_locked-clause-gives g c = λ told.
+    let k = g.S.System.view c.args.system.now told in
+    let f = c.args.frame in
+    let sp = spares k c.args.pinned in
+    gives-none _ c.args.notes.now (MayTurn f) (IsTurnIfAny k.setting sp f false)
+    (λ l sound stands may. no-turn k.setting sp l f (locked-no_turn sp l f (sym (c.is_locked.ensures told) ∙ c.if-is_locked.true)))
 
 pub is_stuck-requires : goal.is_stuck-requires
 is_stuck-requires g c = let at = c.requires in at.1.in_range c.args.frame at.3.used

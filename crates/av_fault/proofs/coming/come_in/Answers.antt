@@ -28,6 +28,11 @@ map-requires-clause-few g c =
     (to-map _ _ c.args.mem.now c.fetch.new.mem c.args.key c.args.slot c.args.notes.now c.fetch.new.notes c.in-Ok.frame c.in_ok-frame.field-0
     c.requires.between c.requires.away c.in_ok-frame.ensures.fetched c.in-Ok.is).few
 
+pub map-requires-clause-locks : goal.map-requires-clause-locks
+map-requires-clause-locks g c =
+    (to-map _ _ c.args.mem.now c.fetch.new.mem c.args.key c.args.slot c.args.notes.now c.fetch.new.notes c.in-Ok.frame c.in_ok-frame.field-0
+    c.requires.between c.requires.away c.in_ok-frame.ensures.fetched c.in-Ok.is).locks
+
 pub returns-in_ok-push-in-Ok-clause-come : goal.returns-in_ok-push-in-Ok-clause-come
 returns-in_ok-push-in-Ok-clause-come g c = λ told w r l h.
     come-mapped _ _ c.args.mem.now c.fetch.new.mem w r l c.args.key c.args.slot c.args.notes.now c.fetch.new.notes h c.requires.away c.in-Ok.frame

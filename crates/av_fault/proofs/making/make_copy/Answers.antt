@@ -4,7 +4,8 @@ use Rattle.av_plain.specs.Fault.{CopyOnWrite}
 use Rattle.av_fault.specs.Seek.{HasSought}
 use Rattle.av_fault.specs.declared.seek.Got.TheVariants.{Frame, Out}
 use Rattle.av_mem.proofs.Between.{between-some}
-use Rattle.av_fault.proofs.CopyLaws.{copy-made, copy-mapped, copy-names, copy-needs}
+use Rattle.av_mem.proofs.LockedLaws.{locks-are-few}
+use Rattle.av_fault.proofs.CopyLaws.{copy-locked, copy-made, copy-mapped, copy-names, copy-needs}
 use Rattle.av_fault.proofs.SharedLaws.{shared-in}
 use Rattle.av_fault.proofs.SoughtLaws.{free-sought}
 use Rattle.av_fault.proofs.TakenLaws.{out-made}
@@ -80,6 +81,26 @@ take_frame_for_copy-frame-requires-clause-mapped g c =
     (c.in_ok-out.ensures.sought false b.0 b.1 b.2 b.3) in
     let shared = sym (shared-in d old b.0 b.1 b.2 b.3 f) ∙ c.requires.shared in
     copy-mapped d d' old c.seek.new.mem b.0 b.1 b.2 c.args.notes.now c.seek.new.notes c.args.key f Frame b.3 s false c.requires.here shared
+
+pub take_frame_for_copy-frame-requires-clause-few : goal.take_frame_for_copy-frame-requires-clause-few
+take_frame_for_copy-frame-requires-clause-few g c =
+    let b = between-some (g.D.SwapDev.sizes c.args.dev.now) c.args.mem.now
+    (g.D.SwapDev.failures c.args.dev.now, g.D.SwapDev.history c.args.dev.now) c.requires.between in
+    locks-are-few _ None c.seek.new.mem _ _ _ (c.in_ok-out.ensures.sought false b.0 b.1 b.2 b.3).done.between.serves
+
+pub take_frame_for_copy-frame-requires-clause-locked : goal.take_frame_for_copy-frame-requires-clause-locked
+take_frame_for_copy-frame-requires-clause-locked g c =
+    let sizes = g.D.SwapDev.sizes c.args.dev.now in
+    let calls : Calls = (g.D.SwapDev.failures c.args.dev.now, g.D.SwapDev.history c.args.dev.now) in
+    let old = c.args.mem.now in
+    let d = device_by sizes None calls in
+    let d' = device_by (g.D.SwapDev.sizes c.seek.new.dev) None (g.D.SwapDev.failures c.seek.new.dev, g.D.SwapDev.history c.seek.new.dev) in
+    let b = between-some sizes old calls c.requires.between in
+    let f = c.args.from in
+    let s = subst (HasSought d d' old c.seek.new.mem b.0 b.1 b.2 (Some c.args.from) c.args.notes.now c.seek.new.notes) c.in_default.is
+    (c.in_ok-out.ensures.sought false b.0 b.1 b.2 b.3) in
+    let shared = sym (shared-in d old b.0 b.1 b.2 b.3 f) ∙ c.requires.shared in
+    copy-locked d d' old c.seek.new.mem b.0 b.1 b.2 c.args.notes.now c.seek.new.notes c.args.key f Frame b.3 s false c.requires.here shared
 
 pub returns-clause-made : goal.returns-clause-made
 returns-clause-made g c = λ told w r l h came.

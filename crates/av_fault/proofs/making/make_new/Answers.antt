@@ -6,6 +6,7 @@ use Rattle.av_pagetable.specs.Entries.{entry_at}
 use Rattle.av_fault.specs.Seek.{HasSought}
 use Rattle.av_fault.specs.declared.seek.Got.TheVariants.{Frame}
 use Rattle.av_mem.proofs.Between.{between-some}
+use Rattle.av_mem.proofs.LockedLaws.{locks-are-few}
 use Rattle.av_fault.proofs.EntryLaws.{entry-is}
 use Rattle.av_fault.proofs.NewLaws.{bare-blank, blank-needs, free-taken, new-made}
 use Rattle.av_fault.proofs.SoughtLaws.{lives-sought, mapped-sought}
@@ -71,6 +72,12 @@ take_frame_of_zeros-requires-clause-free g c =
     (c.in_ok-out.ensures.sought false b.0 b.1 b.2 b.3) in
     free-taken d d' old c.seek.new.mem c.seek.new.mem b.0 b.1 b.2 c.args.notes.now c.seek.new.notes c.seek.new.notes c.args.key 0 b.3 s
     c.requires.mapped c.requires.bare c.prepare.new.self c.prepare.new.anons c.in_ok-home.ensures.areas c.in_ok-home.ensures.anons
+
+pub take_frame_of_zeros-requires-clause-few : goal.take_frame_of_zeros-requires-clause-few
+take_frame_of_zeros-requires-clause-few g c =
+    let b = between-some (g.D.SwapDev.sizes c.args.dev.now) c.args.mem.now
+    (g.D.SwapDev.failures c.args.dev.now, g.D.SwapDev.history c.args.dev.now) c.requires.between in
+    locks-are-few _ None c.seek.new.mem _ _ _ (c.in_ok-out.ensures.sought false b.0 b.1 b.2 b.3).done.between.serves
 
 pub returns-clause-made : goal.returns-clause-made
 returns-clause-made g c = λ told w r l h.

@@ -4,10 +4,11 @@ use Rattle.av_pagetable.specs.Entries.{entry_at, with_entry}
 use Rattle.av_mem.specs.Entries.{view_settled}
 use Rattle.av_mem.specs.Mem.{view}
 use Rattle.av_mem.specs.declared.mem.Mem.{Mem}
+use Rattle.av_mem.proofs.EntryComes.{parts-with}
 use Rattle.av_mem.proofs.StayLaws.{parts-then}
 use Rattle.av_ksm.specs.Join.{view_joined}
 use Rattle.av_ksm.specs.Joining.{item_by}
-use Rattle.av_ksm.proofs.JoiningViews.{joined-settles, joining-view, other-frame, room-still, with-frames, with-tables}
+use Rattle.av_ksm.proofs.JoiningViews.{joined-settles, joining-view, other-frame, room-still}
 use Rattle.av_ksm.proofs.StepDone.{join-done-at}
 use Rattle.av_ksm.proofs.joining.join.Goals as goal
 
@@ -34,8 +35,9 @@ returns-clause-done c = λ d w r l seen h own merged same home.
     let mid : Mem = c.add_item.new.mem in
     join-done-at d old c.settle.new.mem w r l h
     (parts-then c.in_ok-add_item.ensures.parts
-    (parts-then (with-tables mid c.change.new.self c.change.ensures.processes)
-    (parts-then (with-frames (record mid { tables = c.change.new.self }) c.map_up.new.self
-    (ap (λ (s : Shown). s.count) c.map_up.ensures ∙ ap (λ (s : Shown). s.count) c.map_down.ensures)) c.settle.ensures.rest.parts)))
-    c.args.key.0 c.args.frame c.args.own seen merged same c.args.key.1 own
+    (parts-then (parts-with mid _ c.change.new.self refl refl c.change.ensures.processes)
+    (parts-then (parts-with (record mid { tables = c.change.new.self }) c.map_up.new.self _
+    (ap (λ (s : Shown). s.count) c.map_up.ensures ∙ ap (λ (s : Shown). s.count) c.map_down.ensures)
+    (ap (λ (s : Shown). s.locks) c.map_up.ensures ∙ ap (λ (s : Shown). s.locks) c.map_down.ensures) refl) c.settle.ensures.rest.parts)))
+    c.args.key.0 c.args.frame c.args.own seen merged same c.requires.unlocked c.args.key.1 own
     (returns-clause-joined c ∙ ap (λ x. view_joined c.args.key.0 c.args.key.1 c.args.frame c.args.own (item_by old x) (view old)) home)

@@ -1,12 +1,13 @@
-use Rattle.std.proofs.Common.{ap, ◌∙◌}
+use Rattle.std.proofs.Common.{ap, refl, ◌∙◌}
 use Rattle.av_frames.specs.Store.{Shown}
 use Rattle.av_pagetable.specs.Entries.{entry_at}
 use Rattle.av_mem.specs.Mem.{view}
 use Rattle.av_mem.specs.declared.mem.Mem.{Mem}
+use Rattle.av_mem.proofs.EntryComes.{parts-with}
 use Rattle.av_mem.proofs.StayLaws.{parts-then}
 use Rattle.av_ksm.specs.Join.{view_with_item}
 use Rattle.av_ksm.specs.Joining.{item_by}
-use Rattle.av_ksm.proofs.JoiningViews.{share-view, with-frames}
+use Rattle.av_ksm.proofs.JoiningViews.{share-view}
 use Rattle.av_ksm.proofs.StepDone.{share-done}
 use Rattle.av_ksm.proofs.joining.share.Goals as goal
 
@@ -30,5 +31,6 @@ returns-clause-shared c =
 pub returns-clause-done : goal.returns-clause-done
 returns-clause-done c = λ d w r l seen h own. share-done d c.args.mem.now c.protect.new.mem w r l h
     (parts-then c.in_ok-add_item.ensures.parts
-    (parts-then (with-frames c.add_item.new.mem c.set_home.new.self (ap (λ (s : Shown). s.count) c.set_home.ensures)) c.protect.ensures.parts))
+    (parts-then (parts-with c.add_item.new.mem c.set_home.new.self _ (ap (λ (s : Shown). s.count) c.set_home.ensures)
+    (ap (λ (s : Shown). s.locks) c.set_home.ensures) refl) c.protect.ensures.parts))
     c.args.key c.args.frame seen own (returns-clause-shared c)

@@ -10,12 +10,12 @@ use Rattle.av_ksm.proofs.MergingViews.{on-ok}
 use Rattle.av_ksm.proofs.merging.join_like.Goals as goal
 
 pub make_merged-requires : goal.make_merged-requires
-make_merged-requires c = let q = c.requires in
+make_merged-requires c = let q = c.requires.stands in
     record { device = q.device; world = q.world; rmap = q.rmap; ledger = q.ledger; between = q.between; is = q.is.1 }
 
-pub join_merged-requires : goal.join_merged-requires
-join_merged-requires c =
-    let q = c.requires in
+pub join_merged-requires-clause-stands : goal.join_merged-requires-clause-stands
+join_merged-requires-clause-stands c =
+    let q = c.requires.stands in
     let xs = share_notes q.ledger c.args.frame in
     record {
       device = q.device;
@@ -27,6 +27,9 @@ join_merged-requires c =
           (share-still q.device c.args.mem.now q.world q.ledger c.args.frame);
       is = (share-other q.ledger c.args.key c.args.own c.args.frame q.is.0, share-merged q.ledger c.args.frame);
     }
+
+pub join_merged-requires-clause-unlocked : goal.join_merged-requires-clause-unlocked
+join_merged-requires-clause-unlocked c = ap (λ (locks : ℕ → ℕ). locks c.args.own) c.make_merged.ensures.parts.locks ∙ c.requires.unlocked
 
 pub returns-clause-joins : goal.returns-clause-joins
 returns-clause-joins c = on-ok c.join_merged.result (λ joins d w r l h has ready same.

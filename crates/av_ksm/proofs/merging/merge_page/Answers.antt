@@ -1,10 +1,11 @@
 use Rattle.std.proofs.Common.{ap, sym, ◌∙◌}
 use Rattle.std.specs.Prelude.{is_some}
-use Rattle.av_mem.specs.Mem.{frame_count}
+use Rattle.av_mem.specs.Mem.{frame_count, locks_of}
+use Rattle.av_ksm.proofs.CandidateLaws.{unlocked-count}
 use Rattle.av_ksm.proofs.ContentsLaws.{found-below}
 use Rattle.av_ksm.proofs.JoiningViews.{other-frame}
 use Rattle.av_ksm.proofs.MergingAsks.{own-below}
-use Rattle.av_ksm.proofs.MergingTurn.{candidate-own, turned-again, turned-joins, turned-new, turned-none, turned-other, turned-ready, turned-same}
+use Rattle.av_ksm.proofs.MergingTurn.{candidate-own, candidate-unlocked, turned-again, turned-joins, turned-new, turned-none, turned-other, turned-ready, turned-same}
 use Rattle.av_ksm.proofs.MergingViews.{on-ok-both}
 use Rattle.av_ksm.proofs.merging.merge_page.Goals as goal
 
@@ -38,8 +39,15 @@ returns-then-frame-own-clause-turn c = λ d w r l earlier h aware.
     (found-below (frame_count c.args.mem.now) c.in_ok-like.like c.in-Some-like.frame c.in-Some-like.page c.in-Some-like.is c.in_ok-like.ensures.in_range)
     c.find_or_add.new.self (c.in_ok-like.ensures.found (ap is_some c.in-Some-like.is) aware.known aware.kept) c.args.notes.now c.if-frame-own.true
 
-pub join_like-requires : goal.join_like-requires
-join_like-requires c =
+pub join_like-requires-clause-unlocked : goal.join_like-requires-clause-unlocked
+join_like-requires-clause-unlocked c =
+    let q = c.requires in
+    unlocked-count (locks_of c.args.mem.now) q.world q.ledger c.in-Some.own q.between.serves.locks
+    (candidate-unlocked q.world q.ledger c.args.key c.in-Some.own
+    (sym (c.candidate.ensures q.device q.world q.rmap q.ledger q.between) ∙ c.in-Some.is))
+
+pub join_like-requires-clause-stands : goal.join_like-requires-clause-stands
+join_like-requires-clause-stands c =
     let q = c.requires in
     let k = c.args.mem.now in
     let is = sym (c.candidate.ensures q.device q.world q.rmap q.ledger q.between) ∙ c.in-Some.is in

@@ -11,50 +11,50 @@ pub map_like-requires-clause-low : goal.map_like-requires-clause-low
 map_like-requires-clause-low c =
     let a = c.args in
     let s = c.requires.steady in
-    left_low s.0 a.mem.now s.1 s.2 a.process c.requires.lives c.move_range.new.self c.move_range.new.anons c.in_ok-move_range.ensures.anons
+    left_low a.mem.now s.0 s.1 a.process c.requires.lives c.move_range.new.self c.move_range.new.anons c.in_ok-move_range.ensures.anons
     a.from a.pages a.to a.new_pages (c.requires.moves c.if-to-from.false) c.in_ok-move_range.ensures.areas
 
 pub map_like-requires-clause-high : goal.map_like-requires-clause-high
 map_like-requires-clause-high c =
     let a = c.args in
     let s = c.requires.steady in
-    left_high s.0 a.mem.now s.1 s.2 a.process c.requires.lives c.move_range.new.self c.move_range.new.anons c.in_ok-move_range.ensures.anons
+    left_high a.mem.now s.0 s.1 a.process c.requires.lives c.move_range.new.self c.move_range.new.anons c.in_ok-move_range.ensures.anons
     a.from a.pages a.to a.new_pages (c.requires.moves c.if-to-from.false) c.in_ok-move_range.ensures.areas
 
 pub map_like-requires-clause-free : goal.map_like-requires-clause-free
 map_like-requires-clause-free c =
     let a = c.args in
     let s = c.requires.steady in
-    left_free s.0 a.mem.now s.1 s.2 a.process c.requires.lives c.move_range.new.self c.move_range.new.anons c.in_ok-move_range.ensures.anons
+    left_free a.mem.now s.0 s.1 a.process c.requires.lives c.move_range.new.self c.move_range.new.anons c.in_ok-move_range.ensures.anons
     a.from a.pages a.to a.new_pages (c.requires.moves c.if-to-from.false) c.in_ok-move_range.ensures.areas
 
 pub map_like-requires-clause-mapped : goal.map_like-requires-clause-mapped
 map_like-requires-clause-mapped c =
     let a = c.args in
     let s = c.requires.steady in
-    target_taken s.0 a.mem.now s.1 s.2 a.process c.requires.lives c.move_range.new.self c.move_range.new.anons c.in_ok-move_range.ensures.anons
+    target_taken a.mem.now s.0 s.1 a.process c.requires.lives c.move_range.new.self c.move_range.new.anons c.in_ok-move_range.ensures.anons
     a.from a.pages a.to a.new_pages (c.requires.moves c.if-to-from.false) c.in_ok-move_range.ensures.areas (c.requires.whole c.if-not-stays.false)
 
 pub returns-clause-remaps : goal.returns-clause-remaps
-returns-clause-remaps c = λ d s keeps.
+returns-clause-remaps c = λ s held.
     let a = c.args in
     ok_both c.map_like.result c.map_like.ensures.areas c.map_like.ensures.anons (λ areas stay.
     subst (λ (stays : Bool). HasRemap a.mem.now (record a.mem.now { spaces = c.map_like.new.self; anons = c.map_like.new.anons }) a.process
     (after_mremap (chain_length s.anons) a.process a.from a.pages a.to a.new_pages stays (s.areas a.process))) (sym c.if-not-stays.false)
-    (has_left_areas d a.mem.now s keeps a.process c.requires.lives c.move_range.new.self c.move_range.new.anons c.in_ok-move_range.ensures.anons
+    (has_left_areas a.mem.now s held a.process c.requires.lives c.move_range.new.self c.move_range.new.anons c.in_ok-move_range.ensures.anons
     a.from a.pages a.to a.new_pages (c.requires.moves c.if-to-from.false) c.in_ok-move_range.ensures.areas
     c.map_like.new.self c.map_like.new.anons stay (c.requires.whole c.if-not-stays.false) areas (differs a.to a.from c.if-to-from.false)))
 
 pub returns-then-not-stays-clause-remaps : goal.returns-then-not-stays-clause-remaps
-returns-then-not-stays-clause-remaps c = λ d s keeps.
+returns-then-not-stays-clause-remaps c = λ s held.
     let a = c.args in
     subst (λ (stays : Bool). HasRemap a.mem.now (record a.mem.now { spaces = c.move_range.new.self; anons = c.move_range.new.anons }) a.process
     (after_mremap (chain_length s.anons) a.process a.from a.pages a.to a.new_pages stays (s.areas a.process))) (sym c.if-not-stays.true)
-    (has_moved_areas d a.mem.now s keeps a.process c.requires.lives c.move_range.new.self c.move_range.new.anons c.in_ok-move_range.ensures.anons
+    (has_moved_areas a.mem.now s held a.process c.requires.lives c.move_range.new.self c.move_range.new.anons c.in_ok-move_range.ensures.anons
     a.from a.pages a.to a.new_pages (c.requires.moves c.if-to-from.false) c.in_ok-move_range.ensures.areas (differs a.to a.from c.if-to-from.false))
 
 pub returns-then-to-from-clause-remaps : goal.returns-then-to-from-clause-remaps
-returns-then-to-from-clause-remaps c = λ d s keeps.
+returns-then-to-from-clause-remaps c = λ s held.
     let a = c.args in
     on_ok c.resize_areas.result (stays_here a.mem.now c.resize_areas.new.mem s a.process a.from a.pages a.to a.new_pages a.stays c.if-to-from.true)
-    (c.resize_areas.ensures.resizes d s keeps)
+    (c.resize_areas.ensures.resizes s held)

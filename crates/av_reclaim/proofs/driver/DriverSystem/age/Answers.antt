@@ -1,7 +1,7 @@
 use Rattle.av_mem.proofs.ReachLaws.{are-found, reaches-served}
 use Rattle.av_mem.proofs.StayLaws.{parts-then}
 use Rattle.av_mem.proofs.WalkLaws.{are-counted}
-use Rattle.av_reclaim.proofs.LeavesMakes.{age-left, mem-leaves}
+use Rattle.av_reclaim.proofs.LeavesMakes.{mem-leaves}
 use Rattle.av_reclaim.proofs.SeenMakes.{aged-makes}
 use Rattle.av_reclaim.proofs.driver.DriverSystem.age.Goals as goal
 
@@ -16,6 +16,4 @@ returns-clause-makes g c = λ told. aged-makes _ _ _ _ _ c.args.frame c.unsee.en
     c.to_head.ensures.moved c.to_head.ensures.parts
 
 pub returns-clause-stays : goal.returns-clause-stays
-returns-clause-stays g c = λ told. mem-leaves _ _ _ _ _ _ (parts-then c.unsee.ensures.parts c.to_head.ensures.parts) c.requires
-    (aged-makes _ _ _ _ _ c.args.frame c.unsee.ensures.unseen c.unsee.ensures.parts c.to_head.ensures.moved c.to_head.ensures.parts)
-    (age-left _ _ c.args.frame) _
+returns-clause-stays g c = λ told. mem-leaves _ _ _ _ (parts-then c.unsee.ensures.parts c.to_head.ensures.parts)

@@ -1,4 +1,4 @@
-use Rattle.av_reclaim.proofs.LeavesMakes.{drop-left, mem-leaves}
+use Rattle.av_reclaim.proofs.LeavesMakes.{mem-leaves}
 use Rattle.av_reclaim.proofs.StepMakes.{cached-below, drop-makes, found-there, in-use}
 use Rattle.av_reclaim.proofs.driver.DriverSystem.drop_slot.Goals as goal
 
@@ -15,5 +15,4 @@ pub returns-clause-makes : goal.returns-clause-makes
 returns-clause-makes g c = λ told. drop-makes _ _ _ _ c.args.frame c.args.slot c.drop_slot.ensures.dropped c.drop_slot.ensures.parts
 
 pub returns-clause-stays : goal.returns-clause-stays
-returns-clause-stays g c = λ told. mem-leaves _ _ _ _ _ _ c.drop_slot.ensures.parts c.requires
-    (drop-makes _ _ _ _ c.args.frame c.args.slot c.drop_slot.ensures.dropped c.drop_slot.ensures.parts) (drop-left _ _ c.args.slot) _
+returns-clause-stays g c = λ told. mem-leaves _ _ _ _ c.drop_slot.ensures.parts

@@ -45,8 +45,8 @@ returns-in_err-finished-clause-stays g c =
     let dev' = c.finish.new.dev in
     let d = seen_by g.D.SwapDev.sizes g.D.SwapDev.pages g.D.SwapDev.failures g.D.SwapDev.history dev in
     let d' = seen_by g.D.SwapDev.sizes g.D.SwapDev.pages g.D.SwapDev.failures g.D.SwapDev.history dev' in
-    finish-leaves _ d d' c.args.self.now.mem.now c.finish.new.self None _ c.from_residual.ensures c.in_err-finished.ensures.same_sizes
-    c.in_err-finished.ensures.never_falls c.in_err-finished.ensures.parts c.in_err-finished.ensures.ends c.requires
+    finish-leaves _ d d' c.args.self.now.mem.now c.finish.new.self None c.in_err-finished.ensures.same_sizes
+    c.in_err-finished.ensures.never_falls c.in_err-finished.ensures.parts c.in_err-finished.ensures.ends
 
 pub returns-clause-stays : goal.returns-clause-stays
 returns-clause-stays g c =
@@ -54,5 +54,5 @@ returns-clause-stays g c =
     let dev' = c.finish.new.dev in
     let d = seen_by g.D.SwapDev.sizes g.D.SwapDev.pages g.D.SwapDev.failures g.D.SwapDev.history dev in
     let d' = seen_by g.D.SwapDev.sizes g.D.SwapDev.pages g.D.SwapDev.failures g.D.SwapDev.history dev' in
-    finish-leaves _ d d' c.args.self.now.mem.now c.finish.new.self (Some c.in_ok-finished.finished) _ (ap (λ e. Some e) c.end_of.ensures)
-    c.in_ok-finished.ensures.same_sizes c.in_ok-finished.ensures.never_falls c.in_ok-finished.ensures.parts c.in_ok-finished.ensures.ends c.requires
+    finish-leaves _ d d' c.args.self.now.mem.now c.finish.new.self (Some c.in_ok-finished.finished)
+    c.in_ok-finished.ensures.same_sizes c.in_ok-finished.ensures.never_falls c.in_ok-finished.ensures.parts c.in_ok-finished.ensures.ends

@@ -4,7 +4,7 @@ use Rattle.av_mem.proofs.StayLaws.{parts-then}
 use Rattle.av_mem.proofs.WalkLaws.{are-counted}
 use Rattle.av_reclaim.proofs.ReadLaws.{seen-is}
 use Rattle.av_reclaim.proofs.SeenMakes.{seen-makes, unseen-makes}
-use Rattle.av_reclaim.proofs.LeavesMakes.{mem-leaves, referenced-left}
+use Rattle.av_reclaim.proofs.LeavesMakes.{mem-leaves}
 use Rattle.av_reclaim.proofs.driver.DriverSystem.keep_referenced.Goals as goal
 
 pub unsee-seen-requires-clause-found : goal.unsee-seen-requires-clause-found
@@ -21,10 +21,7 @@ returns-then-seen-clause-makes g c = λ told. seen-makes _ _ c.args.self.now.mem
     c.unsee-seen.ensures.unseen c.unsee-seen.ensures.parts c.to_active.new.self c.if-seen.true c.to_active.ensures.moved c.to_active.ensures.parts
 
 pub returns-then-seen-clause-stays : goal.returns-then-seen-clause-stays
-returns-then-seen-clause-stays g c = λ told. mem-leaves _ _ _ _ _ _ (parts-then c.unsee-seen.ensures.parts c.to_active.ensures.parts) c.requires
-    (seen-makes _ _ c.args.self.now.mem.now c.unsee-seen.new.self c.args.frame c.unsee-seen.result
-    c.unsee-seen.ensures.unseen c.unsee-seen.ensures.parts c.to_active.new.self c.if-seen.true c.to_active.ensures.moved c.to_active.ensures.parts)
-    (referenced-left _ _ c.args.frame c.unsee-seen.result) _
+returns-then-seen-clause-stays g c = λ told. mem-leaves _ _ _ _ (parts-then c.unsee-seen.ensures.parts c.to_active.ensures.parts)
 
 pub returns-else-seen-clause-is : goal.returns-else-seen-clause-is
 returns-else-seen-clause-is g c = λ told l sound stood. seen-is _ _ _ _ _ l c.args.frame sound.in_order stood.2 _ c.unsee-seen.ensures.seen
@@ -34,7 +31,4 @@ returns-else-seen-clause-makes g c = λ told. unseen-makes _ _ c.args.self.now.m
     c.unsee-seen.ensures.unseen c.unsee-seen.ensures.parts c.if-seen.false (MatchBool-at_false _ _ c.if-seen.false c.unsee-seen.ensures.seen)
 
 pub returns-else-seen-clause-stays : goal.returns-else-seen-clause-stays
-returns-else-seen-clause-stays g c = λ told. mem-leaves _ _ _ _ _ _ c.unsee-seen.ensures.parts c.requires
-    (unseen-makes _ _ c.args.self.now.mem.now c.unsee-seen.new.self c.args.frame c.unsee-seen.result
-    c.unsee-seen.ensures.unseen c.unsee-seen.ensures.parts c.if-seen.false (MatchBool-at_false _ _ c.if-seen.false c.unsee-seen.ensures.seen))
-    (referenced-left _ _ c.args.frame c.unsee-seen.result) _
+returns-else-seen-clause-stays g c = λ told. mem-leaves _ _ _ _ c.unsee-seen.ensures.parts

@@ -1,7 +1,7 @@
 use Rattle.std.proofs.Common.{[]}
 use Rattle.av_plain.specs.Device.{as_told, seen_by}
 use Rattle.av_reclaim.proofs.PutMakes.{put-makes, put-slot}
-use Rattle.av_reclaim.proofs.LeavesMakes.{mem-leaves, put-left}
+use Rattle.av_reclaim.proofs.LeavesMakes.{mem-leaves}
 use Rattle.av_reclaim.proofs.StepMakes.{put-uncached}
 use Rattle.av_reclaim.proofs.driver.DriverSystem.put.Goals as goal
 
@@ -18,6 +18,4 @@ pub returns-clause-puts : goal.returns-clause-puts
 returns-clause-puts g c = λ told. put-makes _ _ c.args.self.now.mem.now c.put.new.self c.args.frame c.put.result c.put.ensures.put c.put.ensures.parts
 
 pub returns-clause-stays : goal.returns-clause-stays
-returns-clause-stays g c = λ told. mem-leaves _ _ _ _ _ _ c.put.ensures.parts c.requires
-    (put-makes _ _ c.args.self.now.mem.now c.put.new.self c.args.frame c.put.result c.put.ensures.put c.put.ensures.parts)
-    (put-left _ _ c.args.frame c.put.result) _
+returns-clause-stays g c = λ told. mem-leaves _ _ _ _ c.put.ensures.parts

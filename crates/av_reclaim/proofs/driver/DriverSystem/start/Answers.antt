@@ -1,4 +1,4 @@
-use Rattle.av_reclaim.proofs.LeavesMakes.{mem-leaves, start-left}
+use Rattle.av_reclaim.proofs.LeavesMakes.{mem-leaves}
 use Rattle.av_reclaim.proofs.StepMakes.{found-there, start-makes}
 use Rattle.av_reclaim.proofs.driver.DriverSystem.start.Goals as goal
 
@@ -9,5 +9,4 @@ pub returns-clause-makes : goal.returns-clause-makes
 returns-clause-makes g c = λ told. start-makes _ _ _ _ c.args.frame c.args.slot c.start.ensures.started c.start.ensures.parts
 
 pub returns-clause-stays : goal.returns-clause-stays
-returns-clause-stays g c = λ told. mem-leaves _ _ _ _ _ _ c.start.ensures.parts c.requires
-    (start-makes _ _ _ _ c.args.frame c.args.slot c.start.ensures.started c.start.ensures.parts) (start-left _ _ c.args.slot) _
+returns-clause-stays g c = λ told. mem-leaves _ _ _ _ c.start.ensures.parts

@@ -1,7 +1,7 @@
 use Rattle.std.proofs.Common.{ap, is_some}
 use Rattle.av_mem.proofs.ReachLaws.{are-reached, reaches-served}
 use Rattle.av_mem.proofs.WalkLaws.{are-counted, on_ok}
-use Rattle.av_reclaim.proofs.LeavesMakes.{unmap-leaves}
+use Rattle.av_reclaim.proofs.LeavesMakes.{mem-leaves}
 use Rattle.av_reclaim.proofs.StepMakes.{found-there, names-few, no-items, unmap-makes}
 use Rattle.av_reclaim.proofs.driver.DriverSystem.unmap.Goals as goal
 
@@ -20,8 +20,7 @@ unmap-requires-clause-few g c = names-few _ _ _ _ _ _ c.args.frame c.args.slot c
 
 pub returns-clause-makes : goal.returns-clause-makes
 returns-clause-makes g c = on_ok c.unmap.result
-    (λ is told. unmap-makes _ _ _ _ c.args.frame c.args.slot is c.unmap.ensures.parts) c.unmap.ensures.unmapped
+    (λ is told. unmap-makes _ _ _ _ c.args.frame c.args.slot is c.unmap.ensures.parts c.requires.unlocked) c.unmap.ensures.unmapped
 
 pub returns-clause-stays : goal.returns-clause-stays
-returns-clause-stays g c = λ told. unmap-leaves _ _ _ _ c.args.frame c.args.slot c.unmap.result c.unmap.ensures.unmapped c.unmap.ensures.none
-    c.unmap.ensures.parts c.requires.may c.requires.unlocked _
+returns-clause-stays g c = λ told. mem-leaves _ _ _ _ c.unmap.ensures.parts
